@@ -1,0 +1,125 @@
+-- EDNS records and options at the limits of document 01's rules, one row each, and one theorem over each table. Assumes nothing.
+use mathlib.Core.Path.{_≡_, refl}
+use mathlib.Core.Bool.{Bool, true, false}
+use mathlib.Core.List.{List, [], _∷_, _++_, map}
+use Prim.Native.Nat.{ℕ}
+use Prim.Native.String.{String}
+use lib.ListN.{length, replicate}
+use Rattle.octets.specs.Lists.{hexed, lookup, key?}
+use Rattle.octets.specs.Fields.{two}
+use Rattle.names.specs.Name.{nameForm}
+use Rattle.names.specs.Walk.{walk, nameFrom}
+use Rattle.records.specs.Layout.{layouts, layoutOf, pieces, rdataAt}
+use Rattle.records.specs.Message.{questionForm, recordForm, forms, headerForm, form}
+use Rattle.records.specs.Read.{unfit, questionAt, recordAt, sectionAt, sectionFrom}
+use Rattle.records.specs.Decode.{headerOf, sectionsOf, messageOf, Decoded, accepted, refused, decode}
+use Rattle.json.specs.Spelling.{printable?}
+use Rattle.json.specs.Options.{rows, formOf, words, shape, Member, known, other, memberOf}
+use Rattle.json.specs.View.{rising?, divided, optionsOf, rcodes, ednsOf, Additional, ordinary, edns, additionalOf, viewOf}
+
+-- ---- the EDNS element's conditions, one broken at a time
+-- which entries of the additional section are EDNS elements
+abbrev pub element? : Additional → Bool
+element? (ordinary r) = false
+element? (edns e) = true
+
+abbrev pub elements : Decoded → List Bool
+elements (accepted m) = map element? (viewOf m .additional)
+elements (refused number place) = []
+
+-- a header with this RCODE, so many answers and so many additional records
+abbrev pub extended : ℕ → ℕ → ℕ → List ℕ
+extended rcode count additional = hexed "0000" ++ two rcode ++ hexed "0000" ++ two count ++ hexed "0000" ++ two additional
+
+-- a TYPE 41 record: owner, TTL, options
+abbrev pub opt : String → String → String → List ℕ
+opt owner ttl options = hexed owner ++ hexed "002904D0" ++ hexed ttl ++ two (length (hexed options)) ++ hexed options
+
+pub record Condition : Type 0 where
+  pub message : List ℕ
+  pub shows : List Bool
+
+unfoldable pub conditions : List Condition
+conditions =
+    -- no options; codes rising, equal, falling; an octet too many
+    record { message = extended 0 0 1 ++ opt "00" "00000000" ""; shows = true ∷ [] }
+    ∷ record { message = extended 0 0 1 ++ opt "00" "00000000" "0003000000050000"; shows = true ∷ [] }
+    ∷ record { message = extended 0 0 1 ++ opt "00" "00000000" "0003000000030000"; shows = false ∷ [] }
+    ∷ record { message = extended 0 0 1 ++ opt "00" "00000000" "0005000000030000"; shows = false ∷ [] }
+    ∷ record { message = extended 0 0 1 ++ opt "00" "00000000" "0003000000"; shows = false ∷ [] }
+    ∷ record { message = extended 0 0 1 ++ opt "00" "00000000" "0003000100"; shows = true ∷ [] }
+    -- flags 8000, 0001, 8001; version 1; an owner that is not the root
+    ∷ record { message = extended 0 0 1 ++ opt "00" "00008000" ""; shows = true ∷ [] }
+    ∷ record { message = extended 0 0 1 ++ opt "00" "00000001" ""; shows = false ∷ [] }
+    ∷ record { message = extended 0 0 1 ++ opt "00" "00008001" ""; shows = false ∷ [] }
+    ∷ record { message = extended 0 0 1 ++ opt "00" "00010000" ""; shows = false ∷ [] }
+    ∷ record { message = extended 0 0 1 ++ opt "016100" "00000000" ""; shows = false ∷ [] }
+    -- RCODE 11, 12, 15, 16, 23, 24
+    ∷ record { message = extended 11 0 1 ++ opt "00" "00000000" ""; shows = true ∷ [] }
+    ∷ record { message = extended 12 0 1 ++ opt "00" "00000000" ""; shows = false ∷ [] }
+    ∷ record { message = extended 15 0 1 ++ opt "00" "00000000" ""; shows = false ∷ [] }
+    ∷ record { message = extended 0 0 1 ++ opt "00" "01000000" ""; shows = true ∷ [] }
+    ∷ record { message = extended 7 0 1 ++ opt "00" "01000000" ""; shows = true ∷ [] }
+    ∷ record { message = extended 8 0 1 ++ opt "00" "01000000" ""; shows = false ∷ [] }
+    -- two in the additional section; one there and one among the answers
+    ∷ record { message = extended 0 0 2 ++ opt "00" "00000000" "" ++ opt "00" "00010000" ""; shows = false ∷ false ∷ [] }
+    ∷ record { message = extended 0 1 1 ++ opt "00" "00000000" "" ++ opt "00" "00000000" ""; shows = true ∷ [] }
+    ∷ []
+
+pub conditions-hold : map (λ (c : Condition). elements (decode (c .message))) conditions ≡ map (λ (c : Condition). c .shows) conditions
+unfolding conditions lookup key? nameForm walk nameFrom layouts layoutOf pieces rdataAt questionForm recordForm forms headerForm form unfit questionAt recordAt sectionAt sectionFrom headerOf sectionsOf messageOf decode rising? divided optionsOf rcodes ednsOf additionalOf viewOf
+conditions-hold = refl
+
+-- ---- the shapes of option values: whether an option of this code and value takes its row's form
+abbrev pub known? : Member → Bool
+known? (known code v) = true
+known? (other code value) = false
+
+pub record Shape : Type 0 where
+  pub code : ℕ
+  pub value : List ℕ
+  pub known : Bool
+
+unfoldable pub shapes : List Shape
+shapes =
+    -- codes without a row
+    record { code = 1; value = []; known = false }
+    ∷ record { code = 8; value = []; known = false }
+    ∷ record { code = 13; value = []; known = false }
+    -- NSID, DAU, PADDING: any value
+    ∷ record { code = 3; value = []; known = true }
+    ∷ record { code = 5; value = []; known = true }
+    ∷ record { code = 12; value = []; known = true }
+    -- EXPIRE: 0 or 4 octets
+    ∷ record { code = 9; value = []; known = true }
+    ∷ record { code = 9; value = replicate 3 0; known = false }
+    ∷ record { code = 9; value = replicate 4 0; known = true }
+    ∷ record { code = 9; value = replicate 5 0; known = false }
+    -- COOKIE: 8 octets, or 16 to 40
+    ∷ record { code = 10; value = []; known = false }
+    ∷ record { code = 10; value = replicate 7 0; known = false }
+    ∷ record { code = 10; value = replicate 8 0; known = true }
+    ∷ record { code = 10; value = replicate 9 0; known = false }
+    ∷ record { code = 10; value = replicate 15 0; known = false }
+    ∷ record { code = 10; value = replicate 16 0; known = true }
+    ∷ record { code = 10; value = replicate 40 0; known = true }
+    ∷ record { code = 10; value = replicate 41 0; known = false }
+    -- KEEPALIVE: 2 octets
+    ∷ record { code = 11; value = []; known = false }
+    ∷ record { code = 11; value = replicate 2 0; known = true }
+    ∷ record { code = 11; value = replicate 3 0; known = false }
+    -- KEYTAG: an even number of octets
+    ∷ record { code = 14; value = []; known = true }
+    ∷ record { code = 14; value = replicate 3 0; known = false }
+    ∷ record { code = 14; value = replicate 4 0; known = true }
+    -- EDE: 2 octets and text of 0x20 to 0x7E
+    ∷ record { code = 15; value = replicate 1 0; known = false }
+    ∷ record { code = 15; value = replicate 2 0; known = true }
+    ∷ record { code = 15; value = hexed "00001F"; known = false }
+    ∷ record { code = 15; value = hexed "0000207E"; known = true }
+    ∷ record { code = 15; value = hexed "0000207F"; known = false }
+    ∷ []
+
+pub shapes-hold : map (λ (s : Shape). known? (memberOf (record { code = s .code; value = s .value }))) shapes ≡ map (λ (s : Shape). s .known) shapes
+unfolding shapes lookup rows formOf printable? words shape memberOf
+shapes-hold = refl

@@ -1,0 +1,33 @@
+-- Limits of size, over which refusal 22 is given: RDATA, an option's value or the message over 65,535 octets. Assumes nothing.
+use mathlib.Core.Bool.{Bool, true, _&&_}
+use mathlib.Core.List.{List}
+use Prim.Native.Nat.{ℕ}
+use lib.Dec.{leb}
+use lib.ListN.{length}
+use Rattle.octets.specs.Lists.{all}
+use Rattle.records.specs.Message.{Record, form}
+use Rattle.json.specs.Options.{EdnsOption}
+use Rattle.json.specs.View.{Additional, ordinary, edns, View, messageOf}
+
+abbrev pub small? : List ℕ → Bool
+small? l = leb (length l) 65535
+
+unfoldable pub small-rdata? : Record → Bool
+small-rdata? r = small? (r .rdata)
+
+unfoldable pub small-option? : EdnsOption → Bool
+small-option? o = small? (o .value)
+
+unfoldable pub small-options? : Additional → Bool
+small-options? (ordinary r) = true
+small-options? (edns e) = all small-option? (e .options)
+
+-- document 01's three limits; RDATA and values are parts of the message, so the last implies the others
+unfoldable pub within? : View → Bool
+within? v =
+    let m = messageOf v in
+    all small-rdata? (m .answers)
+    && all small-rdata? (m .authority)
+    && all small-rdata? (m .additional)
+    && all small-options? (v .additional)
+    && small? (form m)

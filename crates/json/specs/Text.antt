@@ -1,0 +1,54 @@
+-- The profile text of a message. Assumes nothing.
+use mathlib.Core.Bool.{cond}
+use mathlib.Core.List.{List, map}
+use Prim.Native.Nat.{ℕ, _-_}
+use lib.Dec.{ltb}
+use lib.ListN.{length}
+use Rattle.records.specs.Message.{Record, Message}
+use Rattle.json.specs.Spelling.{Signed, plus, minus}
+use Rattle.json.specs.Options.{memberOf}
+use Rattle.json.specs.View.{Edns, fullRcode, Additional, View, viewOf}
+use Rattle.json.specs.Document.{RecordItem, EdnsItem, Item, Document, documentText}
+use Rattle.json.specs.View as view
+use Rattle.json.specs.Document as doc
+
+-- TTL is the 32 bits read as two's complement
+unfoldable pub signed : ℕ → Signed
+signed n = cond (ltb n 2147483648) (plus n) (minus (4294967296 - n))
+
+unfoldable pub recordItem : Record → RecordItem
+recordItem r = record { name = r .name; type = r .type; class = r .class; ttl = signed (r .ttl); rdata = r .rdata }
+
+unfoldable pub ednsItem : ℕ → Edns → EdnsItem
+ednsItem rcode e = record {
+  version = 0;
+  flags = e .dnssecOk;
+  rcode = fullRcode rcode (e .extended);
+  size = e .size;
+  options = map memberOf (e .options);
+}
+
+unfoldable pub item : ℕ → Additional → Item
+item rcode (view.ordinary r) = doc.ordinary (recordItem r)
+item rcode (view.edns e) = doc.edns (ednsItem rcode e)
+
+-- what the text of a view spells
+unfoldable pub documentOf : View → Document
+documentOf v = record {
+  header = v .header;
+  qdcount = length (v .questions);
+  ancount = length (v .answers);
+  nscount = length (v .authority);
+  arcount = length (v .additional);
+  questions = v .questions;
+  answers = map recordItem (v .answers);
+  authority = map recordItem (v .authority);
+  additional = map (item (v .header .rcode)) (v .additional);
+}
+
+unfoldable pub viewText : View → List ℕ
+viewText v = documentText (documentOf v)
+
+-- the text of a message
+unfoldable pub text : Message → List ℕ
+text m = viewText (viewOf m)

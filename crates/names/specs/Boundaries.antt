@@ -1,0 +1,59 @@
+-- Names at the limits of document 01's rules, one row each, and one theorem over the table. Assumes nothing.
+use mathlib.Core.Path.{_≡_, refl}
+use mathlib.Core.List.{List, [], _∷_, _++_, map}
+use Prim.Native.Nat.{ℕ}
+use lib.ListN.{replicate}
+use Rattle.octets.specs.Lists.{hexed}
+use Rattle.names.specs.Name.{Kind, cut, reserved, target, long, short}
+use Rattle.names.specs.Walk.{Limit, message, rdata, Named, named, faulty, walk, nameFrom, nameAt}
+
+-- the offset behind the name, or the fault's kind and octet
+pub data Verdict : Type 0 where
+  ends : ℕ → Verdict
+  fault : Kind → ℕ → Verdict
+
+abbrev pub verdict : Named → Verdict
+verdict (named name next) = ends next
+verdict (faulty f) = fault (f .kind) (f .octet)
+
+-- octets behind a header of 12, where the octets end, and the offset of a name in them
+pub record Boundary : Type 0 where
+  pub octets : List ℕ
+  pub limit : Limit
+  pub at : ℕ
+  pub gives : Verdict
+
+-- a label of so many octets
+abbrev pub label : ℕ → List ℕ
+label n = n ∷ replicate n 97
+
+unfoldable pub boundaries : List Boundary
+boundaries =
+    -- no octet, the root, labels of 63 and 64, top bits 10
+    record { octets = []; limit = message; at = 12; gives = fault cut 12 }
+    ∷ record { octets = hexed "00"; limit = message; at = 12; gives = ends 13 }
+    ∷ record { octets = label 63 ++ hexed "00"; limit = message; at = 12; gives = ends 77 }
+    ∷ record { octets = label 64 ++ hexed "00"; limit = message; at = 12; gives = fault reserved 12 }
+    ∷ record { octets = hexed "80"; limit = message; at = 12; gives = fault reserved 12 }
+    -- names of 255 and 256 octets; past the end comes before past 255
+    ∷ record { octets = label 63 ++ label 63 ++ label 63 ++ label 61 ++ hexed "00"; limit = message; at = 12; gives = ends 267 }
+    ∷ record { octets = label 63 ++ label 63 ++ label 63 ++ label 62 ++ hexed "00"; limit = message; at = 12; gives = fault long 204 }
+    ∷ record { octets = label 63 ++ label 63 ++ label 63 ++ hexed "3E6161"; limit = message; at = 12; gives = fault cut 204 }
+    -- a pointer without its second octet; targets 11, 12 and the name's own start
+    ∷ record { octets = hexed "00C0"; limit = message; at = 13; gives = fault cut 13 }
+    ∷ record { octets = hexed "00C00B"; limit = message; at = 13; gives = fault target 13 }
+    ∷ record { octets = hexed "00C00C"; limit = message; at = 13; gives = ends 15 }
+    ∷ record { octets = hexed "00C00D"; limit = message; at = 13; gives = fault target 13 }
+    -- a label and a pointer back to it; a pointer behind a label may not go to that label's run
+    ∷ record { octets = hexed "0161C00C"; limit = message; at = 12; gives = fault target 14 }
+    ∷ record { octets = hexed "000161C00C"; limit = message; at = 13; gives = ends 17 }
+    -- in RDATA from 13 to 15: a label and a pointer cut by its end, and a name that ends at it
+    ∷ record { octets = hexed "00016100"; limit = rdata 13 15; at = 13; gives = fault short 13 }
+    ∷ record { octets = hexed "000100C00C"; limit = rdata 13 16; at = 13; gives = fault short 13 }
+    ∷ record { octets = hexed "0000C00C"; limit = rdata 13 16; at = 14; gives = ends 16 }
+    ∷ []
+
+-- every row, computed
+pub boundaries-hold : map (λ (b : Boundary). verdict (nameAt (replicate 12 0 ++ b .octets) (b .limit) (b .at))) boundaries ≡ map (λ (b : Boundary). b .gives) boundaries
+unfolding boundaries walk nameFrom
+boundaries-hold = refl

@@ -1,0 +1,5 @@
+-- Names on the wire: what a name is, how it is read, and its uncompressed octets.
+pub mod Name
+pub mod Walk
+pub mod NameLaws
+pub mod Boundaries

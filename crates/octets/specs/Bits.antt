@@ -1,0 +1,72 @@
+-- Facts on Boolean tests, and on facts of every element of a list.
+-- Assumes nothing.
+use mathlib.Core.Path.{_≡_, refl}
+use mathlib.Core.Logic.{_↔_, _≢_}
+use mathlib.Core.Bool.{Bool, true, false, not, _&&_}
+use mathlib.Core.List.{List, [], _∷_, _++_}
+use Prim.Native.Nat.{ℕ}
+use lib.Dec.{T, not-T, eqb, eqb→eq, ltb→lt, lt→ltb}
+use Rattle.octets.specs.Lists.{all, All, octet?, Octets}
+
+-- what a test answers
+pub is-true : (b : Bool) → T b → b ≡ true
+is-true true t = refl
+is-true false t = absurd t
+
+pub is-false : (b : Bool) → T (not b) → b ≡ false
+is-false true t = absurd t
+is-false false t = refl
+
+pub unequal : (x y : ℕ) → x ≢ y → eqb x y ≡ false
+unequal x y h = is-false (eqb x y) (not-T (eqb x y) λ t. h (eqb→eq x y t))
+
+-- two tests at once
+pub both : (a b : Bool) → T a → T b → T (a && b)
+both true b s t = t
+both false b s t = s
+
+pub and-left : (a b : Bool) → T (a && b) → T a
+and-left true b t = tt
+and-left false b t = t
+
+pub and-right : (a b : Bool) → T (a && b) → T b
+and-right true b t = t
+and-right false b t = absurd t
+
+module _ {A : Type 0} where
+  -- a test of every element, as a fact of every element
+  pub all→All : (p : A → Bool) (l : List A) → T (all p l) → All (λ x. T (p x)) l
+  all→All p [] h = tt
+  all→All p (x ∷ l) h = (and-left (p x) (all p l) h, all→All p l (and-right (p x) (all p l) h))
+
+  pub All→all : (p : A → Bool) (l : List A) → All (λ x. T (p x)) l → T (all p l)
+  All→all p [] h = tt
+  All→all p (x ∷ l) h = both (p x) (all p l) (h .0) (All→all p l (h .1))
+
+  -- one fact for another
+  pub All-map : {P Q : A → Type 0} → ((x : A) → P x → Q x) → (l : List A) → All P l → All Q l
+  All-map f [] h = tt
+  All-map f (x ∷ l) h = (f x (h .0), All-map f l (h .1))
+
+  -- two lists, one behind the other
+  pub All-append : (P : A → Type 0) (l m : List A) → All P l → All P m → All P (l ++ m)
+  All-append P [] m h k = k
+  All-append P (x ∷ l) m h k = (h .0, All-append P l m (h .1) k)
+
+  pub All-left : (P : A → Type 0) (l m : List A) → All P (l ++ m) → All P l
+  All-left P [] m h = tt
+  All-left P (x ∷ l) m h = (h .0, All-left P l m (h .1))
+
+  pub All-right : (P : A → Type 0) (l m : List A) → All P (l ++ m) → All P m
+  All-right P [] m h = h
+  All-right P (x ∷ l) m h = All-right P l m (h .1)
+
+  pub All-both : (P : A → Type 0) (l m : List A) → All P (l ++ m) ↔ (All P l × All P m)
+  All-both P l m = (λ h. (All-left P l m h, All-right P l m h), λ h. All-append P l m (h .0) (h .1))
+
+-- octets by test and by bound
+pub octets-in : (l : List ℕ) → T (all octet? l) → Octets l
+octets-in l h = All-map (λ x t. ltb→lt x 256 t) l (all→All octet? l h)
+
+pub octets-test : (l : List ℕ) → Octets l → T (all octet? l)
+octets-test l h = All→all octet? l (All-map (λ x t. lt→ltb x 256 t) l h)

@@ -1,0 +1,72 @@
+-- Numbers of 16 and 32 bits in octets, and places in a text.
+-- Assumes nothing.
+use mathlib.Core.Path.{_≡_, sym, _∙_, ap}
+use mathlib.Core.List.{List, [], _∷_, _++_}
+use Prim.Native.Nat.{ℕ, zero, suc, _+_, _-_, _*_, _/_, _%_, _<_, _≤_}
+use native.Mathlib.Nat.{add-zero}
+use native.Mathlib.Omega.{arith}
+use lib.ListN.{length, getD, take, drop, length-append, length-drop}
+use lib.Seq.{drop-drop, getD-drop, take-append-seam, drop-append-seam}
+use Rattle.octets.specs.Lists.{Octets}
+use Rattle.octets.specs.Bits.{All-append}
+
+-- a number in two octets, the high one first; in four octets
+abbrev pub two : ℕ → List ℕ
+two n = n / 256 % 256 ∷ n % 256 ∷ []
+
+abbrev pub four : ℕ → List ℕ
+four n = two (n / 65536) ++ two (n % 65536)
+
+-- the number in the two octets at a place of a text; in the four octets
+abbrev pub twoAt : List ℕ → ℕ → ℕ
+twoAt s at = getD s at 0 * 256 + getD s (at + 1) 0
+
+abbrev pub fourAt : List ℕ → ℕ → ℕ
+fourAt s at = twoAt s at * 65536 + twoAt s (at + 2)
+
+-- ---- places
+-- what stands behind `x`, where `x` stands at a place
+pub drop-past : (s x r : List ℕ) (at : ℕ) → drop at s ≡ x ++ r → drop (at + length x) s ≡ r
+drop-past s x r at e = sym (drop-drop (length x) at s) ∙ ap (drop (length x)) e ∙ drop-append-seam x r
+
+pub take-here : (s x r : List ℕ) (at : ℕ) → drop at s ≡ x ++ r → take (length x) (drop at s) ≡ x
+take-here s x r at e = ap (take (length x)) e ∙ take-append-seam x r
+
+pub getD-here : (s r : List ℕ) (y at : ℕ) → drop at s ≡ y ∷ r → getD s at 0 ≡ y
+getD-here s r y at e = ap (λ i. getD s i 0) (sym (add-zero at)) ∙ sym (getD-drop at s 0 0) ∙ ap (λ l. getD l 0 0) e
+
+pub room-here : (s x r : List ℕ) (at : ℕ) → drop at s ≡ x ++ r → 0 < length x → at + length x ≤ length s
+room-here s x r at e h =
+    let z : length s - at ≡ length x + length r = sym (length-drop at s) ∙ ap length e ∙ length-append x r in
+    omega arith
+
+-- ---- the number back from its octets
+pub two-back : (n : ℕ) → n < 65536 → n / 256 % 256 * 256 + n % 256 ≡ n
+two-back n h = omega arith
+
+pub two-at : (s r : List ℕ) (at n : ℕ) → n < 65536 → drop at s ≡ two n ++ r → twoAt s at ≡ n
+two-at s r at n h e =
+    rw (getD-here s _ _ at e, getD-here s r (n % 256) (at + 1) (drop-past s (n / 256 % 256 ∷ []) (n % 256 ∷ r) at e)) (two-back n h)
+
+pub four-at : (s r : List ℕ) (at n : ℕ) → n < 4294967296 → drop at s ≡ four n ++ r → fourAt s at ≡ n
+four-at s r at n h e =
+    rw (two-at s (two (n % 65536) ++ r) at (n / 65536) (omega arith) e, two-at s r (at + 2) (n % 65536) (omega arith) (drop-past s (two (n / 65536)) (two (n % 65536) ++ r) at e)) (omega arith)
+
+-- ---- octets
+pub two-octets : (n : ℕ) → Octets (two n)
+two-octets n = (omega arith, (omega arith, tt))
+
+pub four-octets : (n : ℕ) → Octets (four n)
+four-octets n = All-append (λ x. x < 256) (two (n / 65536)) (two (n % 65536)) (two-octets (n / 65536)) (two-octets (n % 65536))
+
+-- an octet of a text, or 0 past its end
+pub getD-octet : (s : List ℕ) → Octets s → (at : ℕ) → getD s at 0 < 256
+getD-octet [] h at = omega arith
+getD-octet (x ∷ s) h zero = h .0
+getD-octet (x ∷ s) h (suc at) = getD-octet s (h .1) at
+
+pub twoAt-word : (s : List ℕ) → Octets s → (at : ℕ) → twoAt s at < 65536
+twoAt-word s h at = omega (arith, getD-octet s h at, getD-octet s h (at + 1))
+
+pub fourAt-long : (s : List ℕ) → Octets s → (at : ℕ) → fourAt s at < 4294967296
+fourAt-long s h at = omega (arith, twoAt-word s h at, twoAt-word s h (at + 2))

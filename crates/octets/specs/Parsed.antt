@@ -1,0 +1,106 @@
+-- What a parser answers: a value with the text behind it, or the text from the octet at which it stopped.
+-- Assumes nothing.
+use mathlib.Core.Path.{_≡_, refl, _∙_, ap, ap₂, subst}
+use mathlib.Core.Bool.{Bool, true, false, cond}
+use mathlib.Core.List.{List, [], _∷_, _++_}
+use Prim.Native.Nat.{ℕ}
+use lib.Dec.{T, ltb, eqb, eqb-refl, eqb→eq}
+use lib.ListN.{length}
+
+pub data Parsed (A : Type 0) : Type 0 where
+  took : A → List ℕ → Parsed A
+  stuck : List ℕ → Parsed A
+
+-- one parser after another
+abbrev pub and-then : {A B : Type 0} → Parsed A → (A → List ℕ → Parsed B) → Parsed B
+and-then (took a r) f = f a r
+and-then (stuck w) f = stuck w
+
+-- one parser or another; where both stop, the one that came further tells where
+abbrev pub or-else : {A : Type 0} → Parsed A → Parsed A → Parsed A
+or-else (took a r) o = took a r
+or-else (stuck w) (took a r) = took a r
+or-else (stuck w) (stuck u) = stuck (cond (ltb (length u) (length w)) u w)
+
+-- fixed octets, one by one
+abbrev pub strip : List ℕ → List ℕ → Parsed (Unit {0})
+strip [] t = took tt t
+strip (x ∷ l) [] = stuck []
+strip (x ∷ l) (y ∷ t) = cond (eqb x y) (strip l t) (stuck (y ∷ t))
+
+-- ---- what holds of the value and the text behind it, if there are any
+pub data Holds {A : Type 0} (P : A → List ℕ → Type 0) : Parsed A → Type 0 where
+  missed : (w : List ℕ) → Holds P (stuck w)
+  found : {a : A} {r : List ℕ} → P a r → Holds P (took a r)
+
+-- the value of an answer, or `d` where the parser stopped; the text that is left
+abbrev value : {A : Type 0} → A → Parsed A → A
+value d (took a r) = a
+value d (stuck w) = d
+
+abbrev rest : {A : Type 0} → Parsed A → List ℕ
+rest (took a r) = r
+rest (stuck w) = w
+
+module _ {A : Type 0} where
+  -- equal answers have equal parts
+  pub took-value : {a b : A} {r s : List ℕ} → took a r ≡ took b s → a ≡ b
+  took-value {a} e = ap (value a) e
+
+  pub took-rest : {a b : A} {r s : List ℕ} → took a r ≡ took b s → r ≡ s
+  took-rest e = ap rest e
+
+  -- a value is no stop
+  abbrev Took : Parsed A → Type 0
+  Took (took a r) = Unit {0}
+  Took (stuck w) = ⊥
+
+  pub took≢stuck : {a : A} {r w : List ℕ} → took a r ≡ stuck w → ⊥
+  took≢stuck e = subst Took e tt
+
+  -- the second, where the first stops and the second does not
+  pub or-second : {w r : List ℕ} {a : A} {o p : Parsed A} → o ≡ stuck w → p ≡ took a r → or-else o p ≡ took a r
+  or-second e f = ap₂ or-else e f
+
+  pub cond-true : (b : Bool) (x y : A) → T b → cond b x y ≡ x
+  cond-true true x y t = refl
+  cond-true false x y t = absurd t
+
+module _ {A : Type 0} {P : A → List ℕ → Type 0} where
+  pub held : {o : Parsed A} {a : A} {r : List ℕ} → Holds P o → o ≡ took a r → P a r
+  held {o} {a} {r} h e = go (subst (Holds P) e h)
+    where
+      go : Holds P (took a r) → P a r
+      go (found h) = h
+
+  -- where it can hold of nothing, the parser stops
+  pub is-stuck : {o : Parsed A} → Holds P o → ((a : A) (r : List ℕ) → P a r → ⊥) → (w : List ℕ) × (o ≡ stuck w)
+  is-stuck (missed w) f = (w, refl)
+  is-stuck (found {a} {r} h) f = absurd (f a r h)
+
+  pub map-holds : {Q : A → List ℕ → Type 0} {o : Parsed A} → Holds P o → ((a : A) (r : List ℕ) → P a r → Q a r) → Holds Q o
+  map-holds (missed w) f = missed w
+  map-holds (found {a} {r} h) f = found (f a r h)
+
+  pub then-holds : {B : Type 0} {Q : B → List ℕ → Type 0} {o : Parsed A} (f : A → List ℕ → Parsed B) → Holds P o → ((a : A) (r : List ℕ) → P a r → Holds Q (f a r)) → Holds Q (and-then o f)
+  then-holds f (missed w) g = missed w
+  then-holds f (found {a} {r} h) g = g a r h
+
+  pub or-holds : {o p : Parsed A} → Holds P o → Holds P p → Holds P (or-else o p)
+  or-holds (missed w) (missed u) = missed _
+  or-holds (missed w) (found k) = found k
+  or-holds (found h) k = found h
+
+  pub cond-holds : (b : Bool) {o : Parsed A} (w : List ℕ) → (T b → Holds P o) → Holds P (cond b o (stuck w))
+  cond-holds true w h = h tt
+  cond-holds false w h = missed w
+
+-- ---- fixed octets
+pub strip-back : (l r : List ℕ) → strip l (l ++ r) ≡ took tt r
+strip-back [] r = refl
+strip-back (x ∷ l) r = cond-true (eqb x x) (strip l (l ++ r)) (stuck (x ∷ (l ++ r))) (eqb-refl x) ∙ strip-back l r
+
+pub strip-sound : (l t : List ℕ) → Holds (λ u r. l ++ r ≡ t) (strip l t)
+strip-sound [] t = found refl
+strip-sound (x ∷ l) [] = missed []
+strip-sound (x ∷ l) (y ∷ t) = cond-holds (eqb x y) (y ∷ t) λ h. map-holds (strip-sound l t) λ u r e. ap₂ _∷_ (eqb→eq x y h) e

@@ -1,0 +1,1 @@
+// Octets, numbers and texts: what every layer above shares. The definitions are in specs/.

@@ -1,0 +1,77 @@
+-- The reading of a whole message: what it holds, or document 01's refusal. Assumes nothing.
+use mathlib.Core.Bool.{Bool, cond}
+use mathlib.Core.List.{List, [], _∷_, _++_}
+use Prim.Native.Nat.{ℕ, _/_, _%_}
+use lib.Dec.{ltb, eqb}
+use lib.ListN.{length, getD}
+use Rattle.octets.specs.Fields.{twoAt}
+use Rattle.names.specs.Name.{number, Fault}
+use Rattle.records.specs.Message.{Header, Question, Record, Message, form}
+use Rattle.records.specs.Read.{Section, Reached, reached, stopped, questionAt, recordAt, sectionAt, sectionFrom}
+
+-- header flags, high bit first: QR, Opcode (4), AA, TC, RD; RA, Z, AD, CD, RCODE (4)
+unfoldable pub headerOf : List ℕ → Header
+headerOf s =
+    let high = getD s 2 0 in
+    let low = getD s 3 0 in
+    record {
+      id = twoAt s 0;
+      qr = high / 128;
+      opcode = high / 8 % 16;
+      aa = high / 4 % 2;
+      tc = high / 2 % 2;
+      rd = high % 2;
+      ra = low / 128;
+      ad = low / 32 % 2;
+      cd = low / 16 % 2;
+      rcode = low % 16;
+    }
+
+abbrev pub zOf : List ℕ → ℕ
+zOf s = getD s 3 0 / 64 % 2
+
+-- the four sections by the header's counts, each with the entries before the first fault
+pub record Sections : Type 0 where
+  pub questions : Section Question
+  pub answers : Section Record
+  pub authority : Section Record
+  pub additional : Section Record
+
+unfoldable pub sectionsOf : List ℕ → Sections
+sectionsOf s =
+    let questions = sectionAt questionAt s (twoAt s 4) 12 in
+    let answers = sectionFrom recordAt s (twoAt s 6) (questions .end) in
+    let authority = sectionFrom recordAt s (twoAt s 8) (answers .end) in
+    let additional = sectionFrom recordAt s (twoAt s 10) (authority .end) in
+    record { questions = questions; answers = answers; authority = authority; additional = additional }
+
+-- the entries that were read, under the header
+unfoldable pub messageOf : List ℕ → Message
+messageOf s =
+    let sections = sectionsOf s in
+    record {
+      header = headerOf s;
+      questions = sections .questions .entries;
+      answers = sections .answers .entries;
+      authority = sections .authority .entries;
+      additional = sections .additional .entries;
+    }
+
+-- the message, or the refusal's number and place
+pub data Decoded : Type 0 where
+  accepted : Message → Decoded
+  refused : ℕ → ℕ → Decoded
+
+-- The refusals but 10, in order: 2 over 65,535 octets; 1 under 12 octets; 3 Z is set; the first fault in an entry, at the entry;
+-- 8 octets after the last record, at the first of them; 9 uncompressed form over 65,535 octets.
+unfoldable pub decode : List ℕ → Decoded
+decode s =
+    let m = messageOf s in
+    let whole : Decoded = cond (ltb 65535 (length (form m))) (refused 9 0) (accepted m) in
+    let read : Decoded = elim (sectionsOf s .additional .end) [
+      | reached at ↦ cond (ltb at (length s)) (refused 8 at) whole
+      | stopped at fault ↦ refused (number (fault .kind)) at
+    ] in
+    cond (ltb 65535 (length s)) (refused 2 0)
+    (cond (ltb (length s) 12) (refused 1 0)
+    (cond (eqb (zOf s) 1) (refused 3 0) read))

@@ -1,0 +1,8 @@
+-- Messages on the wire: header, questions, records, RDATA layouts, the reading of a message and the uncompressed form.
+pub mod Layout
+pub mod Message
+pub mod Read
+pub mod Decode
+pub mod RecordLaws
+pub mod MessageLaws
+pub mod Boundaries

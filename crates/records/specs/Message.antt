@@ -1,0 +1,117 @@
+-- What a message holds, when it is valid, and its uncompressed form. Assumes nothing.
+use mathlib.Core.Bool.{Bool, _&&_}
+use mathlib.Core.List.{List, [], _∷_, _++_}
+use Prim.Native.Nat.{ℕ, _+_, _*_}
+use lib.Dec.{ltb}
+use lib.ListN.{length}
+use Rattle.octets.specs.Lists.{all, octet?, word?, long?}
+use Rattle.octets.specs.Fields.{two, four}
+use Rattle.names.specs.Name.{Name, nameForm, name?}
+use Rattle.records.specs.Layout.{fits?}
+
+-- the header but for its counts, which are those of the sections, and for Z, which is never set
+pub record Header : Type 0 where
+  pub id : ℕ
+  pub qr : ℕ
+  pub opcode : ℕ
+  pub aa : ℕ
+  pub tc : ℕ
+  pub rd : ℕ
+  pub ra : ℕ
+  pub ad : ℕ
+  pub cd : ℕ
+  pub rcode : ℕ
+
+pub record Question : Type 0 where
+  pub name : Name
+  pub type : ℕ
+  pub class : ℕ
+
+-- RDATA is held without pointers; TTL is its 32 bits
+pub record Record : Type 0 where
+  pub name : Name
+  pub type : ℕ
+  pub class : ℕ
+  pub ttl : ℕ
+  pub rdata : List ℕ
+
+pub record Message : Type 0 where
+  pub header : Header
+  pub questions : List Question
+  pub answers : List Record
+  pub authority : List Record
+  pub additional : List Record
+
+-- ---- the uncompressed form
+-- the octet of QR, Opcode, AA, TC, RD, and the octet of RA, Z (clear), AD, CD, RCODE
+abbrev pub flagsHigh : Header → ℕ
+flagsHigh h = h .qr * 128 + h .opcode * 8 + h .aa * 4 + h .tc * 2 + h .rd
+
+abbrev pub flagsLow : Header → ℕ
+flagsLow h = h .ra * 128 + h .ad * 32 + h .cd * 16 + h .rcode
+
+unfoldable pub questionForm : Question → List ℕ
+questionForm q = nameForm (q .name) ++ two (q .type) ++ two (q .class)
+
+unfoldable pub recordForm : Record → List ℕ
+recordForm r = nameForm (r .name) ++ two (r .type) ++ two (r .class) ++ four (r .ttl) ++ two (length (r .rdata)) ++ r .rdata
+
+-- the forms of entries one after another
+unfoldable pub forms : {A : Type 0} → (A → List ℕ) → List A → List ℕ
+forms form [] = []
+forms form (a ∷ l) = form a ++ forms form l
+
+unfoldable pub headerForm : Message → List ℕ
+headerForm m =
+    two (m .header .id)
+    ++ (flagsHigh (m .header) ∷ flagsLow (m .header) ∷ [])
+    ++ two (length (m .questions))
+    ++ two (length (m .answers))
+    ++ two (length (m .authority))
+    ++ two (length (m .additional))
+
+unfoldable pub form : Message → List ℕ
+form m =
+    headerForm m
+    ++ forms questionForm (m .questions)
+    ++ forms recordForm (m .answers)
+    ++ forms recordForm (m .authority)
+    ++ forms recordForm (m .additional)
+
+-- ---- what is valid, limits of size aside
+abbrev pub bit? : ℕ → Bool
+bit? n = ltb n 2
+
+abbrev pub four-bits? : ℕ → Bool
+four-bits? n = ltb n 16
+
+unfoldable pub header? : Header → Bool
+header? h =
+    word? (h .id)
+    && bit? (h .qr)
+    && four-bits? (h .opcode)
+    && bit? (h .aa)
+    && bit? (h .tc)
+    && bit? (h .rd)
+    && bit? (h .ra)
+    && bit? (h .ad)
+    && bit? (h .cd)
+    && four-bits? (h .rcode)
+
+unfoldable pub question? : Question → Bool
+question? q = name? (q .name) && word? (q .type) && word? (q .class)
+
+unfoldable pub record? : Record → Bool
+record? r = name? (r .name) && word? (r .type) && word? (r .class) && long? (r .ttl) && all octet? (r .rdata) && fits? (r .type) (r .rdata)
+
+-- the number of entries of a section is a number of 16 bits
+abbrev pub section? : {A : Type 0} → (A → Bool) → List A → Bool
+section? entry? l = word? (length l) && all entry? l
+
+unfoldable pub valid? : Message → Bool
+valid? m =
+    header? (m .header)
+    && section? question? (m .questions)
+    && section? record? (m .answers)
+    && section? record? (m .authority)
+    && section? record? (m .additional)

@@ -1,0 +1,117 @@
+-- Texts at the limits of the reader's rules, one row each, and one theorem over the table. Assumes nothing.
+use mathlib.Core.Path.{_≡_, refl}
+use mathlib.Core.List.{List, [], _∷_, _++_, map}
+use Prim.Native.Nat.{ℕ}
+use Rattle.octets.specs.Decimal.{natural, positive, decimal}
+use Rattle.octets.specs.Hexadecimal.{hex, unhex, hexText}
+use Rattle.octets.specs.Codec.{tried}
+use Rattle.octets.specs.Lists.{ascii, lookup, textOf, key?}
+use Rattle.octets.specs.Answer.{Output, output, refused}
+use Rattle.names.specs.Name.{name?, label?, nameForm}
+use Rattle.names.specs.Walk.{walk, nameFrom}
+use Rattle.records.specs.Message.{header?, question?, record?, forms, form, headerForm, questionForm, recordForm}
+use Rattle.records.specs.Layout.{fits?, layouts, layoutOf, pieces, rdataAt}
+use Rattle.records.specs.Boundaries.{Verdict, taken, refuses}
+use Rattle.json.specs.Sample.{textWith}
+use Rattle.json.specs.Spelling.{plain?, printable?, spelled, stringOctet}
+use Rattle.json.specs.Options.{members, rows, formOf, shape, words}
+use Rattle.json.specs.Document.{flags}
+use Rattle.json.specs.View.{rcodes, view?, additionals?, additional?, settled?, opt-entry?, edns?, option?, rising?, divided, optionsOf, ednsOf, messageOf, recordOf, ednsRecord, optionForm}
+use Rattle.json.specs.Limits.{within?, small-rdata?, small-option?, small-options?}
+use Rattle.strict.specs.Members.{value?, member?, optionOf, octetsOf}
+use Rattle.strict.specs.Parser.{parse, document, head, question, entry, itemCodec, ednsElement, optionMembers, member, knownMember, otherMember, value, expiryNumber}
+use Rattle.strict.specs.Spelt.{name, label, spelledOctet, spelledAt, escape, ddd, leads?, coded-from?, coded?, signedNumber, string, stringChar, stringAt, bare?, quoted}
+use Rattle.strict.specs.Reading.{reading}
+use Rattle.strict.specs.Meaning.{meaning, documentView, itemRecord, itemEdns, itemAdditional, unsigned, agrees?, counts?, ttl?, ednsItem?, item?}
+
+abbrev pub outcome : Output → Verdict
+outcome (output l) = taken
+outcome (refused number place) = refuses number place
+
+-- a text, and what reading it gives
+pub record Reading : Type 0 where
+  pub text : List ℕ
+  pub gives : Verdict
+
+unfoldable pub readings : List Reading
+readings =
+    -- an empty text; one with a space behind it
+    record { text = []; gives = refuses 20 0 }
+    ∷ record { text = textWith "0" "0" "0" "0" "" "" "" ++ ascii " "; gives = refuses 20 0 }
+    ∷ record { text = textWith "0" "0" "0" "0" "" "" ""; gives = taken }
+    -- numbers: a leading zero, a minus, out of range; 20 before 21 wherever each stands
+    ∷ record { text = textWith "00" "0" "0" "0" "" "" ""; gives = refuses 20 0 }
+    ∷ record { text = textWith "-1" "0" "0" "0" "" "" ""; gives = refuses 20 0 }
+    ∷ record { text = textWith "15" "0" "0" "0" "" "" ""; gives = taken }
+    ∷ record { text = textWith "16" "0" "0" "0" "" "" ""; gives = refuses 21 0 }
+    ∷ record { text = textWith "16" "0" "0" "0" "" "" "" ++ ascii "]"; gives = refuses 20 0 }
+    -- a count that differs from its array
+    ∷ record { text = textWith "0" "1" "0" "0" "" "" ""; gives = refuses 21 0 }
+    -- TTL
+    ∷ record { text = textWith "0" "0" "1" "0" "" "{\"NAME\":\".\",\"TYPE\":1,\"CLASS\":1,\"TTL\":-0,\"RDATAHEX\":\"\"}" ""; gives = refuses 20 0 }
+    ∷ record { text = textWith "0" "0" "1" "0" "" "{\"NAME\":\".\",\"TYPE\":1,\"CLASS\":1,\"TTL\":-2147483648,\"RDATAHEX\":\"\"}" ""; gives = taken }
+    ∷ record { text = textWith "0" "0" "1" "0" "" "{\"NAME\":\".\",\"TYPE\":1,\"CLASS\":1,\"TTL\":-2147483649,\"RDATAHEX\":\"\"}" ""; gives = refuses 21 0 }
+    ∷ record { text = textWith "0" "0" "1" "0" "" "{\"NAME\":\".\",\"TYPE\":1,\"CLASS\":1,\"TTL\":2147483647,\"RDATAHEX\":\"\"}" ""; gives = taken }
+    ∷ record { text = textWith "0" "0" "1" "0" "" "{\"NAME\":\".\",\"TYPE\":1,\"CLASS\":1,\"TTL\":2147483648,\"RDATAHEX\":\"\"}" ""; gives = refuses 21 0 }
+    -- names: an octet spelled in another way, a label that is empty, no last dot, labels of 63 and 64
+    ∷ record { text = textWith "0" "1" "0" "0" "{\"NAME\":\"\\\\046.\",\"TYPE\":1,\"CLASS\":1}" "" ""; gives = refuses 20 0 }
+    ∷ record { text = textWith "0" "1" "0" "0" "{\"NAME\":\"\\\\097.\",\"TYPE\":1,\"CLASS\":1}" "" ""; gives = refuses 20 0 }
+    ∷ record { text = textWith "0" "1" "0" "0" "{\"NAME\":\"a..\",\"TYPE\":1,\"CLASS\":1}" "" ""; gives = refuses 20 0 }
+    ∷ record { text = textWith "0" "1" "0" "0" "{\"NAME\":\"\",\"TYPE\":1,\"CLASS\":1}" "" ""; gives = refuses 20 0 }
+    ∷ record { text = textWith "0" "1" "0" "0" "{\"NAME\":\"a\",\"TYPE\":1,\"CLASS\":1}" "" ""; gives = refuses 20 0 }
+    ∷ record { text = textWith "0" "1" "0" "0" "{\"NAME\":\"aaaaaaaaaaaaaaaaaaaaaaaaaaaaaaaaaaaaaaaaaaaaaaaaaaaaaaaaaaaaaaa.\",\"TYPE\":1,\"CLASS\":1}" "" ""; gives = taken }
+    ∷ record { text = textWith "0" "1" "0" "0" "{\"NAME\":\"aaaaaaaaaaaaaaaaaaaaaaaaaaaaaaaaaaaaaaaaaaaaaaaaaaaaaaaaaaaaaaaa.\",\"TYPE\":1,\"CLASS\":1}" "" ""; gives = refuses 21 0 }
+    -- hex: lowercase, an odd count
+    ∷ record { text = textWith "0" "0" "1" "0" "" "{\"NAME\":\".\",\"TYPE\":1,\"CLASS\":1,\"TTL\":0,\"RDATAHEX\":\"ab\"}" ""; gives = refuses 20 0 }
+    ∷ record { text = textWith "0" "0" "1" "0" "" "{\"NAME\":\".\",\"TYPE\":1,\"CLASS\":1,\"TTL\":0,\"RDATAHEX\":\"A\"}" ""; gives = refuses 20 0 }
+    -- RDATA of NS: its layout, octets behind it, a pointer, nothing
+    ∷ record { text = textWith "0" "0" "1" "0" "" "{\"NAME\":\".\",\"TYPE\":2,\"CLASS\":1,\"TTL\":0,\"RDATAHEX\":\"00\"}" ""; gives = taken }
+    ∷ record { text = textWith "0" "0" "1" "0" "" "{\"NAME\":\".\",\"TYPE\":2,\"CLASS\":1,\"TTL\":0,\"RDATAHEX\":\"0000\"}" ""; gives = refuses 21 0 }
+    ∷ record { text = textWith "0" "0" "1" "0" "" "{\"NAME\":\".\",\"TYPE\":2,\"CLASS\":1,\"TTL\":0,\"RDATAHEX\":\"C00C\"}" ""; gives = refuses 21 0 }
+    ∷ record { text = textWith "0" "0" "1" "0" "" "{\"NAME\":\".\",\"TYPE\":2,\"CLASS\":1,\"TTL\":0,\"RDATAHEX\":\"\"}" ""; gives = taken }
+    -- the EDNS element: Version, FLAGS, RCODE
+    ∷ record { text = textWith "0" "0" "0" "1" "" "" "{\"EDNS\":{\"Version\":0,\"FLAGS\":[],\"RCODE\":\"NoError\",\"UDPSIZE\":1232}}"; gives = taken }
+    ∷ record { text = textWith "0" "0" "0" "1" "" "" "{\"EDNS\":{\"Version\":1,\"FLAGS\":[],\"RCODE\":\"NoError\",\"UDPSIZE\":1232}}"; gives = refuses 21 0 }
+    ∷ record { text = textWith "0" "0" "0" "1" "" "" "{\"EDNS\":{\"Version\":00,\"FLAGS\":[],\"RCODE\":\"NoError\",\"UDPSIZE\":1232}}"; gives = refuses 20 0 }
+    ∷ record { text = textWith "0" "0" "0" "1" "" "" "{\"EDNS\":{\"Version\":0,\"FLAGS\":[\"DO\",\"DO\"],\"RCODE\":\"NoError\",\"UDPSIZE\":1232}}"; gives = refuses 20 0 }
+    ∷ record { text = textWith "0" "0" "0" "1" "" "" "{\"EDNS\":{\"Version\":0,\"FLAGS\":[],\"RCODE\":\"BADVERS\",\"UDPSIZE\":1232}}"; gives = refuses 20 0 }
+    ∷ record { text = textWith "7" "0" "0" "1" "" "" "{\"EDNS\":{\"Version\":0,\"FLAGS\":[],\"RCODE\":\"BADCOOKIE\",\"UDPSIZE\":1232}}"; gives = taken }
+    ∷ record { text = textWith "0" "0" "0" "1" "" "" "{\"EDNS\":{\"Version\":0,\"FLAGS\":[],\"RCODE\":\"BADCOOKIE\",\"UDPSIZE\":1232}}"; gives = refuses 21 0 }
+    -- elsewhere; twice; beside a TYPE 41 record; written as an ordinary record; two ordinary ones
+    ∷ record { text = textWith "0" "0" "1" "0" "" "{\"EDNS\":{\"Version\":0,\"FLAGS\":[],\"RCODE\":\"NoError\",\"UDPSIZE\":1232}}" ""; gives = refuses 20 0 }
+    ∷ record { text = textWith "0" "0" "0" "2" "" "" "{\"EDNS\":{\"Version\":0,\"FLAGS\":[],\"RCODE\":\"NoError\",\"UDPSIZE\":1232}},{\"EDNS\":{\"Version\":0,\"FLAGS\":[],\"RCODE\":\"NoError\",\"UDPSIZE\":1232}}"; gives = refuses 21 0 }
+    ∷ record { text = textWith "0" "0" "0" "2" "" "" "{\"EDNS\":{\"Version\":0,\"FLAGS\":[],\"RCODE\":\"NoError\",\"UDPSIZE\":1232}},{\"NAME\":\".\",\"TYPE\":41,\"CLASS\":1,\"TTL\":65536,\"RDATAHEX\":\"\"}"; gives = refuses 21 0 }
+    ∷ record { text = textWith "0" "0" "0" "1" "" "" "{\"NAME\":\".\",\"TYPE\":41,\"CLASS\":1,\"TTL\":0,\"RDATAHEX\":\"\"}"; gives = refuses 21 0 }
+    ∷ record { text = textWith "0" "0" "0" "1" "" "" "{\"NAME\":\".\",\"TYPE\":41,\"CLASS\":1,\"TTL\":65536,\"RDATAHEX\":\"\"}"; gives = taken }
+    ∷ record { text = textWith "0" "0" "0" "2" "" "" "{\"NAME\":\".\",\"TYPE\":41,\"CLASS\":1,\"TTL\":0,\"RDATAHEX\":\"\"},{\"NAME\":\".\",\"TYPE\":41,\"CLASS\":1,\"TTL\":0,\"RDATAHEX\":\"\"}"; gives = taken }
+    -- options: order, repetition
+    ∷ record { text = textWith "0" "0" "0" "1" "" "" "{\"EDNS\":{\"Version\":0,\"FLAGS\":[],\"RCODE\":\"NoError\",\"UDPSIZE\":1232,\"NSID\":{\"HEX\":\"00\"},\"EXPIRE\":\"NONE\"}}"; gives = taken }
+    ∷ record { text = textWith "0" "0" "0" "1" "" "" "{\"EDNS\":{\"Version\":0,\"FLAGS\":[],\"RCODE\":\"NoError\",\"UDPSIZE\":1232,\"EXPIRE\":\"NONE\",\"NSID\":{\"HEX\":\"00\"}}}"; gives = refuses 21 0 }
+    ∷ record { text = textWith "0" "0" "0" "1" "" "" "{\"EDNS\":{\"Version\":0,\"FLAGS\":[],\"RCODE\":\"NoError\",\"UDPSIZE\":1232,\"EXPIRE\":\"NONE\",\"EXPIRE\":\"NONE\"}}"; gives = refuses 21 0 }
+    -- `OPTn`: a leading zero, out of range, with its row's shape, without it, without a row
+    ∷ record { text = textWith "0" "0" "0" "1" "" "" "{\"EDNS\":{\"Version\":0,\"FLAGS\":[],\"RCODE\":\"NoError\",\"UDPSIZE\":1232,\"OPT05\":\"\"}}"; gives = refuses 20 0 }
+    ∷ record { text = textWith "0" "0" "0" "1" "" "" "{\"EDNS\":{\"Version\":0,\"FLAGS\":[],\"RCODE\":\"NoError\",\"UDPSIZE\":1232,\"OPT65536\":\"\"}}"; gives = refuses 21 0 }
+    ∷ record { text = textWith "0" "0" "0" "1" "" "" "{\"EDNS\":{\"Version\":0,\"FLAGS\":[],\"RCODE\":\"NoError\",\"UDPSIZE\":1232,\"OPT3\":\"\"}}"; gives = refuses 21 0 }
+    ∷ record { text = textWith "0" "0" "0" "1" "" "" "{\"EDNS\":{\"Version\":0,\"FLAGS\":[],\"RCODE\":\"NoError\",\"UDPSIZE\":1232,\"OPT9\":\"00\"}}"; gives = taken }
+    ∷ record { text = textWith "0" "0" "0" "1" "" "" "{\"EDNS\":{\"Version\":0,\"FLAGS\":[],\"RCODE\":\"NoError\",\"UDPSIZE\":1232,\"OPT65535\":\"\"}}"; gives = taken }
+    -- EXPIRE, COOKIE, EDE
+    ∷ record { text = textWith "0" "0" "0" "1" "" "" "{\"EDNS\":{\"Version\":0,\"FLAGS\":[],\"RCODE\":\"NoError\",\"UDPSIZE\":1232,\"EXPIRE\":\"none\"}}"; gives = refuses 20 0 }
+    ∷ record { text = textWith "0" "0" "0" "1" "" "" "{\"EDNS\":{\"Version\":0,\"FLAGS\":[],\"RCODE\":\"NoError\",\"UDPSIZE\":1232,\"EXPIRE\":4294967296}}"; gives = refuses 21 0 }
+    ∷ record { text = textWith "0" "0" "0" "1" "" "" "{\"EDNS\":{\"Version\":0,\"FLAGS\":[],\"RCODE\":\"NoError\",\"UDPSIZE\":1232,\"COOKIE\":[]}}"; gives = refuses 21 0 }
+    ∷ record { text = textWith "0" "0" "0" "1" "" "" "{\"EDNS\":{\"Version\":0,\"FLAGS\":[],\"RCODE\":\"NoError\",\"UDPSIZE\":1232,\"COOKIE\":[\"0000000000000000\"]}}"; gives = taken }
+    ∷ record { text = textWith "0" "0" "0" "1" "" "" "{\"EDNS\":{\"Version\":0,\"FLAGS\":[],\"RCODE\":\"NoError\",\"UDPSIZE\":1232,\"EDE\":{\"CODE\":1,\"TEXT\":\"\"}}}"; gives = refuses 21 0 }
+    ∷ record { text = textWith "0" "0" "0" "1" "" "" "{\"EDNS\":{\"Version\":0,\"FLAGS\":[],\"RCODE\":\"NoError\",\"UDPSIZE\":1232,\"EDE\":{\"CODE\":1,\"TEXT\":\"\\\"\\\\\"}}}"; gives = taken }
+    ∷ record { text = textWith "0" "0" "0" "1" "" "" "{\"EDNS\":{\"Version\":0,\"FLAGS\":[],\"RCODE\":\"NoError\",\"UDPSIZE\":1232,\"EDE\":{\"CODE\":1,\"TEXT\":\"\\n\"}}}"; gives = refuses 20 0 }
+    -- PADDING: HEX all zero, not all zero, a LENGTH that disagrees, LENGTH alone, over 65,535
+    ∷ record { text = textWith "0" "0" "0" "1" "" "" "{\"EDNS\":{\"Version\":0,\"FLAGS\":[],\"RCODE\":\"NoError\",\"UDPSIZE\":1232,\"PADDING\":{\"LENGTH\":2,\"HEX\":\"0000\"}}}"; gives = refuses 21 0 }
+    ∷ record { text = textWith "0" "0" "0" "1" "" "" "{\"EDNS\":{\"Version\":0,\"FLAGS\":[],\"RCODE\":\"NoError\",\"UDPSIZE\":1232,\"PADDING\":{\"LENGTH\":0,\"HEX\":\"\"}}}"; gives = refuses 21 0 }
+    ∷ record { text = textWith "0" "0" "0" "1" "" "" "{\"EDNS\":{\"Version\":0,\"FLAGS\":[],\"RCODE\":\"NoError\",\"UDPSIZE\":1232,\"PADDING\":{\"LENGTH\":2,\"HEX\":\"0001\"}}}"; gives = taken }
+    ∷ record { text = textWith "0" "0" "0" "1" "" "" "{\"EDNS\":{\"Version\":0,\"FLAGS\":[],\"RCODE\":\"NoError\",\"UDPSIZE\":1232,\"PADDING\":{\"LENGTH\":3,\"HEX\":\"0001\"}}}"; gives = refuses 21 0 }
+    ∷ record { text = textWith "0" "0" "0" "1" "" "" "{\"EDNS\":{\"Version\":0,\"FLAGS\":[],\"RCODE\":\"NoError\",\"UDPSIZE\":1232,\"PADDING\":{\"LENGTH\":2}}}"; gives = taken }
+    ∷ record { text = textWith "0" "0" "0" "1" "" "" "{\"EDNS\":{\"Version\":0,\"FLAGS\":[],\"RCODE\":\"NoError\",\"UDPSIZE\":1232,\"PADDING\":{\"LENGTH\":65536}}}"; gives = refuses 22 0 }
+    ∷ []
+
+-- every row, computed
+pub readings-hold : map (λ (r : Reading). outcome (reading (r .text))) readings ≡ map (λ (r : Reading). r .gives) readings
+unfolding readings parse document head natural positive question entry name label spelledOctet spelledAt escape ddd leads? coded-from? coded? plain? signedNumber hex unhex string stringChar stringAt bare? printable? quoted itemCodec ednsElement optionMembers member knownMember otherMember value expiryNumber tried members rows flags rcodes formOf lookup textOf decimal spelled stringOctet hexText reading meaning documentView itemRecord itemEdns itemAdditional unsigned agrees? counts? ttl? ednsItem? item? view? additionals? additional? settled? opt-entry? edns? option? header? question? record? name? label? nameForm fits? walk nameFrom layouts layoutOf pieces rdataAt rising? divided optionsOf ednsOf key? shape words value? member? optionOf octetsOf within? small-rdata? small-option? small-options? messageOf recordOf ednsRecord optionForm forms form headerForm questionForm recordForm
+readings-hold = refl

@@ -1,0 +1,324 @@
+-- The parser of the grammar: it takes the texts of the documents in the grammar, and no other.
+-- Assumes nothing.
+use mathlib.Core.Path.{_≡_, refl, sym}
+use mathlib.Core.Logic.{_↔_, _⊎_, inl, inr}
+use mathlib.Core.Bool.{Bool, true, false, cond}
+use mathlib.Core.Option.{Option, none, some}
+use mathlib.Core.List.{List, [], _∷_, _++_, append-assoc, nil≢cons, tail-eq-of-cons-eq}
+use Prim.Native.Nat.{ℕ}
+use Prim.Native.String.{String}
+use lib.Dec.{T, eqb}
+use Rattle.octets.specs.Lists.{ascii, all, All, ended, key?, textOf}
+use Rattle.octets.specs.Bits.{and-left, and-right}
+use Rattle.octets.specs.Parsed.{Parsed, took, stuck, missed}
+use Rattle.octets.specs.Codec.{Avoids, Any, Codec, fronts, unique, whole, whole-exact, whole-ends, joined, on, titled, weaken, ranged, only, many, array, pair-by}
+use Rattle.octets.specs.Codec.{tried, apart?, apart-texts, distinct, table, _▷_, _◁_, _⊗_}
+use Rattle.octets.specs.Decimal.{decimal, NoDigit, natural, number, number-avoids, decimal-avoids, till}
+use Rattle.octets.specs.Hexadecimal.{hexText, unhex, hex}
+use Rattle.records.specs.Message.{Header}
+use Rattle.json.specs.Spelling.{plain?, stringText}
+use Rattle.json.specs.Options.{rows, members, Form, hexObject, octetList, expiry, hexList, word, padding, wordList, extendedError, unlisted, formOf, Value}
+use Rattle.json.specs.Options.{paddingTail, errorTail, expiryText, valueText, Member, known, other, memberText}
+use Rattle.json.specs.View.{rcodes}
+use Rattle.json.specs.Document.{RecordItem, EdnsItem, Item, ordinary, edns, Document, questionText, recordText, flags, ednsText, itemText, headText, documentText}
+use Rattle.strict.specs.Grammar.{Number, QuestionIn, RecordIn, Maybe, ValueIn, MemberIn, EdnsIn, ItemIn, DocumentIn}
+use Rattle.strict.specs.Spelt.{made, kinds, coded?, coded-from?, leads?, ddd, escape, spelledAt, spelledOctet, label, name, signedNumber, string}
+
+-- ---- values of options
+-- a text that ends by itself may stand before anything
+abbrev pub free : {A : Type 0} {I : A → Type 0} {f : A → List ℕ} {F : List ℕ → Type 0} → Codec I f Any → Codec I f F
+free p = weaken (λ r m. tt) p
+
+-- a part that may be missing, and a fixed text in its place
+abbrev pub maybeText : {A : Type 0} → String → (A → List ℕ) → Option A → List ℕ
+maybeText l f none = ascii l
+maybeText l f (some a) = f a
+
+abbrev presence : {A : Type 0} → Option A → Unit {0} ⊎ A
+presence none = inl tt
+presence (some a) = inr a
+
+abbrev pub maybe : {A : Type 0} {I : A → Type 0} {f : A → List ℕ} {F : List ℕ → Type 0} (l : String) → Codec I f F
+    → ((a : A) (r s : List ℕ) → I a → ascii l ++ r ≡ f a ++ s → ⊥) → Codec (Maybe I) (maybeText l f) F
+maybe {A} l p apart = kinds (λ u. none) some presence whole (λ u. refl) (λ a. refl)
+    (ranged (λ u. (λ h. refl, λ h. tt)) (free (only tt l))) p (λ u a r s h k e. apart a r s k e)
+  where
+    whole : (n : Option A) → made (λ u. none) some (presence n) ≡ n
+    whole none = refl
+    whole (some a) = refl
+
+-- `"NONE"` or a number
+unfoldable pub expiryNumber : Codec (Maybe Number) expiryText NoDigit
+expiryNumber = titled same (maybe "\"NONE\"" number (λ a r s h e. decimal-avoids 34 tt a s _ (sym e)))
+  where
+    same : (n : Option ℕ) → expiryText n ≡ maybeText "\"NONE\"" decimal n
+    same none = refl
+    same (some n) = refl
+
+-- the end of an object: its brace, or one more member and the brace
+abbrev pub endText : {A : Type 0} → String → (A → List ℕ) → Option A → List ℕ
+endText l f = maybeText "}" (λ a. ascii "," ++ (ascii l ++ (f a ++ ascii "}")))
+
+-- a number and such an end
+abbrev pub numbered : {A : Type 0} {I : A → Type 0} {f : A → List ℕ} {g : Option A → List ℕ} (l : String) → ((n : Option A) → g n ≡ endText l f n)
+    → Codec I f Any → Codec {A = ℕ × Option A} (λ u. Number (u .0) × Maybe I (u .1)) (λ u. decimal (u .0) ++ g (u .1)) Any
+numbered {A} {f} l same p =
+    joined number (titled same (maybe "}" ("," ▷ l ▷ p ◁ "}") (λ a r s h e. fronts tt e))) (λ n r h m. rw (same n) (fits n r))
+  where
+    fits : (n : Option A) (r : List ℕ) → NoDigit (endText l f n ++ r)
+    fits none r = tt
+    fits (some a) r = tt
+
+pub padding-same : (n : Option (List ℕ)) → paddingTail n ≡ endText "\"HEX\":\"" hexText n
+padding-same none = refl
+padding-same (some l) = refl
+
+pub error-same : (n : Option (List ℕ)) → errorTail n ≡ endText "\"TEXT\":\"" stringText n
+error-same none = refl
+error-same (some l) = refl
+
+-- a value of each form
+unfoldable pub value : (form : Form) → Codec (ValueIn form) (valueText form) NoDigit
+unfolding valueText
+value hexObject = free ("{\"HEX\":\"" ▷ hex ◁ "}")
+value octetList = free (array (number-avoids 93 tt) (λ r. tt) (λ r. tt) number)
+value expiry = expiryNumber
+value hexList = free (array (λ a r s h e. fronts tt e) (λ r. tt) (λ r. tt) ("\"" ▷ hex))
+value word = number
+value padding = free ("{\"LENGTH\":" ▷ numbered "\"HEX\":\"" padding-same hex)
+value wordList = free (array (number-avoids 93 tt) (λ r. tt) (λ r. tt) number)
+value extendedError = free ("{\"CODE\":" ▷ numbered "\"TEXT\":\"" error-same string)
+value unlisted = record { parse = λ t. stuck t; back = λ u r h m. absurd h; sound = λ t. missed t }
+
+-- ---- members of options
+-- the names of the table tell the codes
+pub members-distinct : T (distinct members)
+unfolding members rows
+members-distinct = tt
+
+-- a text apart from that of every row is apart from that of every key
+row-apart : (l : List ℕ) (table : List (ℕ × String)) (n : ℕ) → T (all (λ row. apart? (ascii (row .1)) l) table) → T (key? n table) → T (apart? (textOf n table) l)
+unfolding key? textOf
+row-apart l [] n h k = absurd k
+row-apart l (row ∷ table) n h k = go (eqb (row .0) n) k (row-apart l table n (and-right (apart? (ascii (row .1)) l) _ h))
+  where
+    go : (b : Bool) → T (cond b true (key? n table)) → (T (key? n table) → T (apart? (textOf n table) l)) → T (apart? (cond b (ascii (row .1)) (textOf n table)) l)
+    go true k f = and-left (apart? (ascii (row .1)) l) _ h
+    go false k f = f k
+
+-- no member of the table begins as `OPT`
+pub member-apart : (code : ℕ) (r s : List ℕ) → T (key? code members) → textOf code members ++ r ≡ ascii "OPT" ++ s → ⊥
+unfolding members rows
+member-apart code r s h = apart-texts (textOf code members) (ascii "OPT") r s (row-apart (ascii "OPT") members code tt h)
+
+-- a member of the table, whose code tells the form of its value
+unfoldable pub knownMember : Codec {A = (code : ℕ) × Value (formOf code)} (λ u. MemberIn (known (u .0) (u .1))) (λ u. memberText (known (u .0) (u .1))) NoDigit
+unfolding memberText
+knownMember = pair-by ("\"" ▷ table members members-distinct ◁ "\":") (λ code. value (formOf code))
+
+-- `OPTn` and hex
+unfoldable pub otherMember : Codec {A = ℕ × List ℕ} (λ u. MemberIn (other (u .0) (u .1))) (λ u. memberText (other (u .0) (u .1))) NoDigit
+unfolding memberText
+otherMember = titled (λ u. simp append-assoc) (free ("\"OPT" ▷ till "\":\"" tt number ⊗ hex))
+
+-- the two never begin alike
+pub members-apart : (u : (code : ℕ) × Value (formOf code)) (v : ℕ × List ℕ) (r s : List ℕ) → T (key? (u .0) members)
+    → memberText (known (u .0) (u .1)) ++ r ≡ memberText (other (v .0) (v .1)) ++ s → ⊥
+unfolding memberText
+members-apart u v r s h e = member-apart (u .0) _ _ h (tail-eq-of-cons-eq (simp append-assoc at e))
+
+abbrev memberKind : Member → ((code : ℕ) × Value (formOf code)) ⊎ (ℕ × List ℕ)
+memberKind (known code v) = inl (code, v)
+memberKind (other n hex) = inr (n, hex)
+
+unfoldable pub member : Codec MemberIn memberText NoDigit
+member = kinds (λ u. known (u .0) (u .1)) (λ u. other (u .0) (u .1)) memberKind whole (λ u. refl) (λ u. refl) knownMember otherMember
+    (λ u v r s h k e. members-apart u v r s (h .0) e)
+  where
+    whole : (m : Member) → made (λ u. known (u .0) (u .1)) (λ u. other (u .0) (u .1)) (memberKind m) ≡ m
+    whole (known code v) = refl
+    whole (other n hex) = refl
+
+-- ---- questions and records
+unfoldable pub question : Codec QuestionIn questionText Any
+unfolding questionText
+question = titled (λ q. simp append-assoc) (on (λ q. (q .name, (q .type, q .class)))
+    (λ (n, (t, c)). record { name = n; type = t; class = c }) (λ q h. (h, refl)) (λ q h. (h, refl))
+    ("{\"NAME\":\"" ▷ name
+    ⊗ ",\"TYPE\":" ▷ till ",\"CLASS\":" tt number
+    ⊗ till "}" tt number))
+
+unfoldable pub entry : Codec RecordIn recordText Any
+unfolding recordText
+entry = titled (λ r. simp append-assoc) (on (λ r. (r .name, (r .type, (r .class, (r .ttl, r .rdata)))))
+    (λ (n, (t, (c, (l, d)))). record { name = n; type = t; class = c; ttl = l; rdata = d }) (λ r h. (h, refl)) (λ r h. (h, refl))
+    ("{\"NAME\":\"" ▷ name
+    ⊗ ",\"TYPE\":" ▷ till ",\"CLASS\":" tt number
+    ⊗ till ",\"TTL\":" tt number
+    ⊗ till ",\"RDATAHEX\":\"" tt signedNumber
+    ⊗ hex ◁ "}"))
+
+-- ---- the EDNS element
+pub flags-distinct : T (distinct flags)
+unfolding flags
+flags-distinct = tt
+
+pub rcodes-distinct : T (distinct rcodes)
+unfolding rcodes
+rcodes-distinct = tt
+
+-- the members behind UDPSIZE, none of which begins with a digit, and the end of both objects
+abbrev pub optionsText : List Member → List ℕ
+optionsText o = ended (λ m. ascii "," ++ memberText m) 125 o ++ ascii "}"
+
+pub options-fit : (o : List Member) (r : List ℕ) → NoDigit (optionsText o ++ r)
+options-fit [] r = tt
+options-fit (m ∷ o) r = tt
+
+unfoldable pub optionMembers : Codec (All MemberIn) optionsText Any
+optionMembers = many (λ a r s h e. fronts tt e) (λ r. tt) (λ b r h. tt) ("," ▷ member) ◁ "}"
+
+-- the whole element
+unfoldable pub ednsElement : Codec EdnsIn ednsText Any
+unfolding ednsText
+ednsElement = titled (λ e. simp append-assoc) (on (λ e. (e .version, (e .flags, (e .rcode, (e .size, e .options)))))
+    (λ (v, (f, (c, (s, o)))). record { version = v; flags = f; rcode = c; size = s; options = o }) (λ e h. (h, refl)) (λ e h. (h, refl))
+    ("{\"EDNS\":{\"Version\":" ▷ till ",\"FLAGS\":" tt number
+    ⊗ table flags flags-distinct
+    ⊗ ",\"RCODE\":\"" ▷ table rcodes rcodes-distinct ◁ "\",\"UDPSIZE\":"
+    ⊗ joined number optionMembers (λ o r h m. options-fit o r)))
+
+-- ---- elements of `additionalRRs`
+-- the two kinds differ at the third octet
+pub item-apart : (a : RecordItem) (b : EdnsItem) (r s : List ℕ) → recordText a ++ r ≡ ednsText b ++ s → ⊥
+unfolding recordText ednsText
+item-apart a b r s e = apart-texts (ascii "{\"NAME\":\"") (ascii "{\"EDNS\":{\"Version\":") _ _ tt (simp append-assoc at e)
+
+abbrev itemKind : Item → RecordItem ⊎ EdnsItem
+itemKind (ordinary r) = inl r
+itemKind (edns e) = inr e
+
+unfoldable pub itemCodec : Codec ItemIn itemText Any
+unfolding itemText
+itemCodec = kinds ordinary edns itemKind whole (λ r. refl) (λ e. refl) entry ednsElement (λ a b r s h k e. item-apart a b r s e)
+  where
+    whole : (i : Item) → made ordinary edns (itemKind i) ≡ i
+    whole (ordinary r) = refl
+    whole (edns e) = refl
+
+-- no element begins as the end of an array
+pub question-avoids : Avoids QuestionIn questionText 93
+unfolding questionText
+question-avoids q r s h e = fronts tt e
+
+pub entry-avoids : Avoids RecordIn recordText 93
+unfolding recordText
+entry-avoids a r s h e = fronts tt e
+
+pub item-avoids : Avoids ItemIn itemText 93
+unfolding itemText recordText ednsText
+item-avoids (ordinary a) r s h e = fronts tt e
+item-avoids (edns a) r s h e = fronts tt e
+
+-- ---- the document
+-- the header and the counts, and a document with nothing else
+abbrev pub Head : Type 0
+Head = Header × (ℕ × (ℕ × (ℕ × ℕ)))
+
+abbrev pub bareDocument : Head → Document
+bareDocument (h, (qn, (an, (nn, rn)))) = record { header = h; qdcount = qn; ancount = an; nscount = nn; arcount = rn; questions = []; answers = []; authority = []; additional = [] }
+
+abbrev pub headOf : Document → Head
+headOf d = (d .header, (d .qdcount, (d .ancount, (d .nscount, d .arcount))))
+
+-- the 14 numbers, up to the last digit
+unfoldable pub head : Codec {A = Head} (λ h. Unit {0}) (λ h. headText (bareDocument h)) NoDigit
+unfolding headText
+head = titled (λ h. simp append-assoc) (on
+    (λ (h, (qn, (an, (nn, rn)))). (h .id, (h .qr, (h .opcode, (h .aa, (h .tc, (h .rd, (h .ra, (h .ad, (h .cd, (h .rcode, (qn, (an, (nn, rn))))))))))))))
+    (λ (id, (qr, (opcode, (aa, (tc, (rd, (ra, (ad, (cd, (rcode, n)))))))))). (record { id = id; qr = qr; opcode = opcode; aa = aa; tc = tc; rd = rd; ra = ra; ad = ad; cd = cd; rcode = rcode }, n))
+    (λ h i. ((tt, (tt, (tt, (tt, (tt, (tt, (tt, (tt, (tt, (tt, (tt, (tt, (tt, tt))))))))))))), refl))
+    (λ u i. (tt, refl))
+    ("{\"ID\":" ▷ till ",\"QR\":" tt number
+    ⊗ till ",\"Opcode\":" tt number
+    ⊗ till ",\"AA\":" tt number
+    ⊗ till ",\"TC\":" tt number
+    ⊗ till ",\"RD\":" tt number
+    ⊗ till ",\"RA\":" tt number
+    ⊗ till ",\"AD\":" tt number
+    ⊗ till ",\"CD\":" tt number
+    ⊗ till ",\"RCODE\":" tt number
+    ⊗ till ",\"QDCOUNT\":" tt number
+    ⊗ till ",\"ANCOUNT\":" tt number
+    ⊗ till ",\"NSCOUNT\":" tt number
+    ⊗ till ",\"ARCOUNT\":" tt number
+    ⊗ number))
+
+-- the text of a document's head is that of its header and counts alone
+pub head-same : (d : Document) → headText d ≡ headText (bareDocument (headOf d))
+unfolding headText
+head-same d = refl
+
+-- the head and the four arrays
+unfoldable pub document : Codec DocumentIn documentText Any
+unfolding documentText
+document = titled (λ d. rw (head-same d) (simp append-assoc)) (on
+    (λ d. (headOf d, (d .questions, (d .answers, (d .authority, d .additional)))))
+    (λ ((h, (qn, (an, (nn, rn)))), (qs, (ans, (auth, add)))).
+    record { header = h; qdcount = qn; ancount = an; nscount = nn; arcount = rn; questions = qs; answers = ans; authority = auth; additional = add })
+    (λ d h. ((tt, h), refl)) (λ u h. (h .1, refl))
+    (joined head
+    (",\"questionRRs\":" ▷ array question-avoids (λ r. tt) (λ r. tt) question
+    ⊗ ",\"answerRRs\":" ▷ array entry-avoids (λ r. tt) (λ r. tt) entry
+    ⊗ ",\"authorityRRs\":" ▷ array entry-avoids (λ r. tt) (λ r. tt) entry
+    ⊗ ",\"additionalRRs\":" ▷ array item-avoids (λ r. tt) (λ r. tt) itemCodec ◁ "}")
+    (λ u r h m. tt)))
+
+-- ---- what follows
+-- a whole text
+unfoldable pub parse : List ℕ → Parsed Document
+parse = whole document
+
+pub parse-exact : (t : List ℕ) (d : Document) → (parse t ≡ took d []) ↔ (DocumentIn d × (documentText d ≡ t))
+unfolding parse
+parse-exact = whole-exact document tt
+
+pub parse-ends : (t : List ℕ) (d : Document) (r : List ℕ) → parse t ≡ took d r → r ≡ []
+unfolding parse
+parse-ends = whole-ends document
+
+-- a document's text and what stands behind it tell the document
+pub document-unique : (d e : Document) (r s : List ℕ) → DocumentIn d → DocumentIn e → documentText d ++ r ≡ documentText e ++ s → (d ≡ e) × (r ≡ s)
+document-unique d e r s h k = unique document d e r s h k tt tt
+
+-- it is not empty
+pub document-filled : (d : Document) → documentText d ≡ [] → ⊥
+unfolding documentText headText
+document-filled d e = nil≢cons (sym e)
+
+-- ---- where the parser stops, computed
+-- at the digit behind a 0
+leading-zero : parse (ascii "{\"ID\":01,\"QR\":0") ≡ stuck (ascii "1,\"QR\":0")
+unfolding parse document head natural
+leading-zero = refl
+
+-- at the second digit where none of 40 to 49 is written in digits, and at the third of a number past 255
+escaped-plain : (name .parse (ascii "a\\\\046.\"") ≡ stuck (ascii "46.\""))
+    × (name .parse (ascii "a\\\\256.\"") ≡ stuck (ascii "6.\""))
+unfolding name label spelledOctet spelledAt escape ddd leads? coded-from? coded? plain?
+escaped-plain = (refl, refl)
+
+-- at the second digit of an option's number that begins with 0
+option-zero : member .parse (ascii "\"OPT05\":\"\"") ≡ stuck (ascii "5\":\"\"")
+unfolding member knownMember otherMember natural tried members rows
+option-zero = refl
+
+-- at the first octet that no member's name has there
+member-unknown : member .parse (ascii "\"NSIX\":1") ≡ stuck (ascii "X\":1")
+unfolding member knownMember otherMember natural tried members rows
+member-unknown = refl
+
+-- at the quote where a second digit should be
+hex-odd : hex .parse (ascii "0A1\"}") ≡ stuck (ascii "\"}")
+unfolding hex unhex
+hex-odd = refl
