@@ -3,13 +3,13 @@ use mathlib.Core.Path.{_≡_, refl}
 use mathlib.Core.List.{List, [], _∷_, map}
 use Prim.Native.Nat.{ℕ}
 use Prim.Native.String.{String}
-use Rattle.octets.specs.Lists.{hexed, lookup, key?, textOf}
+use Rattle.octets.specs.Lists.{hexed, lookup, key?, textOf, each}
 use Rattle.octets.specs.Decimal.{decimal}
 use Rattle.octets.specs.Hexadecimal.{hexText}
 use Rattle.names.specs.Name.{nameForm}
 use Rattle.names.specs.Walk.{walk, nameFrom}
 use Rattle.records.specs.Layout.{layouts, layoutOf, pieces, rdataAt}
-use Rattle.records.specs.Message.{questionForm, recordForm, forms, headerForm, form}
+use Rattle.records.specs.Message.{questionForm, recordForm, headerForm, form}
 use Rattle.records.specs.Read.{unfit, questionAt, recordAt, sectionAt, sectionFrom}
 use Rattle.records.specs.Decode.{headerOf, sectionsOf, messageOf, decode}
 use Rattle.json.specs.Spelling.{plain?, spelled, labelText, nameText, signedText, printable?, stringOctet, stringText}
@@ -74,5 +74,5 @@ examples =
 
 -- every example, computed
 pub examples-hold : map (λ (e : Example). converted (hexed (e .message))) examples ≡ map (λ (e : Example). e .gives) examples
-unfolding examples lookup key? textOf decimal hexText nameForm walk nameFrom layouts layoutOf pieces rdataAt questionForm recordForm forms headerForm form unfit questionAt recordAt sectionAt sectionFrom headerOf sectionsOf messageOf decode plain? spelled labelText nameText signedText printable? stringOctet stringText rows members formOf valueText words shape memberOf memberText optionForm divided optionsOf rising? rcodes ednsOf additionalOf viewOf questionText recordText flags ednsText itemText headText documentText signed recordItem ednsItem item documentOf viewText text converted toText
+unfolding examples lookup key? textOf decimal hexText nameForm walk nameFrom layouts layoutOf pieces rdataAt questionForm recordForm each headerForm form unfit questionAt recordAt sectionAt sectionFrom headerOf sectionsOf messageOf decode plain? spelled labelText nameText signedText printable? stringOctet stringText rows members formOf valueText words shape memberOf memberText optionForm divided optionsOf rising? rcodes ednsOf additionalOf viewOf questionText recordText flags ednsText itemText headText documentText signed recordItem ednsItem item documentOf viewText text converted toText
 examples-hold = refl

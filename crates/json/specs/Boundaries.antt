@@ -5,12 +5,12 @@ use mathlib.Core.List.{List, [], _∷_, _++_, map}
 use Prim.Native.Nat.{ℕ}
 use Prim.Native.String.{String}
 use lib.ListN.{length, replicate}
-use Rattle.octets.specs.Lists.{hexed, lookup, key?}
+use Rattle.octets.specs.Lists.{hexed, lookup, key?, each}
 use Rattle.octets.specs.Fields.{two}
 use Rattle.names.specs.Name.{nameForm}
 use Rattle.names.specs.Walk.{walk, nameFrom}
 use Rattle.records.specs.Layout.{layouts, layoutOf, pieces, rdataAt}
-use Rattle.records.specs.Message.{questionForm, recordForm, forms, headerForm, form}
+use Rattle.records.specs.Message.{questionForm, recordForm, headerForm, form}
 use Rattle.records.specs.Read.{unfit, questionAt, recordAt, sectionAt, sectionFrom}
 use Rattle.records.specs.Decode.{headerOf, sectionsOf, messageOf, Decoded, accepted, refused, decode}
 use Rattle.json.specs.Spelling.{printable?}
@@ -67,7 +67,7 @@ conditions =
     ∷ []
 
 pub conditions-hold : map (λ (c : Condition). elements (decode (c .message))) conditions ≡ map (λ (c : Condition). c .shows) conditions
-unfolding conditions lookup key? nameForm walk nameFrom layouts layoutOf pieces rdataAt questionForm recordForm forms headerForm form unfit questionAt recordAt sectionAt sectionFrom headerOf sectionsOf messageOf decode rising? divided optionsOf rcodes ednsOf additionalOf viewOf
+unfolding conditions lookup key? nameForm walk nameFrom layouts layoutOf pieces rdataAt questionForm recordForm each headerForm form unfit questionAt recordAt sectionAt sectionFrom headerOf sectionsOf messageOf decode rising? divided optionsOf rcodes ednsOf additionalOf viewOf
 conditions-hold = refl
 
 -- ---- the shapes of option values: whether an option of this code and value takes its row's form

@@ -7,9 +7,9 @@ use Prim.Native.Nat.{ℕ, zero, suc, _+_, _*_, _/_, _%_}
 use Prim.Native.String.{String}
 use lib.Dec.{leb, ltb, eqb}
 use lib.ListN.{length, take, drop}
-use Rattle.octets.specs.Lists.{all, count, none?, octet?, word?, key?}
+use Rattle.octets.specs.Lists.{all, count, none?, octet?, word?, key?, each}
 use Rattle.octets.specs.Fields.{two, twoAt}
-use Rattle.records.specs.Message.{Header, Question, Record, Message, forms, bit?, header?, question?, record?, section?}
+use Rattle.records.specs.Message.{Header, Question, Record, Message, bit?, header?, question?, record?, section?}
 use Rattle.json.specs.Options.{EdnsOption, absent?}
 
 -- ---- options in RDATA
@@ -94,7 +94,7 @@ ednsOf rcode r =
 
 -- the record of an EDNS element
 unfoldable pub ednsRecord : Edns → Record
-ednsRecord e = record { name = []; type = 41; class = e .size; ttl = e .extended * 16777216 + e .dnssecOk * 32768; rdata = forms optionForm (e .options) }
+ednsRecord e = record { name = []; type = 41; class = e .size; ttl = e .extended * 16777216 + e .dnssecOk * 32768; rdata = each optionForm (e .options) }
 
 -- ---- views
 -- an entry of the additional section

@@ -9,14 +9,14 @@ use borrow.Author.Tests.{le-leb, lt-ltb, eq-eqb, leb-true, eqb-true}
 use lib.Dec.{T, leb, eqb, leb→le, le→leb, ltb→lt, lt→ltb, eqb→eq}
 use lib.ListN.{length, getD, take, drop, length-append, length-drop, take-append-drop}
 use lib.Seq.{drop-drop, take-append-seam, drop-append-seam, length-take-le}
-use Rattle.octets.specs.Lists.{all, All, count, none?, octet?, Octets, word?, long?, lookup, key?}
+use Rattle.octets.specs.Lists.{all, All, count, none?, octet?, Octets, word?, long?, lookup, key?, each}
 use Rattle.octets.specs.Bits.{is-true, both, and-left, and-right, all→All, All-append, octets-in, octets-test}
 use Rattle.octets.specs.Fields.{two, four, twoAt, two-back, getD-octet, twoAt-word, two-octets}
 use Rattle.names.specs.Name.{nameForm, name?}
 use Rattle.names.specs.NameLaws.{drop-octets, take-octets, drop-one}
 use Rattle.names.specs.Walk.{part}
 use Rattle.records.specs.Layout.{layoutOf, layouts, laid, laid?, rdataAt, fits?}
-use Rattle.records.specs.Message.{Header, Question, Record, Message, forms, headerForm, questionForm, recordForm, form, bit?, header?, question?, record?, section?, valid?}
+use Rattle.records.specs.Message.{Header, Question, Record, Message, headerForm, questionForm, recordForm, form, bit?, header?, question?, record?, section?, valid?}
 use Rattle.json.specs.Options.{EdnsOption, absent?}
 use Rattle.json.specs.View.{optionForm, prepend, divided, optionsOf, rising?, rcodes, Edns, fullRcode, ednsOf, ednsRecord, Additional, ordinary, edns, View, opt?, element, recognised, additionalOf, viewOf, recordOf, messageOf, option?, edns?, additional?, opt-entry?, settled?, additionals?, view?}
 use Rattle.json.specs.Limits.{small?, small-rdata?, small-option?, small-options?, within?}
@@ -44,19 +44,19 @@ unfolding optionForm
 option-long o = omega arith
 
 -- a list of options is divided into itself, if there is a step for each and one more
-divided-back : (n : ℕ) (l : List EdnsOption) → length (forms optionForm l) < n → All (λ o. (o .code < 65536) × (length (o .value) < 65536)) l
-    → divided n (forms optionForm l) ≡ some l
-unfolding forms
+divided-back : (n : ℕ) (l : List EdnsOption) → length (each optionForm l) < n → All (λ o. (o .code < 65536) × (length (o .value) < 65536)) l
+    → divided n (each optionForm l) ≡ some l
+unfolding each
 divided-back zero l m h = absurd (omega arith)
 divided-back (suc n) [] m h = divided-end n
 divided-back (suc n) (o ∷ l) m h =
-    let long = length-append (optionForm o) (forms optionForm l) in
-    divided-step n o (forms optionForm l) (h .0 .0) (h .0 .1)
+    let long = length-append (optionForm o) (each optionForm l) in
+    divided-step n o (each optionForm l) (h .0 .0) (h .0 .1)
     ∙ ap (prepend o) (divided-back n l (omega (arith, option-long o)) (h .1))
 
-pub options-back : (l : List EdnsOption) → All (λ o. (o .code < 65536) × (length (o .value) < 65536)) l → optionsOf (forms optionForm l) ≡ some l
+pub options-back : (l : List EdnsOption) → All (λ o. (o .code < 65536) × (length (o .value) < 65536)) l → optionsOf (each optionForm l) ≡ some l
 unfolding optionsOf
-options-back l h = divided-back (suc (length (forms optionForm l))) l (omega arith) h
+options-back l h = divided-back (suc (length (each optionForm l))) l (omega arith) h
 
 -- what is divided: nothing, or an option's octets and what is divided behind them
 data Divides (n : ℕ) (l : List ℕ) : List EdnsOption → Type 0 where
@@ -113,12 +113,12 @@ option-there l o h =
 
 -- octets that are those of a list of options, each in range
 abbrev pub Divided : List ℕ → List EdnsOption → Type 0
-Divided l options = (forms optionForm options ≡ l) × T (all option? options) × T (all small-option? options)
+Divided l options = (each optionForm options ≡ l) × T (all option? options) × T (all small-option? options)
 
 divides-form : (n : ℕ) (l : List ℕ) (options : List EdnsOption) → Octets l
     → ((m : List EdnsOption) → divided n (drop (4 + twoAt l 2) l) ≡ some m → Divided (drop (4 + twoAt l 2) l) m)
     → Divides n l options → Divided l options
-unfolding forms option? small-option?
+unfolding each option? small-option?
 divides-form n l [] o f (ends e) = (sym e, tt, tt)
 divides-form n l (a ∷ options) o f (goes h e) =
     let size = twoAt l 2 in
@@ -330,13 +330,13 @@ opt-fits l = go (eqb (length l) 0)
     go false = tt
 
 -- options in range are octets
-options-octets : (l : List EdnsOption) → T (all option? l) → Octets (forms optionForm l)
-unfolding forms option? optionForm
+options-octets : (l : List EdnsOption) → T (all option? l) → Octets (each optionForm l)
+unfolding each option? optionForm
 options-octets [] h = tt
 options-octets (o ∷ l) h =
     let value = octets-in (o .value) (and-right (word? (o .code)) (all octet? (o .value)) (and-left (option? o) (all option? l) h)) in
     let fixed = All-append (λ x. x < 256) (two (o .code)) (two (length (o .value))) (two-octets (o .code)) (two-octets (length (o .value))) in
-    All-append (λ x. x < 256) (optionForm o) (forms optionForm l) (All-append (λ x. x < 256) (two (o .code) ++ two (length (o .value))) (o .value) fixed value)
+    All-append (λ x. x < 256) (optionForm o) (each optionForm l) (All-append (λ x. x < 256) (two (o .code) ++ two (length (o .value))) (o .value) fixed value)
     (options-octets l (and-right (option? o) (all option? l) h))
 
 -- the record of an element in range is valid
@@ -422,14 +422,14 @@ records-valid l h = all→All record? l (and-right (word? (length l)) (all recor
 
 module _ (rcode : ℕ) (l : List Record) (h : T (section? record? l)) where
   -- the entry of each of them
-  each : (r : Record) → T (record? r) → Entered rcode (count opt? l) r (entryOf rcode (eqb (count opt? l) 1) r)
-  each = entered rcode (count opt? l) (eqb (count opt? l) 1) refl
+  an-entry : (r : Record) → T (record? r) → Entered rcode (count opt? l) r (entryOf rcode (eqb (count opt? l) 1) r)
+  an-entry = entered rcode (count opt? l) (eqb (count opt? l) 1) refl
 
   section-back : map recordOf (additionalOf rcode l) ≡ l
-  section-back = ap (map recordOf) (additional-map rcode l) ∙ map-back (entryOf rcode (eqb (count opt? l) 1)) recordOf (λ r k. each r k .same) l (records-valid l h)
+  section-back = ap (map recordOf) (additional-map rcode l) ∙ map-back (entryOf rcode (eqb (count opt? l) 1)) recordOf (λ r k. an-entry r k .same) l (records-valid l h)
 
   section-small : T (all small-options? (additionalOf rcode l))
-  section-small = rw (additional-map rcode l) (map-all (entryOf rcode (eqb (count opt? l) 1)) small-options? (λ r k. each r k .small) l (records-valid l h))
+  section-small = rw (additional-map rcode l) (map-all (entryOf rcode (eqb (count opt? l) 1)) small-options? (λ r k. an-entry r k .small) l (records-valid l h))
 
   section-view : T (additionals? rcode (additionalOf rcode l))
   unfolding additionals?
@@ -438,9 +438,9 @@ module _ (rcode : ℕ) (l : List Record) (h : T (section? record? l)) where
       let m = map f l in
       let records = records-valid l h in
       let long : T (word? (length m)) = rw (map-long f l) (and-left (word? (length l)) (all record? l) h) in
-      let valid : T (all (additional? rcode) m) = map-all f (additional? rcode) (λ r k. each r k .valid) l records in
+      let valid : T (all (additional? rcode) m) = map-all f (additional? rcode) (λ r k. an-entry r k .valid) l records in
       let settled : T (all (settled? rcode (count opt-entry? m)) m) =
-      rw (map-count f opt? opt-entry? (λ r k. each r k .counted) l records) (map-all f (settled? rcode (count opt? l)) (λ r k. each r k .settled) l records) in
+      rw (map-count f opt? opt-entry? (λ r k. an-entry r k .counted) l records) (map-all f (settled? rcode (count opt? l)) (λ r k. an-entry r k .settled) l records) in
       rw (additional-map rcode l) (both (section? (additional? rcode) m) (all (settled? rcode (count opt-entry? m)) m) (both (word? (length m)) (all (additional? rcode) m) long valid) settled)
 
 -- the record of an entry has TYPE 41 just if the entry says so
@@ -545,11 +545,11 @@ message-valid v h =
 
 -- ---- limits of size
 -- a test that forms up to a length pass, where the forms of a list are no longer than that
-forms-all : {A : Type 0} (f : A → List ℕ) (p : A → Bool) (n : ℕ) → ((a : A) → length (f a) ≤ n → T (p a)) → (l : List A) → length (forms f l) ≤ n → T (all p l)
-unfolding forms
+forms-all : {A : Type 0} (f : A → List ℕ) (p : A → Bool) (n : ℕ) → ((a : A) → length (f a) ≤ n → T (p a)) → (l : List A) → length (each f l) ≤ n → T (all p l)
+unfolding each
 forms-all f p n h [] k = tt
 forms-all f p n h (a ∷ l) k =
-    let long = length-append (f a) (forms f l) in
+    let long = length-append (f a) (each f l) in
     both (p a) (all p l) (h a (omega arith)) (forms-all f p n h l (omega arith))
 
 map-tested : {A B : Type 0} (f : A → B) (p : B → Bool) (q : A → Bool) → ((a : A) → T (p (f a)) → T (q a)) → (l : List A) → T (all p (map f l)) → T (all q l)
@@ -572,17 +572,17 @@ value-part o h = le→leb (length (o .value)) 65535 (omega (arith, option-long o
 options-part : (a : Additional) → T (small-rdata? (recordOf a)) → T (small-options? a)
 unfolding recordOf ednsRecord small-rdata? small-options?
 options-part (ordinary r) h = tt
-options-part (edns e) h = forms-all optionForm small-option? 65535 value-part (e .options) (leb→le (length (forms optionForm (e .options))) 65535 h)
+options-part (edns e) h = forms-all optionForm small-option? 65535 value-part (e .options) (leb→le (length (each optionForm (e .options))) 65535 h)
 
 -- a message within the limit has all its parts within their limits
 pub small-form : (v : View) → T (small? (form (messageOf v))) → T (within? v)
 unfolding within? form messageOf
 small-form v h =
     let m = messageOf v in
-    let a = forms recordForm (m .answers) in
-    let b = forms recordForm (m .authority) in
-    let c = forms recordForm (m .additional) in
-    let front = headerForm m ++ forms questionForm (m .questions) in
+    let a = each recordForm (m .answers) in
+    let b = each recordForm (m .authority) in
+    let c = each recordForm (m .additional) in
+    let front = headerForm m ++ each questionForm (m .questions) in
     let long : length (form m) ≡ length front + length a + length b + length c =
     omega (arith, length-append (front ++ a ++ b) c, length-append (front ++ a) b, length-append front a) in
     let limit : length (form m) ≤ 65535 = leb→le (length (form m)) 65535 h in

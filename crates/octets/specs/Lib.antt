@@ -7,3 +7,5 @@ pub mod Codec
 pub mod Decimal
 pub mod Hexadecimal
 pub mod Answer
+pub mod Overlay
+pub mod Writing

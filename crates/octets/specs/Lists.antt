@@ -75,7 +75,12 @@ unfoldable pub textOf : ℕ → List (ℕ × String) → List ℕ
 textOf n [] = []
 textOf n (row ∷ rows) = cond (eqb (row .0) n) (ascii (row .1)) (textOf n rows)
 
--- texts one after another and an octet behind the last
+-- texts, or other octets, one after another
+unfoldable pub each : {A : Type 0} → (A → List ℕ) → List A → List ℕ
+each f [] = []
+each f (a ∷ l) = f a ++ each f l
+
+-- the same and an octet behind the last
 abbrev pub ended : {A : Type 0} → (A → List ℕ) → ℕ → List A → List ℕ
 ended f stop [] = stop ∷ []
 ended f stop (a ∷ l) = f a ++ ended f stop l

@@ -3,12 +3,12 @@ use mathlib.Core.Path.{_≡_, refl}
 use mathlib.Core.List.{List, [], _∷_, _++_, map}
 use Prim.Native.Nat.{ℕ}
 use lib.ListN.{replicate}
-use Rattle.octets.specs.Lists.{hexed, lookup}
+use Rattle.octets.specs.Lists.{hexed, lookup, each}
 use Rattle.octets.specs.Fields.{two}
 use Rattle.names.specs.Name.{nameForm}
 use Rattle.names.specs.Walk.{walk, nameFrom}
 use Rattle.records.specs.Layout.{layouts, layoutOf, pieces, rdataAt}
-use Rattle.records.specs.Message.{questionForm, recordForm, forms, headerForm, form}
+use Rattle.records.specs.Message.{questionForm, recordForm, headerForm, form}
 use Rattle.records.specs.Read.{unfit, questionAt, recordAt, sectionAt, sectionFrom}
 use Rattle.records.specs.Decode.{headerOf, sectionsOf, messageOf, Decoded, accepted, refused, decode}
 
@@ -91,5 +91,5 @@ boundaries =
 
 -- every row, computed
 pub boundaries-hold : map (λ (b : Boundary). verdict (decode (b .message))) boundaries ≡ map (λ (b : Boundary). b .gives) boundaries
-unfolding boundaries lookup nameForm walk nameFrom layouts layoutOf pieces rdataAt questionForm recordForm forms headerForm form unfit questionAt recordAt sectionAt sectionFrom headerOf sectionsOf messageOf decode
+unfolding boundaries lookup nameForm walk nameFrom layouts layoutOf pieces rdataAt questionForm recordForm each headerForm form unfit questionAt recordAt sectionAt sectionFrom headerOf sectionsOf messageOf decode
 boundaries-hold = refl

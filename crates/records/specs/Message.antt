@@ -4,7 +4,7 @@ use mathlib.Core.List.{List, [], _∷_, _++_}
 use Prim.Native.Nat.{ℕ, _+_, _*_}
 use lib.Dec.{ltb}
 use lib.ListN.{length}
-use Rattle.octets.specs.Lists.{all, octet?, word?, long?}
+use Rattle.octets.specs.Lists.{each, all, octet?, word?, long?}
 use Rattle.octets.specs.Fields.{two, four}
 use Rattle.names.specs.Name.{Name, nameForm, name?}
 use Rattle.records.specs.Layout.{fits?}
@@ -56,11 +56,6 @@ questionForm q = nameForm (q .name) ++ two (q .type) ++ two (q .class)
 unfoldable pub recordForm : Record → List ℕ
 recordForm r = nameForm (r .name) ++ two (r .type) ++ two (r .class) ++ four (r .ttl) ++ two (length (r .rdata)) ++ r .rdata
 
--- the forms of entries one after another
-unfoldable pub forms : {A : Type 0} → (A → List ℕ) → List A → List ℕ
-forms form [] = []
-forms form (a ∷ l) = form a ++ forms form l
-
 unfoldable pub headerForm : Message → List ℕ
 headerForm m =
     two (m .header .id)
@@ -73,10 +68,10 @@ headerForm m =
 unfoldable pub form : Message → List ℕ
 form m =
     headerForm m
-    ++ forms questionForm (m .questions)
-    ++ forms recordForm (m .answers)
-    ++ forms recordForm (m .authority)
-    ++ forms recordForm (m .additional)
+    ++ each questionForm (m .questions)
+    ++ each recordForm (m .answers)
+    ++ each recordForm (m .authority)
+    ++ each recordForm (m .additional)
 
 -- ---- what is valid, limits of size aside
 abbrev pub bit? : ℕ → Bool

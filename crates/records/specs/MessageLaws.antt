@@ -9,12 +9,12 @@ use native.Mathlib.Omega.{arith}
 use borrow.Author.Tests.{le-ltb, ltb-false, eqb-false}
 use lib.Dec.{T, ltb, eqb, ltb→lt, lt→ltb}
 use lib.ListN.{length, drop, length-append}
-use Rattle.octets.specs.Lists.{all, Octets, word?}
+use Rattle.octets.specs.Lists.{all, Octets, word?, each}
 use Rattle.octets.specs.Bits.{both, and-left, and-right, All-append}
 use Rattle.octets.specs.Fields.{two, four, twoAt, drop-past, two-back, getD-octet, twoAt-word, two-octets, four-octets}
 use Rattle.names.specs.Name.{nameForm, Fault, number}
 use Rattle.names.specs.NameLaws as N
-use Rattle.records.specs.Message.{Header, Question, Record, Message, flagsHigh, flagsLow, questionForm, recordForm, forms, headerForm, form, header?, question?, record?, section?, valid?}
+use Rattle.records.specs.Message.{Header, Question, Record, Message, flagsHigh, flagsLow, questionForm, recordForm, headerForm, form, header?, question?, record?, section?, valid?}
 use Rattle.records.specs.Read.{Entry, entry, bad, questionAt, recordAt, Reached, reached, stopped, add, sectionAt, sectionFrom}
 use Rattle.records.specs.Decode.{headerOf, zOf, sectionsOf, messageOf, Decoded, accepted, refused, decode}
 use Rattle.records.specs.RecordLaws.{question-parts, record-parts, record-long, question-back, question-read, record-back, record-read}
@@ -72,17 +72,17 @@ module _ {A : Type 0} (read : List ℕ → ℕ → Entry A) (s : List ℕ) where
 
     -- where a section's form stands, the section is read, if each entry is
     pub section-back : (form : A → List ℕ) → ((a : A) (r : List ℕ) (at : ℕ) → T (entry? a) → length (form a) ≤ 65535 → drop at s ≡ form a ++ r → read s at ≡ entry a (at + length (form a)))
-        → (l : List A) (r : List ℕ) (at : ℕ) → T (all entry? l) → length (forms form l) ≤ 65535 → drop at s ≡ forms form l ++ r
-        → sectionAt read s (length l) at ≡ record { entries = l; end = reached (at + length (forms form l)) }
-    unfolding sectionAt forms
+        → (l : List A) (r : List ℕ) (at : ℕ) → T (all entry? l) → length (each form l) ≤ 65535 → drop at s ≡ each form l ++ r
+        → sectionAt read s (length l) at ≡ record { entries = l; end = reached (at + length (each form l)) }
+    unfolding sectionAt each
     section-back form back [] r at v h e = ap (λ (i : ℕ). record { entries = []; end = reached i }) (sym (add-zero at))
     section-back form back (a ∷ l) r at v h e =
-        let long = length-append (form a) (forms form l) in
-        let here : drop at s ≡ form a ++ (forms form l ++ r) = e ∙ append-assoc (form a) (forms form l) r in
+        let long = length-append (form a) (each form l) in
+        let here : drop at s ≡ form a ++ (each form l ++ r) = e ∙ append-assoc (form a) (each form l) r in
         let next = at + length (form a) in
-        let place : next + length (forms form l) ≡ at + length (form a ++ forms form l) = omega arith in
-        section-step (length l) at a next (back a (forms form l ++ r) at (and-left (entry? a) (all entry? l) v) (omega arith) here)
-        ∙ ap (add a) (section-back form back l r next (and-right (entry? a) (all entry? l) v) (omega arith) (drop-past s (form a) (forms form l ++ r) at here))
+        let place : next + length (each form l) ≡ at + length (form a ++ each form l) = omega arith in
+        section-step (length l) at a next (back a (each form l ++ r) at (and-left (entry? a) (all entry? l) v) (omega arith) here)
+        ∙ ap (add a) (section-back form back l r next (and-right (entry? a) (all entry? l) v) (omega arith) (drop-past s (form a) (each form l ++ r) at here))
         ∙ ap (λ (i : ℕ). record { entries = a ∷ l; end = reached i }) place
 
   -- a section that is read to its end has as many entries as were asked for
@@ -290,13 +290,13 @@ module _ (s : List ℕ) where
 
 -- the lengths of the form's parts
 pub form-long : (m : Message)
-    → length (form m) ≡ 12 + length (forms questionForm (m .questions)) + length (forms recordForm (m .answers)) + length (forms recordForm (m .authority)) + length (forms recordForm (m .additional))
+    → length (form m) ≡ 12 + length (each questionForm (m .questions)) + length (each recordForm (m .answers)) + length (each recordForm (m .authority)) + length (each recordForm (m .additional))
 unfolding form headerForm
 form-long m =
-    let q = forms questionForm (m .questions) in
-    let a = forms recordForm (m .answers) in
-    let n = forms recordForm (m .authority) in
-    let r = forms recordForm (m .additional) in
+    let q = each questionForm (m .questions) in
+    let a = each recordForm (m .answers) in
+    let n = each recordForm (m .authority) in
+    let r = each recordForm (m .additional) in
     let e₁ = length-append (q ++ a ++ n) r in
     let e₂ = length-append (q ++ a) n in
     let e₃ = length-append q a in
@@ -306,21 +306,21 @@ form-long m =
 module _ (m : Message) (v : Valid m) (h : length (form m) ≤ 65535) where
   -- the sections read
   form-sections : sectionsOf (form m) ≡ record {
-    questions = record { entries = m .questions; end = reached (12 + length (forms questionForm (m .questions))) };
-    answers = record { entries = m .answers; end = reached (12 + length (forms questionForm (m .questions)) + length (forms recordForm (m .answers))) };
+    questions = record { entries = m .questions; end = reached (12 + length (each questionForm (m .questions))) };
+    answers = record { entries = m .answers; end = reached (12 + length (each questionForm (m .questions)) + length (each recordForm (m .answers))) };
     authority = record {
       entries = m .authority;
-      end = reached (12 + length (forms questionForm (m .questions)) + length (forms recordForm (m .answers)) + length (forms recordForm (m .authority)));
+      end = reached (12 + length (each questionForm (m .questions)) + length (each recordForm (m .answers)) + length (each recordForm (m .authority)));
     };
     additional = record { entries = m .additional; end = reached (length (form m)) };
   }
   unfolding sectionsOf sectionFrom
   form-sections =
       let s = form m in
-      let q = forms questionForm (m .questions) in
-      let a = forms recordForm (m .answers) in
-      let n = forms recordForm (m .authority) in
-      let r = forms recordForm (m .additional) in
+      let q = each questionForm (m .questions) in
+      let a = each recordForm (m .answers) in
+      let n = each recordForm (m .authority) in
+      let r = each recordForm (m .additional) in
       let long = form-long m in
       let c₁ : twoAt s 4 ≡ length (m .questions) = unfold form headerForm in two-back (length (m .questions)) (v .questions .0) in
       let c₂ : twoAt s 6 ≡ length (m .answers) = unfold form headerForm in two-back (length (m .answers)) (v .answers .0) in
@@ -498,11 +498,11 @@ record-octets r h =
     (k .4)
 
 -- forms of octets, one after another, are octets
-forms-octets : {A : Type 0} (f : A → List ℕ) (entry? : A → Bool) → ((a : A) → T (entry? a) → Octets (f a)) → (l : List A) → T (all entry? l) → Octets (forms f l)
-unfolding forms
+forms-octets : {A : Type 0} (f : A → List ℕ) (entry? : A → Bool) → ((a : A) → T (entry? a) → Octets (f a)) → (l : List A) → T (all entry? l) → Octets (each f l)
+unfolding each
 forms-octets f entry? g [] h = tt
 forms-octets f entry? g (a ∷ l) h =
-    All-append (λ x. x < 256) (f a) (forms f l) (g a (and-left (entry? a) (all entry? l) h)) (forms-octets f entry? g l (and-right (entry? a) (all entry? l) h))
+    All-append (λ x. x < 256) (f a) (each f l) (g a (and-left (entry? a) (all entry? l) h)) (forms-octets f entry? g l (and-right (entry? a) (all entry? l) h))
 
 -- the form of a header within its bounds is octets
 header-form-octets : (m : Message) → Bounds (m .header) → Octets (headerForm m)
@@ -523,10 +523,10 @@ unfolding form
 form-octets m h =
     let P : ℕ → Type 0 = λ x. x < 256 in
     let v = valid-parts m h in
-    let q = forms questionForm (m .questions) in
-    let a = forms recordForm (m .answers) in
-    let n = forms recordForm (m .authority) in
-    let r = forms recordForm (m .additional) in
+    let q = each questionForm (m .questions) in
+    let a = each recordForm (m .answers) in
+    let n = each recordForm (m .authority) in
+    let r = each recordForm (m .additional) in
     All-append P (headerForm m ++ q ++ a ++ n) r
     (All-append P (headerForm m ++ q ++ a) n
     (All-append P (headerForm m ++ q) a

@@ -5,11 +5,11 @@ use Prim.Native.Nat.{ℕ}
 use Rattle.octets.specs.Decimal.{natural, positive, decimal}
 use Rattle.octets.specs.Hexadecimal.{hex, unhex, hexText}
 use Rattle.octets.specs.Codec.{tried}
-use Rattle.octets.specs.Lists.{ascii, lookup, textOf, key?}
+use Rattle.octets.specs.Lists.{ascii, lookup, textOf, key?, each}
 use Rattle.octets.specs.Answer.{Output, output, refused}
 use Rattle.names.specs.Name.{name?, label?, nameForm}
 use Rattle.names.specs.Walk.{walk, nameFrom}
-use Rattle.records.specs.Message.{header?, question?, record?, forms, form, headerForm, questionForm, recordForm}
+use Rattle.records.specs.Message.{header?, question?, record?, form, headerForm, questionForm, recordForm}
 use Rattle.records.specs.Layout.{fits?, layouts, layoutOf, pieces, rdataAt}
 use Rattle.records.specs.Boundaries.{Verdict, taken, refuses}
 use Rattle.json.specs.Sample.{textWith}
@@ -113,5 +113,5 @@ readings =
 
 -- every row, computed
 pub readings-hold : map (λ (r : Reading). outcome (reading (r .text))) readings ≡ map (λ (r : Reading). r .gives) readings
-unfolding readings parse document head natural positive question entry name label spelledOctet spelledAt escape ddd leads? coded-from? coded? plain? signedNumber hex unhex string stringChar stringAt bare? printable? quoted itemCodec ednsElement optionMembers member knownMember otherMember value expiryNumber tried members rows flags rcodes formOf lookup textOf decimal spelled stringOctet hexText reading meaning documentView itemRecord itemEdns itemAdditional unsigned agrees? counts? ttl? ednsItem? item? view? additionals? additional? settled? opt-entry? edns? option? header? question? record? name? label? nameForm fits? walk nameFrom layouts layoutOf pieces rdataAt rising? divided optionsOf ednsOf key? shape words value? member? optionOf octetsOf within? small-rdata? small-option? small-options? messageOf recordOf ednsRecord optionForm forms form headerForm questionForm recordForm
+unfolding readings parse document head natural positive question entry name label spelledOctet spelledAt escape ddd leads? coded-from? coded? plain? signedNumber hex unhex string stringChar stringAt bare? printable? quoted itemCodec ednsElement optionMembers member knownMember otherMember value expiryNumber tried members rows flags rcodes formOf lookup textOf decimal spelled stringOctet hexText reading meaning documentView itemRecord itemEdns itemAdditional unsigned agrees? counts? ttl? ednsItem? item? view? additionals? additional? settled? opt-entry? edns? option? header? question? record? name? label? nameForm fits? walk nameFrom layouts layoutOf pieces rdataAt rising? divided optionsOf ednsOf key? shape words value? member? optionOf octetsOf within? small-rdata? small-option? small-options? messageOf recordOf ednsRecord optionForm each form headerForm questionForm recordForm
 readings-hold = refl

@@ -5,9 +5,8 @@ use mathlib.Core.List.{List, [], _∷_, _++_}
 use Prim.Native.Nat.{ℕ}
 use lib.Dec.{leb, eqb}
 use lib.ListN.{length, replicate}
-use Rattle.octets.specs.Lists.{all, none?, octet?, word?, long?}
+use Rattle.octets.specs.Lists.{all, none?, octet?, word?, long?, each}
 use Rattle.octets.specs.Fields.{two, four}
-use Rattle.records.specs.Message.{forms}
 use Rattle.json.specs.Options.{Form, hexObject, octetList, expiry, hexList, word, padding, wordList, extendedError, unlisted, Value, formOf, zero?, shape, absent?, EdnsOption, Member, known, other}
 
 -- the octets that a value stands for
@@ -27,10 +26,10 @@ unfoldable pub octetsOf : (form : Form) → Value form → List ℕ
 octetsOf hexObject hex = hex
 octetsOf octetList l = l
 octetsOf expiry n = expiryOctets n
-octetsOf hexList l = forms (λ hex. hex) l
+octetsOf hexList l = each (λ hex. hex) l
 octetsOf word n = two n
 octetsOf padding p = paddingOctets (p .0) (p .1)
-octetsOf wordList l = forms two l
+octetsOf wordList l = each two l
 octetsOf extendedError e = two (e .0) ++ optional (e .1)
 octetsOf unlisted u = []
 

@@ -10,11 +10,10 @@ use borrow.Author.Tests.{le-leb, eq-eqb, ne-eqb, eqb-true}
 use lib.Dec.{T, leb, eqb, leb→le, ltb→lt, lt→ltb, eqb→eq, eqb-refl}
 use lib.ListN.{length, take, drop, replicate, length-append, length-drop, length-replicate, take-append-drop}
 use lib.Seq.{length-take-le, take-at, drop-at}
-use Rattle.octets.specs.Lists.{all, All, octet?, Octets, word?, lookup, key?}
+use Rattle.octets.specs.Lists.{all, All, octet?, Octets, word?, lookup, key?, each}
 use Rattle.octets.specs.Bits.{is-true, is-false, both, and-left, and-right, all→All, All→all, All-map, All-append, octets-in, octets-test}
 use Rattle.octets.specs.Fields.{two, four, twoAt, fourAt, two-back, four-at, two-octets, four-octets, twoAt-word, fourAt-long}
 use Rattle.names.specs.NameLaws.{drop-octets, take-octets}
-use Rattle.records.specs.Message.{forms}
 use Rattle.json.specs.Spelling.{printable?}
 use Rattle.json.specs.Options.{Form, hexObject, octetList, expiry, hexList, word, padding, wordList, extendedError, unlisted, Value, Row, rows, members, row-form, formOf, zero?, words, present, shape, EdnsOption, Member, known, other, chosen, memberOf, absent?}
 use Rattle.json.specs.View.{option?}
@@ -60,8 +59,8 @@ four-whole (x ∷ y ∷ z ∷ w ∷ []) h o =
 four-whole (x ∷ y ∷ z ∷ w ∷ u ∷ l) h o = absurd (omega arith)
 
 -- pairs of octets and the numbers of 16 bits that they hold
-words-forms : (l : List ℕ) → length l % 2 ≡ 0 → Octets l → forms two (words l) ≡ l
-unfolding words forms
+words-forms : (l : List ℕ) → length l % 2 ≡ 0 → Octets l → each two (words l) ≡ l
+unfolding words each
 words-forms [] h o = refl
 words-forms (x ∷ []) h o = absurd (omega arith)
 words-forms (x ∷ y ∷ l) h o = ap₂ (λ (t u : List ℕ). t ++ u) (two-same x y (o .0) (o .1 .0)) (words-forms l (omega arith) (o .1 .1))
@@ -77,23 +76,23 @@ words-word (x ∷ y ∷ l) o =
     both (word? (x * 256 + y)) (all word? (words l)) (lt→ltb (x * 256 + y) 65536 (omega arith)) (words-word l (o .1 .1))
 
 -- numbers of 16 bits are read back from their octets
-forms-words : (l : List ℕ) → T (all word? l) → words (forms two l) ≡ l
-unfolding words forms
+forms-words : (l : List ℕ) → T (all word? l) → words (each two l) ≡ l
+unfolding words each
 forms-words [] h = refl
 forms-words (n ∷ l) h =
     ap₂ (λ (k : ℕ) (t : List ℕ). k ∷ t) (two-back n (ltb→lt n 65536 (and-left (word? n) (all word? l) h))) (forms-words l (and-right (word? n) (all word? l) h))
 
 -- their octets are an even number
-forms-even : (l : List ℕ) → length (forms two l) % 2 ≡ 0
-unfolding forms
+forms-even : (l : List ℕ) → length (each two l) % 2 ≡ 0
+unfolding each
 forms-even [] = refl
 forms-even (n ∷ l) = omega (arith, forms-even l)
 
 -- they are octets
-forms-octets : (l : List ℕ) → Octets (forms two l)
-unfolding forms
+forms-octets : (l : List ℕ) → Octets (each two l)
+unfolding each
 forms-octets [] = tt
-forms-octets (n ∷ l) = All-append (λ x. x < 256) (two n) (forms two l) (two-octets n) (forms-octets l)
+forms-octets (n ∷ l) = All-append (λ x. x < 256) (two n) (each two l) (two-octets n) (forms-octets l)
 
 -- a number is any number
 numbers : (l : List ℕ) → All Number l
@@ -140,7 +139,7 @@ empty (x ∷ l) h = absurd (omega arith)
 
 -- a cookie of two parts
 cookie-stands : (l : List ℕ) → Octets l → T (leb 16 (length l) && leb (length l) 40) → Stands hexList l (take 8 l ∷ drop 8 l ∷ [])
-unfolding value? octetsOf forms
+unfolding value? octetsOf each
 cookie-stands l o h =
     let a = leb→le 16 (length l) (and-left (leb 16 (length l)) (leb (length l) 40) h) in
     let b = leb→le (length l) 40 (and-right (leb 16 (length l)) (leb (length l) 40) h) in
@@ -172,7 +171,7 @@ error-stands l o h =
 
 -- a value that octets have the shape of is valid, and stands for them
 pub shape-value : (form : Form) (l : List ℕ) (v : Value form) → Octets l → shape form l ≡ some v → Stands form l v
-unfolding shape value? octetsOf forms
+unfolding shape value? octetsOf each
 shape-value hexObject l v o e = subst (Stands hexObject l) (Option·some-injective l v e) (tt, o, refl)
 shape-value octetList l v o e = subst (Stands octetList l) (Option·some-injective l v e) (octets-test l o, numbers l, refl)
 shape-value expiry l v o e = either-some (Stands expiry l) (eqb (length l) 0) (eqb (length l) 4) none (some (fourAt l 0)) v
@@ -202,7 +201,7 @@ expiry-shaped (some n) h = (let k = ltb→lt n 4294967296 h in let e : fourAt (f
 
 -- a cookie of one part or of two
 cookie-shaped : (l : List (List ℕ)) → T (value? hexList l) → All Octets l → Shaped hexList l
-unfolding shape value? octetsOf forms
+unfolding shape value? octetsOf each
 cookie-shaped [] h o = absurd h
 cookie-shaped (client ∷ []) h o = rw (append-nil client, is-true (eqb (length client) 8) h) (refl, o .0)
 cookie-shaped (client ∷ server ∷ []) h o =
@@ -249,7 +248,7 @@ value-shape expiry v h i = expiry-shaped v h
 value-shape hexList v h i = cookie-shaped v h i
 value-shape word v h i = (ap some (two-back v (ltb→lt v 65536 h)), two-octets v)
 value-shape padding v h i = padding-shaped (v .0) (v .1) h (i .1)
-value-shape wordList v h i = (rw (eq-eqb (length (forms two v) % 2) 0 (forms-even v), forms-words v h) refl, forms-octets v)
+value-shape wordList v h i = (rw (eq-eqb (length (each two v) % 2) 0 (forms-even v), forms-words v h) refl, forms-octets v)
 value-shape extendedError v h i = error-shaped (v .0) (v .1) h (i .1)
 value-shape unlisted v h i = absurd h
 

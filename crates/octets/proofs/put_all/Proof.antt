@@ -1,0 +1,63 @@
+-- `octets::put_all` meets its contract: past the end nothing is written; else, after `i` turns, the first `i` octets are copied.
+-- Assumes nothing.
+use borrow.Author.Needs.{needs}
+use mathlib.Core.Path.{_≡_, refl}
+use Prim.Native.Nat.{_≤_, _+_, _-_}
+use lib.ListN.{length, take}
+use lib.Seq.{take-all}
+use Rattle.octets.specs.Overlay.{Wrote, nothing, past, copy-step, same-long}
+use Rattle.octets.proofs.put_all.Statement.{statement}
+use Rattle.octets.proofs.put_all.Tie as tie
+
+abbrev Inv-loop : tie.InvT-loop
+Inv-loop out₀ at src end to₀ i₀ out to i = (i ≤ length src) × (to ≡ at + i) × Wrote out₀ at (take i src) out to
+
+abbrev μ-loop : tie.MeasureT-loop
+μ-loop out₀ at src end to₀ i₀ out to i = length src - i
+
+add-end : tie.Need-add-end Inv-loop μ-loop
+add-end c = search needs
+
+returns : tie.Need-returns Inv-loop μ-loop
+returns c = past _ _ _ (c .if1 .taken) refl
+
+loop-holds : tie.Need-loop-holds Inv-loop μ-loop
+loop-holds c = (search needs, search needs, nothing _ _)
+
+shared-slice-read-put : tie.Need-shared-slice-read-put Inv-loop μ-loop
+shared-slice-read-put c = search needs
+
+put-requires : tie.Need-put-requires Inv-loop μ-loop
+put-requires c κs = search needs
+
+add-i : tie.Need-add-i Inv-loop μ-loop
+add-i c = search needs
+
+loop-less : tie.Need-loop-less Inv-loop μ-loop
+loop-less c = search needs
+
+loop-again : tie.Need-loop-again Inv-loop μ-loop
+loop-again c = (search needs, search needs, search (copy-step, needs))
+
+same-length : tie.Need-same-length Inv-loop μ-loop
+same-length c = same-long (c .before .loop .inv .2)
+
+returns-2 : tie.Need-returns-2 Inv-loop μ-loop
+returns-2 c = rw (take-all _ _ (c .loop-test .left)) at (c .before .loop .inv .2)
+
+pub put-all-spec : {M : Type 1} → statement M
+put-all-spec =
+    tie.close
+    (tie.spec
+    Inv-loop
+    μ-loop
+    add-end
+    returns
+    loop-holds
+    shared-slice-read-put
+    put-requires
+    add-i
+    loop-less
+    loop-again
+    same-length
+    returns-2)

@@ -1,0 +1,28 @@
+-- `octets::put_two` meets its contract: two octets.
+-- Assumes nothing.
+use borrow.Author.Needs.{needs}
+use Rattle.octets.specs.Writing.{wrote-two}
+use Rattle.octets.proofs.put_two.Statement.{statement}
+use Rattle.octets.proofs.put_two.Tie as tie
+
+cast-put : tie.Need-cast-put
+cast-put c = search needs
+
+put-requires : tie.Need-put-requires
+put-requires c κs = search needs
+
+cast-put-2 : tie.Need-cast-put-2
+cast-put-2 c = search needs
+
+put-requires-2 : tie.Need-put-requires-2
+put-requires-2 c κs = search needs
+
+same-length : tie.Need-same-length
+same-length c = search needs
+
+returns : tie.Need-returns
+returns c = search (wrote-two, needs)
+
+pub put-two-spec : {M : Type 1} → statement M
+put-two-spec =
+    tie.close (tie.spec cast-put put-requires cast-put-2 put-requires-2 same-length returns)
