@@ -12,8 +12,8 @@ use Rattle.records.specs.Layout.{layouts, layoutOf, pieces, rdataAt}
 use Rattle.records.specs.Message.{questionForm, recordForm, headerForm, form}
 use Rattle.records.specs.Read.{unfit, questionAt, recordAt, sectionAt, sectionFrom}
 use Rattle.records.specs.Decode.{headerOf, sectionsOf, messageOf, decode}
-use Rattle.json.specs.Spelling.{plain?, spelled, labelText, nameText, signedText, printable?, stringOctet, stringText}
-use Rattle.json.specs.Options.{rows, members, formOf, valueText, words, shape, memberOf, memberText}
+use Rattle.spelling.specs.Spelling.{plain?, spelled, labelText, nameText, signedText, printable?, stringOctet, stringText}
+use Rattle.options.specs.Options.{rows, members, formOf, valueText, words, shape, memberOf, memberText}
 use Rattle.json.specs.View.{optionForm, divided, optionsOf, rising?, rcodes, ednsOf, additionalOf, viewOf}
 use Rattle.json.specs.Document.{questionText, recordText, flags, ednsText, itemText, headText, documentText}
 use Rattle.json.specs.Sample.{textWith}

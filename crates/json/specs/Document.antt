@@ -8,8 +8,8 @@ use Rattle.octets.specs.Decimal.{decimal}
 use Rattle.octets.specs.Hexadecimal.{hexText}
 use Rattle.names.specs.Name.{Name}
 use Rattle.records.specs.Message.{Header, Question}
-use Rattle.json.specs.Spelling.{nameText, Signed, signedText}
-use Rattle.json.specs.Options.{Member, memberText}
+use Rattle.spelling.specs.Spelling.{nameText, Signed, signedText}
+use Rattle.options.specs.Options.{Member, memberText}
 use Rattle.json.specs.View.{rcodes}
 
 -- a record's members

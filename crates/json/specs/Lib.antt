@@ -1,6 +1,4 @@
--- The profile text of a message: spelling, the EDNS element with its options, the grammar's documents and their texts.
-pub mod Spelling
-pub mod Options
+-- The profile text of a message: the EDNS element, the grammar's documents and their texts.
 pub mod View
 pub mod Limits
 pub mod ViewLaws

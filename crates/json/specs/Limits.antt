@@ -6,7 +6,7 @@ use lib.Dec.{leb}
 use lib.ListN.{length}
 use Rattle.octets.specs.Lists.{all}
 use Rattle.records.specs.Message.{Record, form}
-use Rattle.json.specs.Options.{EdnsOption}
+use Rattle.options.specs.Options.{EdnsOption}
 use Rattle.json.specs.View.{Additional, ordinary, edns, View, messageOf}
 
 abbrev pub small? : List ℕ → Bool

@@ -5,8 +5,8 @@ use Prim.Native.Nat.{ℕ, _-_}
 use lib.Dec.{ltb}
 use lib.ListN.{length}
 use Rattle.records.specs.Message.{Record, Message}
-use Rattle.json.specs.Spelling.{Signed, plus, minus}
-use Rattle.json.specs.Options.{memberOf}
+use Rattle.spelling.specs.Spelling.{Signed, plus, minus}
+use Rattle.options.specs.Options.{memberOf}
 use Rattle.json.specs.View.{Edns, fullRcode, Additional, View, viewOf}
 use Rattle.json.specs.Document.{RecordItem, EdnsItem, Item, Document, documentText}
 use Rattle.json.specs.View as view

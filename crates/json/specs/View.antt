@@ -10,7 +10,7 @@ use lib.ListN.{length, take, drop}
 use Rattle.octets.specs.Lists.{all, count, none?, octet?, word?, key?, each}
 use Rattle.octets.specs.Fields.{two, twoAt}
 use Rattle.records.specs.Message.{Header, Question, Record, Message, bit?, header?, question?, record?, section?}
-use Rattle.json.specs.Options.{EdnsOption, absent?}
+use Rattle.options.specs.Options.{EdnsOption, absent?}
 
 -- ---- options in RDATA
 -- code, length, value

@@ -17,7 +17,7 @@ use Rattle.names.specs.NameLaws.{drop-octets, take-octets, drop-one}
 use Rattle.names.specs.Walk.{part}
 use Rattle.records.specs.Layout.{layoutOf, layouts, laid, laid?, rdataAt, fits?}
 use Rattle.records.specs.Message.{Header, Question, Record, Message, headerForm, questionForm, recordForm, form, bit?, header?, question?, record?, section?, valid?}
-use Rattle.json.specs.Options.{EdnsOption, absent?}
+use Rattle.options.specs.Options.{EdnsOption, absent?}
 use Rattle.json.specs.View.{optionForm, prepend, divided, optionsOf, rising?, rcodes, Edns, fullRcode, ednsOf, ednsRecord, Additional, ordinary, edns, View, opt?, element, recognised, additionalOf, viewOf, recordOf, messageOf, option?, edns?, additional?, opt-entry?, settled?, additionals?, view?}
 use Rattle.json.specs.Limits.{small?, small-rdata?, small-option?, small-options?, within?}
 

@@ -13,8 +13,8 @@ use Rattle.records.specs.Message.{header?, question?, record?, form, headerForm
 use Rattle.records.specs.Layout.{fits?, layouts, layoutOf, pieces, rdataAt}
 use Rattle.records.specs.Boundaries.{Verdict, taken, refuses}
 use Rattle.json.specs.Sample.{textWith}
-use Rattle.json.specs.Spelling.{plain?, printable?, spelled, stringOctet}
-use Rattle.json.specs.Options.{members, rows, formOf, shape, words}
+use Rattle.spelling.specs.Spelling.{plain?, printable?, spelled, stringOctet}
+use Rattle.options.specs.Options.{members, rows, formOf, shape, words}
 use Rattle.json.specs.Document.{flags}
 use Rattle.json.specs.View.{rcodes, view?, additionals?, additional?, settled?, opt-entry?, edns?, option?, rising?, divided, optionsOf, ednsOf, messageOf, recordOf, ednsRecord, optionForm}
 use Rattle.json.specs.Limits.{within?, small-rdata?, small-option?, small-options?}

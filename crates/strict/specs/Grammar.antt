@@ -8,8 +8,8 @@ use Rattle.octets.specs.Lists.{All, Octets, key?}
 use Rattle.octets.specs.Codec.{OneOrMore}
 use Rattle.names.specs.Name.{Name}
 use Rattle.records.specs.Message.{Header, Question}
-use Rattle.json.specs.Spelling.{Signed, plus, minus, printable?}
-use Rattle.json.specs.Options.{Form, hexObject, octetList, expiry, hexList, word, padding, wordList, extendedError, unlisted, Value, formOf, members, Member, known, other}
+use Rattle.spelling.specs.Spelling.{Signed, plus, minus, printable?}
+use Rattle.options.specs.Options.{Form, hexObject, octetList, expiry, hexList, word, padding, wordList, extendedError, unlisted, Value, formOf, members, Member, known, other}
 use Rattle.json.specs.View.{rcodes}
 use Rattle.json.specs.Document.{RecordItem, EdnsItem, Item, ordinary, edns, flags, Document}
 

@@ -7,7 +7,7 @@ use lib.Dec.{leb, ltb, eqb}
 use lib.ListN.{length}
 use Rattle.octets.specs.Lists.{all}
 use Rattle.records.specs.Message.{Record}
-use Rattle.json.specs.Spelling.{Signed, plus, minus}
+use Rattle.spelling.specs.Spelling.{Signed, plus, minus}
 use Rattle.json.specs.View.{Edns, Additional, View, view?}
 use Rattle.json.specs.Document.{RecordItem, EdnsItem, Item, Document}
 use Rattle.json.specs.View as view

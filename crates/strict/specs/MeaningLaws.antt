@@ -14,8 +14,8 @@ use Rattle.names.specs.Name.{Name, label?, name?}
 use Rattle.names.specs.NameLaws.{name-labels, label-octets}
 use Rattle.records.specs.Layout.{fits?}
 use Rattle.records.specs.Message.{Header, Question, Record, bit?, four-bits?, header?, question?, record?, section?}
-use Rattle.json.specs.Spelling.{Signed, plus, minus}
-use Rattle.json.specs.Options.{EdnsOption, memberOf}
+use Rattle.spelling.specs.Spelling.{Signed, plus, minus}
+use Rattle.options.specs.Options.{EdnsOption, memberOf}
 use Rattle.json.specs.View.{Edns, fullRcode, rcodes, rising?, Additional, View, option?, edns?, additional?, settled?, opt-entry?, additionals?, view?}
 use Rattle.json.specs.Document.{RecordItem, EdnsItem, Item, Document}
 use Rattle.json.specs.Text.{signed, recordItem, ednsItem, item, documentOf}

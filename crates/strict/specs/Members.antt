@@ -7,7 +7,7 @@ use lib.Dec.{leb, eqb}
 use lib.ListN.{length, replicate}
 use Rattle.octets.specs.Lists.{all, none?, octet?, word?, long?, each}
 use Rattle.octets.specs.Fields.{two, four}
-use Rattle.json.specs.Options.{Form, hexObject, octetList, expiry, hexList, word, padding, wordList, extendedError, unlisted, Value, formOf, zero?, shape, absent?, EdnsOption, Member, known, other}
+use Rattle.options.specs.Options.{Form, hexObject, octetList, expiry, hexList, word, padding, wordList, extendedError, unlisted, Value, formOf, zero?, shape, absent?, EdnsOption, Member, known, other}
 
 -- the octets that a value stands for
 abbrev pub optional : Option (List ℕ) → List ℕ

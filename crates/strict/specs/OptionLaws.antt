@@ -14,8 +14,8 @@ use Rattle.octets.specs.Lists.{all, All, octet?, Octets, word?, lookup, key?, e
 use Rattle.octets.specs.Bits.{is-true, is-false, both, and-left, and-right, all→All, All→all, All-map, All-append, octets-in, octets-test}
 use Rattle.octets.specs.Fields.{two, four, twoAt, fourAt, two-back, four-at, two-octets, four-octets, twoAt-word, fourAt-long}
 use Rattle.names.specs.NameLaws.{drop-octets, take-octets}
-use Rattle.json.specs.Spelling.{printable?}
-use Rattle.json.specs.Options.{Form, hexObject, octetList, expiry, hexList, word, padding, wordList, extendedError, unlisted, Value, Row, rows, members, row-form, formOf, zero?, words, present, shape, EdnsOption, Member, known, other, chosen, memberOf, absent?}
+use Rattle.spelling.specs.Spelling.{printable?}
+use Rattle.options.specs.Options.{Form, hexObject, octetList, expiry, hexList, word, padding, wordList, extendedError, unlisted, Value, Row, rows, members, row-form, formOf, zero?, words, present, shape, EdnsOption, Member, known, other, chosen, memberOf, absent?}
 use Rattle.json.specs.View.{option?}
 use Rattle.strict.specs.Members.{octetsOf, value?, optionOf, member?}
 use Rattle.strict.specs.Grammar.{Number, StringIn, Maybe, ValueIn, MemberIn}

@@ -16,9 +16,9 @@ use Rattle.octets.specs.Codec.{tried, apart?, apart-texts, distinct, table, _�
 use Rattle.octets.specs.Decimal.{decimal, NoDigit, natural, number, number-avoids, decimal-avoids, till}
 use Rattle.octets.specs.Hexadecimal.{hexText, unhex, hex}
 use Rattle.records.specs.Message.{Header}
-use Rattle.json.specs.Spelling.{plain?, stringText}
-use Rattle.json.specs.Options.{rows, members, Form, hexObject, octetList, expiry, hexList, word, padding, wordList, extendedError, unlisted, formOf, Value}
-use Rattle.json.specs.Options.{paddingTail, errorTail, expiryText, valueText, Member, known, other, memberText}
+use Rattle.spelling.specs.Spelling.{plain?, stringText}
+use Rattle.options.specs.Options.{rows, members, Form, hexObject, octetList, expiry, hexList, word, padding, wordList, extendedError, unlisted, formOf, Value}
+use Rattle.options.specs.Options.{paddingTail, errorTail, expiryText, valueText, Member, known, other, memberText}
 use Rattle.json.specs.View.{rcodes}
 use Rattle.json.specs.Document.{RecordItem, EdnsItem, Item, ordinary, edns, Document, questionText, recordText, flags, ednsText, itemText, headText, documentText}
 use Rattle.strict.specs.Grammar.{Number, QuestionIn, RecordIn, Maybe, ValueIn, MemberIn, EdnsIn, ItemIn, DocumentIn}

@@ -14,7 +14,7 @@ use Rattle.octets.specs.Parsed.{Parsed, took, stuck, and-then, strip, Holds, mi
 use Rattle.octets.specs.Codec.{Avoids, OneOrMore, Any, Codec, fronts, some-avoids, on, titled, only, either, Either, eitherText, many, several, _▷_}
 use Rattle.octets.specs.Decimal.{digit?, digit-in, digit-test, NoDigit, number, positiveNumber, decimal-avoids}
 use Rattle.names.specs.Name.{Name}
-use Rattle.json.specs.Spelling.{plain?, three-digits, spelled, labelText, nameText, Signed, plus, minus, signedText, printable?, stringOctet, stringText}
+use Rattle.spelling.specs.Spelling.{plain?, three-digits, spelled, labelText, nameText, Signed, plus, minus, signedText, printable?, stringOctet, stringText}
 use Rattle.strict.specs.Grammar.{Label, Labels, SignedNumber, StringIn}
 
 -- ---- a thing of two kinds, each made in its own way

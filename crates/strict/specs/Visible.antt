@@ -14,9 +14,9 @@ use Rattle.octets.specs.Decimal.{decimal, decimal-digits}
 use Rattle.octets.specs.Hexadecimal.{hexText, hexText-visible}
 use Rattle.records.specs.Message.{Question}
 use Rattle.names.specs.Name.{Name}
-use Rattle.json.specs.Spelling.{plain?, three-digits, spelled, labelText, nameText, Signed, plus, minus, signedText, printable?, stringOctet, stringText}
-use Rattle.json.specs.Options.{rows, members, Form, hexObject, octetList, expiry, hexList, word, padding, wordList, extendedError, unlisted, formOf, Value}
-use Rattle.json.specs.Options.{paddingTail, errorTail, expiryText, hexString, valueText, Member, known, other, memberText}
+use Rattle.spelling.specs.Spelling.{plain?, three-digits, spelled, labelText, nameText, Signed, plus, minus, signedText, printable?, stringOctet, stringText}
+use Rattle.options.specs.Options.{rows, members, Form, hexObject, octetList, expiry, hexList, word, padding, wordList, extendedError, unlisted, formOf, Value}
+use Rattle.options.specs.Options.{paddingTail, errorTail, expiryText, hexString, valueText, Member, known, other, memberText}
 use Rattle.json.specs.View.{rcodes}
 use Rattle.json.specs.Document.{RecordItem, EdnsItem, Item, ordinary, edns, Document, questionText, recordText, flags, ednsText, itemText, headText, documentText}
 use Rattle.strict.specs.Grammar.{Label, Labels, QuestionIn, RecordIn, Maybe, StringIn, ValueIn, MemberIn, EdnsIn, ItemIn, DocumentIn}

@@ -10,7 +10,7 @@ use Rattle.octets.specs.Lists.{ascii, all, lookup, textOf, listed}
 use Rattle.octets.specs.Fields.{twoAt, fourAt}
 use Rattle.octets.specs.Decimal.{decimal}
 use Rattle.octets.specs.Hexadecimal.{hexText}
-use Rattle.json.specs.Spelling.{printable?, stringText}
+use Rattle.spelling.specs.Spelling.{printable?, stringText}
 
 -- ---- the table
 -- what the value of an option's member looks like

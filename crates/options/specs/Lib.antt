@@ -1,0 +1,3 @@
+-- EDNS options: their table, the shapes of their values, their members.
+pub mod Options
+pub mod Boundaries

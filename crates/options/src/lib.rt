@@ -1,0 +1,1 @@
+// EDNS options and their members. The definitions are in specs/.

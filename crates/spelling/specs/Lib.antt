@@ -1,0 +1,2 @@
+-- How names, signed numbers and strings are spelled.
+pub mod Spelling

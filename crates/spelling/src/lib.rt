@@ -1,0 +1,1 @@
+// How names, signed numbers and strings are spelled. The definitions are in specs/.
