@@ -14,10 +14,11 @@ use Rattle.records.specs.Read.{unfit, questionAt, recordAt, sectionAt, sectionF
 use Rattle.records.specs.Decode.{headerOf, sectionsOf, messageOf, decode}
 use Rattle.spelling.specs.Spelling.{plain?, spelled, labelText, nameText, signedText, printable?, stringOctet, stringText}
 use Rattle.options.specs.Options.{rows, members, formOf, valueText, words, shape, memberOf, memberText}
-use Rattle.json.specs.View.{optionForm, divided, optionsOf, rising?, rcodes, ednsOf, additionalOf, viewOf}
-use Rattle.json.specs.Document.{questionText, recordText, flags, ednsText, itemText, headText, documentText}
+use Rattle.edns.specs.Edns.{optionForm, divided, optionsOf, rising?, rcodes, ednsOf, flags, ednsText, ednsItem}
+use Rattle.json.specs.View.{additionalOf, viewOf}
+use Rattle.json.specs.Document.{questionText, recordText, itemText, headText, documentText}
 use Rattle.json.specs.Sample.{textWith}
-use Rattle.json.specs.Text.{signed, recordItem, ednsItem, item, documentOf, viewText, text}
+use Rattle.json.specs.Text.{signed, recordItem, item, documentOf, viewText, text}
 use Rattle.json.specs.Converted.{converted, toText}
 use Rattle.octets.specs.Answer.{Output, output, refused}
 

@@ -13,7 +13,8 @@ use Rattle.records.specs.Layout.{layouts, layoutOf, pieces, rdataAt}
 use Rattle.records.specs.Message.{questionForm, recordForm, headerForm, form}
 use Rattle.records.specs.Read.{unfit, questionAt, recordAt, sectionAt, sectionFrom}
 use Rattle.records.specs.Decode.{headerOf, sectionsOf, messageOf, Decoded, accepted, refused, decode}
-use Rattle.json.specs.View.{rising?, divided, optionsOf, rcodes, ednsOf, Additional, ordinary, edns, additionalOf, viewOf}
+use Rattle.edns.specs.Edns.{rising?, divided, optionsOf, rcodes, ednsOf}
+use Rattle.json.specs.View.{Additional, ordinary, edns, additionalOf, viewOf}
 
 -- ---- the EDNS element's conditions, one broken at a time
 -- which entries of the additional section are EDNS elements

@@ -1,16 +1,14 @@
 -- What a text in the grammar of document 01 holds: numbers of any size, labels of any length, options in any order and number.
 -- Which of these documents can be spelled is said by strict/specs/Grammar.antt. Assumes nothing.
-use mathlib.Core.List.{List, [], _∷_, _++_}
+use mathlib.Core.List.{List, _++_}
 use Prim.Native.Nat.{ℕ}
-use Prim.Native.String.{String}
-use Rattle.octets.specs.Lists.{ascii, ended, listed, textOf}
+use Rattle.octets.specs.Lists.{ascii, listed}
 use Rattle.octets.specs.Decimal.{decimal}
 use Rattle.octets.specs.Hexadecimal.{hexText}
 use Rattle.names.specs.Name.{Name}
 use Rattle.records.specs.Message.{Header, Question}
 use Rattle.spelling.specs.Spelling.{nameText, Signed, signedText}
-use Rattle.options.specs.Options.{Member, memberText}
-use Rattle.json.specs.View.{rcodes}
+use Rattle.edns.specs.Edns.{EdnsItem, ednsText}
 
 -- a record's members
 pub record RecordItem : Type 0 where
@@ -19,14 +17,6 @@ pub record RecordItem : Type 0 where
   pub class : ℕ
   pub ttl : Signed
   pub rdata : List ℕ
-
--- an EDNS element's members: FLAGS by the DO bit, RCODE by its number
-pub record EdnsItem : Type 0 where
-  pub version : ℕ
-  pub flags : ℕ
-  pub rcode : ℕ
-  pub size : ℕ
-  pub options : List Member
 
 -- an element of `additionalRRs`
 pub data Item : Type 0 where
@@ -59,19 +49,6 @@ recordText r =
     ++ ascii ",\"CLASS\":" ++ decimal (r .class)
     ++ ascii ",\"TTL\":" ++ signedText (r .ttl)
     ++ ascii ",\"RDATAHEX\":\"" ++ hexText (r .rdata)
-    ++ ascii "}"
-
--- FLAGS
-unfoldable pub flags : List (ℕ × String)
-flags = (0, "[]") ∷ (1, "[\"DO\"]") ∷ []
-
-unfoldable pub ednsText : EdnsItem → List ℕ
-ednsText e =
-    ascii "{\"EDNS\":{\"Version\":" ++ decimal (e .version)
-    ++ ascii ",\"FLAGS\":" ++ textOf (e .flags) flags
-    ++ ascii ",\"RCODE\":\"" ++ textOf (e .rcode) rcodes
-    ++ ascii "\",\"UDPSIZE\":" ++ decimal (e .size)
-    ++ ended (λ m. 44 ∷ memberText m) 125 (e .options)
     ++ ascii "}"
 
 unfoldable pub itemText : Item → List ℕ

@@ -1,22 +1,12 @@
 -- Limits of size, over which refusal 22 is given: RDATA, an option's value or the message over 65,535 octets. Assumes nothing.
 use mathlib.Core.Bool.{Bool, true, _&&_}
-use mathlib.Core.List.{List}
-use Prim.Native.Nat.{ℕ}
-use lib.Dec.{leb}
-use lib.ListN.{length}
 use Rattle.octets.specs.Lists.{all}
 use Rattle.records.specs.Message.{Record, form}
-use Rattle.options.specs.Options.{EdnsOption}
+use Rattle.edns.specs.Edns.{small?, small-option?}
 use Rattle.json.specs.View.{Additional, ordinary, edns, View, messageOf}
-
-abbrev pub small? : List ℕ → Bool
-small? l = leb (length l) 65535
 
 unfoldable pub small-rdata? : Record → Bool
 small-rdata? r = small? (r .rdata)
-
-unfoldable pub small-option? : EdnsOption → Bool
-small-option? o = small? (o .value)
 
 unfoldable pub small-options? : Additional → Bool
 small-options? (ordinary r) = true

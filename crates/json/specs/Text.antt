@@ -6,9 +6,9 @@ use lib.Dec.{ltb}
 use lib.ListN.{length}
 use Rattle.records.specs.Message.{Record, Message}
 use Rattle.spelling.specs.Spelling.{Signed, plus, minus}
-use Rattle.options.specs.Options.{memberOf}
-use Rattle.json.specs.View.{Edns, fullRcode, Additional, View, viewOf}
-use Rattle.json.specs.Document.{RecordItem, EdnsItem, Item, Document, documentText}
+use Rattle.edns.specs.Edns.{ednsItem}
+use Rattle.json.specs.View.{Additional, View, viewOf}
+use Rattle.json.specs.Document.{RecordItem, Item, Document, documentText}
 use Rattle.json.specs.View as view
 use Rattle.json.specs.Document as doc
 
@@ -18,15 +18,6 @@ signed n = cond (ltb n 2147483648) (plus n) (minus (4294967296 - n))
 
 unfoldable pub recordItem : Record → RecordItem
 recordItem r = record { name = r .name; type = r .type; class = r .class; ttl = signed (r .ttl); rdata = r .rdata }
-
-unfoldable pub ednsItem : ℕ → Edns → EdnsItem
-ednsItem rcode e = record {
-  version = 0;
-  flags = e .dnssecOk;
-  rcode = fullRcode rcode (e .extended);
-  size = e .size;
-  options = map memberOf (e .options);
-}
 
 unfoldable pub item : ℕ → Additional → Item
 item rcode (view.ordinary r) = doc.ordinary (recordItem r)

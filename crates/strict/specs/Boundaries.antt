@@ -12,12 +12,12 @@ use Rattle.names.specs.Walk.{walk, nameFrom}
 use Rattle.records.specs.Message.{header?, question?, record?, form, headerForm, questionForm, recordForm}
 use Rattle.records.specs.Layout.{fits?, layouts, layoutOf, pieces, rdataAt}
 use Rattle.records.specs.Boundaries.{Verdict, taken, refuses}
+use Rattle.edns.specs.Edns.{rcodes, edns?, option?, rising?, divided, optionsOf, ednsOf, ednsRecord, optionForm, small-option?, flags}
 use Rattle.json.specs.Sample.{textWith}
 use Rattle.spelling.specs.Spelling.{plain?, printable?, spelled, stringOctet}
 use Rattle.options.specs.Options.{members, rows, formOf, shape, words}
-use Rattle.json.specs.Document.{flags}
-use Rattle.json.specs.View.{rcodes, view?, additionals?, additional?, settled?, opt-entry?, edns?, option?, rising?, divided, optionsOf, ednsOf, messageOf, recordOf, ednsRecord, optionForm}
-use Rattle.json.specs.Limits.{within?, small-rdata?, small-option?, small-options?}
+use Rattle.json.specs.View.{view?, additionals?, additional?, settled?, opt-entry?, messageOf, recordOf}
+use Rattle.json.specs.Limits.{within?, small-rdata?, small-options?}
 use Rattle.strict.specs.Members.{value?, member?, optionOf, octetsOf}
 use Rattle.strict.specs.Parser.{parse, document, head, question, entry, itemCodec, ednsElement, optionMembers, member, knownMember, otherMember, value, expiryNumber}
 use Rattle.strict.specs.Spelt.{name, label, spelledOctet, spelledAt, escape, ddd, leads?, coded-from?, coded?, signedNumber, string, stringChar, stringAt, bare?, quoted}

@@ -10,8 +10,8 @@ use Rattle.names.specs.Name.{Name}
 use Rattle.records.specs.Message.{Header, Question}
 use Rattle.spelling.specs.Spelling.{Signed, plus, minus, printable?}
 use Rattle.options.specs.Options.{Form, hexObject, octetList, expiry, hexList, word, padding, wordList, extendedError, unlisted, Value, formOf, members, Member, known, other}
-use Rattle.json.specs.View.{rcodes}
-use Rattle.json.specs.Document.{RecordItem, EdnsItem, Item, ordinary, edns, flags, Document}
+use Rattle.edns.specs.Edns.{rcodes, EdnsItem, flags}
+use Rattle.json.specs.Document.{RecordItem, Item, ordinary, edns, Document}
 
 -- a number is as long as it likes
 abbrev pub Number : ℕ → Type 0

@@ -8,8 +8,9 @@ use lib.ListN.{length}
 use Rattle.octets.specs.Lists.{all}
 use Rattle.records.specs.Message.{Record}
 use Rattle.spelling.specs.Spelling.{Signed, plus, minus}
-use Rattle.json.specs.View.{Edns, Additional, View, view?}
-use Rattle.json.specs.Document.{RecordItem, EdnsItem, Item, Document}
+use Rattle.edns.specs.Edns.{Edns, EdnsItem}
+use Rattle.json.specs.View.{Additional, View, view?}
+use Rattle.json.specs.Document.{RecordItem, Item, Document}
 use Rattle.json.specs.View as view
 use Rattle.json.specs.Document as doc
 use Rattle.strict.specs.Members.{optionOf, member?}

@@ -16,9 +16,10 @@ use Rattle.records.specs.Layout.{fits?}
 use Rattle.records.specs.Message.{Header, Question, Record, bit?, four-bits?, header?, question?, record?, section?}
 use Rattle.spelling.specs.Spelling.{Signed, plus, minus}
 use Rattle.options.specs.Options.{EdnsOption, memberOf}
-use Rattle.json.specs.View.{Edns, fullRcode, rcodes, rising?, Additional, View, option?, edns?, additional?, settled?, opt-entry?, additionals?, view?}
-use Rattle.json.specs.Document.{RecordItem, EdnsItem, Item, Document}
-use Rattle.json.specs.Text.{signed, recordItem, ednsItem, item, documentOf}
+use Rattle.edns.specs.Edns.{flags, Edns, fullRcode, rcodes, rising?, option?, edns?, EdnsItem, ednsItem}
+use Rattle.json.specs.View.{Additional, View, additional?, settled?, opt-entry?, additionals?, view?}
+use Rattle.json.specs.Document.{RecordItem, Item, Document}
+use Rattle.json.specs.Text.{signed, recordItem, item, documentOf}
 use Rattle.json.specs.View as view
 use Rattle.json.specs.Document as doc
 use Rattle.strict.specs.Members.{optionOf, member?}
@@ -124,8 +125,8 @@ option-forth o h =
     (w .2, w .1, w .0)
 
 -- 0 and 1 have a spelling of FLAGS
-bit-flags : (n : ℕ) → n < 2 → T (key? n doc.flags)
-unfolding key? doc.flags
+bit-flags : (n : ℕ) → n < 2 → T (key? n flags)
+unfolding key? flags
 bit-flags zero h = tt
 bit-flags (suc zero) h = tt
 bit-flags (suc (suc n)) h = absurd (omega arith)

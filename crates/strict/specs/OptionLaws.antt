@@ -16,9 +16,9 @@ use Rattle.octets.specs.Fields.{two, four, twoAt, fourAt, two-back, four-at, tw
 use Rattle.names.specs.NameLaws.{drop-octets, take-octets}
 use Rattle.spelling.specs.Spelling.{printable?}
 use Rattle.options.specs.Options.{Form, hexObject, octetList, expiry, hexList, word, padding, wordList, extendedError, unlisted, Value, Row, rows, members, row-form, formOf, zero?, words, present, shape, EdnsOption, Member, known, other, chosen, memberOf, absent?}
-use Rattle.json.specs.View.{option?}
 use Rattle.strict.specs.Members.{octetsOf, value?, optionOf, member?}
 use Rattle.strict.specs.Grammar.{Number, StringIn, Maybe, ValueIn, MemberIn}
+use Rattle.edns.specs.Edns.{option?}
 
 -- ---- numbers in octets
 -- two octets, and the number that they hold

@@ -19,8 +19,8 @@ use Rattle.records.specs.Message.{Header}
 use Rattle.spelling.specs.Spelling.{plain?, stringText}
 use Rattle.options.specs.Options.{rows, members, Form, hexObject, octetList, expiry, hexList, word, padding, wordList, extendedError, unlisted, formOf, Value}
 use Rattle.options.specs.Options.{paddingTail, errorTail, expiryText, valueText, Member, known, other, memberText}
-use Rattle.json.specs.View.{rcodes}
-use Rattle.json.specs.Document.{RecordItem, EdnsItem, Item, ordinary, edns, Document, questionText, recordText, flags, ednsText, itemText, headText, documentText}
+use Rattle.edns.specs.Edns.{rcodes, EdnsItem, flags, ednsText}
+use Rattle.json.specs.Document.{RecordItem, Item, ordinary, edns, Document, questionText, recordText, itemText, headText, documentText}
 use Rattle.strict.specs.Grammar.{Number, QuestionIn, RecordIn, Maybe, ValueIn, MemberIn, EdnsIn, ItemIn, DocumentIn}
 use Rattle.strict.specs.Spelt.{made, kinds, coded?, coded-from?, leads?, ddd, escape, spelledAt, spelledOctet, label, name, signedNumber, string}
 

@@ -1,0 +1,1 @@
+// The EDNS element. The definitions are in specs/.

@@ -1,0 +1,12 @@
+-- `names::fail` meets its contract, by the definition of `failed`. Assumes nothing.
+use mathlib.Core.Path.{refl}
+use Rattle.names.specs.Answer.{failed}
+use Rattle.names.proofs.fail.Statement.{statement}
+use Rattle.names.proofs.fail.Tie as tie
+
+returns : tie.Need-returns
+unfolding failed
+returns c = refl
+
+pub fail-spec : {M : Type 1} → statement M
+fail-spec = tie.close (tie.spec returns)

@@ -1,0 +1,80 @@
+-- What the code answers for a name: its limits, faults and answers beside those of the definitions. Assumes nothing.
+use mathlib.Core.Path.{_≡_, refl}
+use mathlib.Core.List.{_++_}
+use Prim.Native.Nat.{ℕ, _-_}
+use lib.ListN.{length, replicate}
+use Rattle.names.specs.Name.{Kind, cut, reserved, target, long, short, surplus, number, nameForm}
+use Rattle.names.specs.Name as name
+use Rattle.names.specs.Walk.{message, rdata, past, named, faulty}
+use Rattle.names.specs.Walk as walk
+use Rattle.names.specs.declared.Fault.{Fault}
+use Rattle.names.specs.declared.Fault.the-variants.{Cut, Reserved, Target, Long, Short, Surplus}
+use Rattle.names.specs.declared.Limit.{Limit}
+use Rattle.names.specs.declared.Limit.the-variants.{Message, Rdata}
+use Rattle.names.specs.declared.Named.the-variants.{Read, Faulty}
+use Rattle.names.specs.declared.NameRead.{NameRead}
+
+-- the limit that the code's limit stands for
+abbrev pub limitOf : Limit → walk.Limit
+limitOf Message = message
+limitOf (Rdata start end) = rdata start end
+
+-- the code's fault of a kind at an octet
+abbrev pub codeOf : Kind → ℕ → Fault
+codeOf cut octet = Cut octet
+codeOf reserved octet = Reserved octet
+codeOf target octet = Target octet
+codeOf long octet = Long octet
+codeOf short octet = Short octet
+codeOf surplus octet = Surplus octet
+
+abbrev pub faultOf : name.Fault → Fault
+faultOf fault = codeOf (fault .kind) (fault .octet)
+
+-- the code's fault of running past the end
+abbrev pub pastOf : Limit → ℕ → Fault
+pastOf limit at = faultOf (past (limitOf limit) at)
+
+-- document 01's number of the code's fault, and its octet
+abbrev pub numberOf : Fault → ℕ
+numberOf (Cut octet) = 1
+numberOf (Reserved octet) = 4
+numberOf (Target octet) = 5
+numberOf (Long octet) = 6
+numberOf (Short octet) = 7
+numberOf (Surplus octet) = 7
+
+abbrev pub octetOf : Fault → ℕ
+octetOf (Cut octet) = octet
+octetOf (Reserved octet) = octet
+octetOf (Target octet) = octet
+octetOf (Long octet) = octet
+octetOf (Short octet) = octet
+octetOf (Surplus octet) = octet
+
+-- both are those of the definitions' fault
+pub number-same : (kind : Kind) (octet : ℕ) → numberOf (codeOf kind octet) ≡ number kind
+number-same cut octet = refl
+number-same reserved octet = refl
+number-same target octet = refl
+number-same long octet = refl
+number-same short octet = refl
+number-same surplus octet = refl
+
+pub octet-same : (kind : Kind) (octet : ℕ) → octetOf (codeOf kind octet) ≡ octet
+octet-same cut octet = refl
+octet-same reserved octet = refl
+octet-same target octet = refl
+octet-same long octet = refl
+octet-same short octet = refl
+octet-same surplus octet = refl
+
+-- the answer of a fault
+unfoldable pub failed : Fault → NameRead
+failed fault = record { answer = Faulty fault; octets = replicate 255 0 }
+
+-- the answer of a walk: a name's form stands in the first octets
+unfoldable pub nameRead : walk.Named → NameRead
+nameRead (named n next) =
+    record { answer = Read next (length (nameForm n)); octets = nameForm n ++ replicate (255 - length (nameForm n)) 0 }
+nameRead (faulty fault) = failed (faultOf fault)
