@@ -118,7 +118,7 @@ label-more s at k h i p q =
 
 -- ---- the ways
 module _ {s : List ℕ} {v : NameRead} {form : List ℕ} {limit : Limit} {run next total at end : ℕ}
-  (w : From s v form limit run next total at) (b : end ≡ endOf s (limitOf limit)) where
+    (w : From s v form limit run next total at) (b : end ≡ endOf s (limitOf limit)) where
   -- the length octet stands past the end
   pub behind : {f : Fault} {r : NameRead} → end ≤ at → f ≡ pastOf limit at → r ≡ failed f → r ≡ v
   unfolding walk finished
@@ -142,8 +142,15 @@ module _ {s : List ℕ} {v : NameRead} {form : List ℕ} {limit : Limit} {run ne
         pub label-cut : {f : Fault} {r : NameRead} {k : ℕ} → k < x → end ≤ at + 1 + k → f ≡ pastOf limit at → r ≡ failed f → r ≡ v
         unfolding walk finished
         label-cut i j p q =
-            q ∙ rw (p, w .goes, lt-leb (endOf s (limitOf limit)) at (omega arith), ← e, ne-eqb x 0 z, le-leb x 63 c,
-              lt-ltb (endOf s (limitOf limit)) (at + (x + 1)) (omega arith))
+            q ∙ rw (
+              p,
+              w .goes,
+              lt-leb (endOf s (limitOf limit)) at (omega arith),
+              ← e,
+              ne-eqb x 0 z,
+              le-leb x 63 c,
+              lt-ltb (endOf s (limitOf limit)) (at + (x + 1)) (omega arith),
+            )
 
         -- all k octets of the label are copied
         module _ {k : ℕ} (i : x ≤ k) (j : at + 1 + k ≤ end) where
@@ -151,8 +158,15 @@ module _ {s : List ℕ} {v : NameRead} {form : List ℕ} {limit : Limit} {run ne
           pub label-long : {r : NameRead} → 254 < total + (x + 1) → r ≡ failed (Long at) → r ≡ v
           unfolding walk finished
           label-long p q =
-              q ∙ rw (w .goes, lt-leb (endOf s (limitOf limit)) at (omega arith), ← e, ne-eqb x 0 z, le-leb x 63 c,
-                le-ltb (endOf s (limitOf limit)) (at + (x + 1)) (omega arith), lt-ltb 255 (total + (x + 1) + 1) (omega arith))
+              q ∙ rw (
+                w .goes,
+                lt-leb (endOf s (limitOf limit)) at (omega arith),
+                ← e,
+                ne-eqb x 0 z,
+                le-leb x 63 c,
+                le-ltb (endOf s (limitOf limit)) (at + (x + 1)) (omega arith),
+                lt-ltb 255 (total + (x + 1) + 1) (omega arith),
+              )
 
           -- the walk goes on behind the label
           pub label-read : {base form′ : List ℕ} {to to′ : ℕ} → k ≤ x → total + (x + 1) ≤ 254 → endOf s (limitOf limit) ≤ length s
@@ -164,11 +178,17 @@ module _ {s : List ℕ} {v : NameRead} {form : List ℕ} {limit : Limit} {run ne
               let copy : overlay form total (x ∷ part s (at + 1) x) ≡ form′ = sym (then d f .text ∙ rw (← e, same)) in
               let rest = walk (run + 255) s (limitOf limit) run (total + (x + 1)) (at + (x + 1)) in
               record {
-                goes = w .goes ∙ rw (lt-leb (endOf s (limitOf limit)) at (omega arith), ← e, ne-eqb x 0 z, le-leb x 63 c,
-                  le-ltb (endOf s (limitOf limit)) (at + (x + 1)) (omega arith), le-ltb 255 (total + (x + 1) + 1) (omega arith))
-                  (finished-label next total x form (part s (at + 1) x) rest (part-long s (at + 1) x (omega arith))
-                  ∙ ap₂ (finished next (total + (x + 1))) copy
-                  (walk-steps (run + 255) (suc (run + 255)) s (limitOf limit) run (total + (x + 1)) (at + (x + 1)) (omega arith) (omega arith)));
+                goes = w .goes ∙ rw (
+                  lt-leb (endOf s (limitOf limit)) at (omega arith),
+                  ← e,
+                  ne-eqb x 0 z,
+                  le-leb x 63 c,
+                  le-ltb (endOf s (limitOf limit)) (at + (x + 1)) (omega arith),
+                  le-ltb 255 (total + (x + 1) + 1) (omega arith),
+                )
+                    (finished-label next total x form (part s (at + 1) x) rest (part-long s (at + 1) x (omega arith))
+                    ∙ ap₂ (finished next (total + (x + 1))) copy
+                    (walk-steps (run + 255) (suc (run + 255)) s (limitOf limit) run (total + (x + 1)) (at + (x + 1)) (omega arith) (omega arith)));
               }
 
       module _ (c : 63 < x) where
@@ -183,8 +203,16 @@ module _ {s : List ℕ} {v : NameRead} {form : List ℕ} {limit : Limit} {run ne
           pub pointer-cut : {f : Fault} {r : NameRead} → end ≤ at + 1 → f ≡ pastOf limit at → r ≡ failed f → r ≡ v
           unfolding walk finished
           pointer-cut i p q =
-              q ∙ rw (p, w .goes, lt-leb (endOf s (limitOf limit)) at (omega arith), ← e, ne-eqb x 0 z, lt-leb x 63 c, le-ltb x 192 d,
-                le-leb (endOf s (limitOf limit)) (at + 1) (omega arith))
+              q ∙ rw (
+                p,
+                w .goes,
+                lt-leb (endOf s (limitOf limit)) at (omega arith),
+                ← e,
+                ne-eqb x 0 z,
+                lt-leb x 63 c,
+                le-ltb x 192 d,
+                le-leb (endOf s (limitOf limit)) (at + 1) (omega arith),
+              )
 
           -- y is that octet
           module _ {y : ℕ} (i : at + 1 < end) (j : y ≡ getD s (at + 1) 0) where
@@ -192,16 +220,35 @@ module _ {s : List ℕ} {v : NameRead} {form : List ℕ} {limit : Limit} {run ne
             pub target-low : {r : NameRead} → (x - 192) * 256 + y < 12 → r ≡ failed (Target at) → r ≡ v
             unfolding walk finished
             target-low p q =
-                q ∙ rw (w .goes, lt-leb (endOf s (limitOf limit)) at (omega arith), ← e, ← j, ne-eqb x 0 z, lt-leb x 63 c, le-ltb x 192 d,
-                  lt-leb (endOf s (limitOf limit)) (at + 1) (omega arith), lt-leb 12 ((x - 192) * 256 + y) p)
+                q ∙ rw (
+                  w .goes,
+                  lt-leb (endOf s (limitOf limit)) at (omega arith),
+                  ← e,
+                  ← j,
+                  ne-eqb x 0 z,
+                  lt-leb x 63 c,
+                  le-ltb x 192 d,
+                  lt-leb (endOf s (limitOf limit)) (at + 1) (omega arith),
+                  lt-leb 12 ((x - 192) * 256 + y) p,
+                )
 
             module _ (g : 12 ≤ (x - 192) * 256 + y) where
               -- the target is not below the run's start
               pub target-far : {r : NameRead} → run ≤ (x - 192) * 256 + y → r ≡ failed (Target at) → r ≡ v
               unfolding walk finished
               target-far p q =
-                  q ∙ rw (w .goes, lt-leb (endOf s (limitOf limit)) at (omega arith), ← e, ← j, ne-eqb x 0 z, lt-leb x 63 c, le-ltb x 192 d,
-                    lt-leb (endOf s (limitOf limit)) (at + 1) (omega arith), le-leb 12 ((x - 192) * 256 + y) g, le-ltb ((x - 192) * 256 + y) run p)
+                  q ∙ rw (
+                    w .goes,
+                    lt-leb (endOf s (limitOf limit)) at (omega arith),
+                    ← e,
+                    ← j,
+                    ne-eqb x 0 z,
+                    lt-leb x 63 c,
+                    le-ltb x 192 d,
+                    lt-leb (endOf s (limitOf limit)) (at + 1) (omega arith),
+                    le-leb 12 ((x - 192) * 256 + y) g,
+                    le-ltb ((x - 192) * 256 + y) run p,
+                  )
 
               -- the pointer is followed
               module _ (p : (x - 192) * 256 + y < run) where
@@ -212,10 +259,19 @@ module _ {s : List ℕ} {v : NameRead} {form : List ℕ} {limit : Limit} {run ne
                 jumps next′ rest =
                     let goal = (x - 192) * 256 + y in
                     record {
-                      goes = w .goes ∙ rw (lt-leb (endOf s (limitOf limit)) at (omega arith), ← e, ← j, ne-eqb x 0 z, lt-leb x 63 c, le-ltb x 192 d,
-                        lt-leb (endOf s (limitOf limit)) (at + 1) (omega arith), le-leb 12 ((x - 192) * 256 + y) g, lt-ltb ((x - 192) * 256 + y) run p)
-                        (rest (walk (run + 255) s walk.message goal total goal)
-                        ∙ ap (finished next′ total form) (walk-steps (run + 255) (suc (goal + 255)) s walk.message goal total goal (omega arith) (omega arith)));
+                      goes = w .goes ∙ rw (
+                        lt-leb (endOf s (limitOf limit)) at (omega arith),
+                        ← e,
+                        ← j,
+                        ne-eqb x 0 z,
+                        lt-leb x 63 c,
+                        le-ltb x 192 d,
+                        lt-leb (endOf s (limitOf limit)) (at + 1) (omega arith),
+                        le-leb 12 ((x - 192) * 256 + y) g,
+                        lt-ltb ((x - 192) * 256 + y) run p,
+                      )
+                          (rest (walk (run + 255) s walk.message goal total goal)
+                          ∙ ap (finished next′ total form) (walk-steps (run + 255) (suc (goal + 255)) s walk.message goal total goal (omega arith) (omega arith)));
                     }
 
                 -- the first pointer

@@ -97,9 +97,13 @@ loop-less : tie.Need-loop-less Inv-loop μ-loop Inv-walk μ-walk
 loop-less c = search needs
 
 loop-again : tie.Need-loop-again Inv-loop μ-loop Inv-walk μ-walk
-loop-again c =
-    (search needs, search needs, search needs, search needs,
-    label-more _ _ _ (c .before .before .before .before .if5 .left) (search needs) (c .before .before .before .before .before .before .loop .inv .4) (c .before .put2 .ensures))
+loop-again c = (
+  search needs,
+  search needs,
+  search needs,
+  search needs,
+  label-more _ _ _ (c .before .before .before .before .if5 .left) (search needs) (c .before .before .before .before .before .before .loop .inv .4) (c .before .put2 .ensures),
+)
 
 fail-requires-3 : tie.Need-fail-requires-3 Inv-loop μ-loop Inv-walk μ-walk
 fail-requires-3 c κs = search needs
@@ -114,22 +118,25 @@ walk-less : tie.Need-walk-less Inv-loop μ-loop Inv-walk μ-walk
 walk-less c = search needs
 
 walk-again : tie.Need-walk-again Inv-loop μ-loop Inv-walk μ-walk
-walk-again c =
-    (search needs, search needs, search needs,
-    label-read
-    (c .before .before .before .before .before .before .before .before .before .before .before .before .before .walk .inv .3)
-    (c .before .before .before .before .before .before .before .before .before .before .before .before .end-of .ensures)
-    (c .before .before .before .before .before .before .before .before .before .before .before .if1 .left)
-    (c .before .before .before .before .before .before .before .before .before .wide .ensures .0)
-    (c .before .before .before .before .before .before .before .before .if2 .left)
-    (c .before .before .before .before .before .before .before .if4 .taken)
-    (c .before .loop-test .left)
-    (c .before .before .loop .inv .1)
-    (c .before .before .loop .inv .0)
-    (c .if6 .left)
-    (c .before .before .before .before .before .before .before .before .before .before .before .before .before .walk .inv .1)
-    (c .before .before .before .before .put .ensures)
-    (c .before .before .loop .inv .4))
+walk-again c = (
+  search needs,
+  search needs,
+  search needs,
+  label-read
+      (c .before .before .before .before .before .before .before .before .before .before .before .before .before .walk .inv .3)
+      (c .before .before .before .before .before .before .before .before .before .before .before .before .end-of .ensures)
+      (c .before .before .before .before .before .before .before .before .before .before .before .if1 .left)
+      (c .before .before .before .before .before .before .before .before .before .wide .ensures .0)
+      (c .before .before .before .before .before .before .before .before .if2 .left)
+      (c .before .before .before .before .before .before .before .if4 .taken)
+      (c .before .loop-test .left)
+      (c .before .before .loop .inv .1)
+      (c .before .before .loop .inv .0)
+      (c .if6 .left)
+      (c .before .before .before .before .before .before .before .before .before .before .before .before .before .walk .inv .1)
+      (c .before .before .before .before .put .ensures)
+      (c .before .before .loop .inv .4),
+)
 
 fail-requires-4 : tie.Need-fail-requires-4 Inv-loop μ-loop Inv-walk μ-walk
 fail-requires-4 c κs = search needs
