@@ -12,13 +12,13 @@ use Rattle.records.specs.Layout.{layouts, layoutOf, pieces, rdataAt}
 use Rattle.records.specs.Message.{questionForm, recordForm, headerForm, form}
 use Rattle.records.specs.Read.{unfit, questionAt, recordAt, sectionAt, sectionFrom}
 use Rattle.records.specs.Decode.{headerOf, sectionsOf, messageOf, decode}
-use Rattle.spelling.specs.Spelling.{plain?, spelled, labelText, nameText, signedText, printable?, stringOctet, stringText}
+use Rattle.spelling.specs.Spelling.{plain?, spelled, labelText, nameText, signedText, printable?, stringOctet, stringText, signed}
 use Rattle.options.specs.Options.{rows, members, formOf, valueText, words, shape, memberOf, memberText}
 use Rattle.edns.specs.Edns.{optionForm, divided, optionsOf, rising?, rcodes, ednsOf, flags, ednsText, ednsItem}
 use Rattle.json.specs.View.{additionalOf, viewOf}
 use Rattle.json.specs.Document.{questionText, recordText, itemText, headText, documentText}
 use Rattle.json.specs.Sample.{textWith}
-use Rattle.json.specs.Text.{signed, recordItem, item, documentOf, viewText, text}
+use Rattle.json.specs.Text.{recordItem, item, documentOf, viewText, text}
 use Rattle.json.specs.Converted.{converted, toText}
 use Rattle.octets.specs.Answer.{Output, output, refused}
 

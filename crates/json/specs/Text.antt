@@ -1,20 +1,14 @@
 -- The profile text of a message. Assumes nothing.
-use mathlib.Core.Bool.{cond}
 use mathlib.Core.List.{List, map}
-use Prim.Native.Nat.{ℕ, _-_}
-use lib.Dec.{ltb}
+use Prim.Native.Nat.{ℕ}
 use lib.ListN.{length}
 use Rattle.records.specs.Message.{Record, Message}
-use Rattle.spelling.specs.Spelling.{Signed, plus, minus}
+use Rattle.spelling.specs.Spelling.{signed}
 use Rattle.edns.specs.Edns.{ednsItem}
 use Rattle.json.specs.View.{Additional, View, viewOf}
 use Rattle.json.specs.Document.{RecordItem, Item, Document, documentText}
 use Rattle.json.specs.View as view
 use Rattle.json.specs.Document as doc
-
--- TTL is the 32 bits read as two's complement
-unfoldable pub signed : ℕ → Signed
-signed n = cond (ltb n 2147483648) (plus n) (minus (4294967296 - n))
 
 unfoldable pub recordItem : Record → RecordItem
 recordItem r = record { name = r .name; type = r .type; class = r .class; ttl = signed (r .ttl); rdata = r .rdata }

@@ -1,8 +1,8 @@
 -- How names, signed numbers and strings are spelled. Assumes nothing.
 use mathlib.Core.Bool.{Bool, not, _&&_, cond}
 use mathlib.Core.List.{List, [], _∷_, _++_}
-use Prim.Native.Nat.{ℕ, _+_, _/_, _%_}
-use lib.Dec.{leb, eqb}
+use Prim.Native.Nat.{ℕ, _+_, _-_, _/_, _%_}
+use lib.Dec.{leb, ltb, eqb}
 use Rattle.octets.specs.Lists.{ascii, none?, ended}
 use Rattle.octets.specs.Decimal.{decimal}
 use Rattle.names.specs.Name.{Name}
@@ -40,6 +40,10 @@ pub data Signed : Type 0 where
 unfoldable pub signedText : Signed → List ℕ
 signedText (plus n) = decimal n
 signedText (minus n) = 45 ∷ decimal n
+
+-- TTL is the 32 bits read as two's complement
+unfoldable pub signed : ℕ → Signed
+signed n = cond (ltb n 2147483648) (plus n) (minus (4294967296 - n))
 
 -- ---- strings
 -- an octet that may stand in a string

@@ -14,12 +14,12 @@ use Rattle.names.specs.Name.{Name, label?, name?}
 use Rattle.names.specs.NameLaws.{name-labels, label-octets}
 use Rattle.records.specs.Layout.{fits?}
 use Rattle.records.specs.Message.{Header, Question, Record, bit?, four-bits?, header?, question?, record?, section?}
-use Rattle.spelling.specs.Spelling.{Signed, plus, minus}
+use Rattle.spelling.specs.Spelling.{Signed, plus, minus, signed}
 use Rattle.options.specs.Options.{EdnsOption, memberOf}
 use Rattle.edns.specs.Edns.{flags, Edns, fullRcode, rcodes, rising?, option?, edns?, EdnsItem, ednsItem}
 use Rattle.json.specs.View.{Additional, View, additional?, settled?, opt-entry?, additionals?, view?}
 use Rattle.json.specs.Document.{RecordItem, Item, Document}
-use Rattle.json.specs.Text.{signed, recordItem, item, documentOf}
+use Rattle.json.specs.Text.{recordItem, item, documentOf}
 use Rattle.json.specs.View as view
 use Rattle.json.specs.Document as doc
 use Rattle.strict.specs.Members.{optionOf, member?}
