@@ -1,0 +1,46 @@
+//! The fixed lists of cases: systematic inputs for the two line programs.
+//! Neither list depends on anything but the code here.
+
+mod build;
+mod totext;
+mod towire;
+
+use std::collections::HashSet;
+
+/// The lines of one kind of case.
+pub struct Group {
+    pub kind: &'static str,
+    pub lines: Vec<Vec<u8>>,
+}
+
+/// The cases for `totext`, kind by kind, no line twice but the empty one.
+pub fn totext_groups() -> Vec<Group> {
+    without_repeats(totext::groups())
+}
+
+/// The cases for `towire`, kind by kind, no line twice but the empty one.
+pub fn towire_groups() -> Vec<Group> {
+    without_repeats(towire::groups())
+}
+
+/// All lines of the cases for `totext`. The last one is to have no newline.
+pub fn totext() -> Vec<Vec<u8>> {
+    all_lines(totext_groups())
+}
+
+/// All lines of the cases for `towire`. The last one is to have no newline.
+pub fn towire() -> Vec<Vec<u8>> {
+    all_lines(towire_groups())
+}
+
+fn all_lines(groups: Vec<Group>) -> Vec<Vec<u8>> {
+    groups.into_iter().flat_map(|group| group.lines).collect()
+}
+
+fn without_repeats(mut groups: Vec<Group>) -> Vec<Group> {
+    let mut seen = HashSet::new();
+    for group in &mut groups {
+        group.lines.retain(|line| line.is_empty() || seen.insert(line.clone()));
+    }
+    groups
+}

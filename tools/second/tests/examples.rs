@@ -1,0 +1,413 @@
+//! The worked and the marked examples of document 01, and answers that its
+//! rules decide, written down by hand.
+
+use second::lines::{hex_of_octets, octets_of_hex};
+use second::{message_of, text_of, to_text, to_wire, Refusal};
+
+fn octets(hex: &str) -> Vec<u8> {
+    octets_of_hex(hex.replace(' ', "").as_bytes()).expect("the example is hexadecimal")
+}
+
+fn text(hex: &str) -> String {
+    String::from_utf8(text_of(&octets(hex)).expect("the example is accepted")).unwrap()
+}
+
+#[track_caller]
+fn refused(hex: &str, number: u32, place: u64) {
+    assert_eq!(text_of(&octets(hex)), Err(Refusal { number, place }), "{hex}");
+}
+
+/// A message's text with these array contents and counts.
+fn whole(id: u32, rcode: u32, counts: [u32; 4], arrays: [&str; 4]) -> String {
+    let [qd, an, ns, ar] = counts;
+    let [questions, answers, authority, additional] = arrays;
+    format!(
+        "{{\"ID\":{id},\"QR\":0,\"Opcode\":0,\"AA\":0,\"TC\":0,\"RD\":0,\"RA\":0,\"AD\":0,\"CD\":0,\
+         \"RCODE\":{rcode},\"QDCOUNT\":{qd},\"ANCOUNT\":{an},\"NSCOUNT\":{ns},\"ARCOUNT\":{ar},\
+         \"questionRRs\":[{questions}],\"answerRRs\":[{answers}],\"authorityRRs\":[{authority}],\
+         \"additionalRRs\":[{additional}]}}"
+    )
+}
+
+fn asking(name: &str) -> String {
+    let question = format!("{{\"NAME\":\"{name}\",\"TYPE\":1,\"CLASS\":1}}");
+    whole(0, 0, [1, 0, 0, 0], [&question, "", "", ""])
+}
+
+fn answering(record: &str) -> String {
+    whole(0, 0, [0, 1, 0, 0], ["", record, "", ""])
+}
+
+fn adding(record: &str) -> String {
+    whole(0, 0, [0, 0, 0, 1], ["", "", "", record])
+}
+
+fn edns(options: &str) -> String {
+    adding(&format!(
+        "{{\"EDNS\":{{\"Version\":0,\"FLAGS\":[],\"RCODE\":\"NoError\",\"UDPSIZE\":512{options}}}}}"
+    ))
+}
+
+#[track_caller]
+fn answer_is(text: &str, number: u32) {
+    let shown = &text[..text.len().min(900)];
+    match number {
+        0 => {
+            let message = message_of(text.as_bytes()).expect(shown);
+            assert_eq!(text_of(&message).unwrap(), text.as_bytes());
+        }
+        _ => assert_eq!(message_of(text.as_bytes()), Err(Refusal { number, place: 0 }), "{shown}"),
+    }
+}
+
+#[test]
+fn worked_example() {
+    let hex = "1A2B01000001000000000000016101620000010001";
+    let expected = "{\"ID\":6699,\"QR\":0,\"Opcode\":0,\"AA\":0,\"TC\":0,\"RD\":1,\"RA\":0,\"AD\":0,\"CD\":0,\"RCODE\":0,\"QDCOUNT\":1,\"ANCOUNT\":0,\"NSCOUNT\":0,\"ARCOUNT\":0,\"questionRRs\":[{\"NAME\":\"a.b.\",\"TYPE\":1,\"CLASS\":1}],\"answerRRs\":[],\"authorityRRs\":[],\"additionalRRs\":[]}";
+    assert_eq!(text(hex), expected);
+    assert_eq!(hex_of_octets(&message_of(expected.as_bytes()).unwrap()), hex.as_bytes());
+}
+
+#[test]
+fn marked_examples() {
+    refused("", 1, 0);
+    assert_eq!(text("00000000 00000000 00000000"), whole(0, 0, [0; 4], [""; 4]));
+    refused("00000000 00000000 00000000 00", 8, 12);
+    refused("00000040 00000000 00000000", 3, 0);
+    let with_ttl = |ttl: &str| text(&format!("00000000 00000001 00000000 00 0001 0001 {ttl} 0000"));
+    assert!(with_ttl("FFFFFFFF").contains("\"TTL\":-1,"));
+    assert!(with_ttl("80000000").contains("\"TTL\":-2147483648,"));
+    let with_label =
+        |label: &str| text(&format!("00000000 00010000 00000000 {label} 00 0001 0001"));
+    assert_eq!(with_label("012E"), asking("\\\\.."));
+    assert_eq!(with_label("0100"), asking("\\\\000."));
+    refused("00000000 00010000 00000000 C00C 0001 0001", 5, 12);
+    assert_eq!(
+        text("00000000 00000000 00000001 00 0029 04D0 00008000 0004 00090000"),
+        adding("{\"EDNS\":{\"Version\":0,\"FLAGS\":[\"DO\"],\"RCODE\":\"NoError\",\"UDPSIZE\":1232,\"EXPIRE\":\"NONE\"}}")
+    );
+    assert_eq!(
+        text("00000000 00000000 00000001 00 0029 04D0 01014000 0006 000F00020015"),
+        adding("{\"NAME\":\".\",\"TYPE\":41,\"CLASS\":1232,\"TTL\":16859136,\"RDATAHEX\":\"000F00020015\"}")
+    );
+    assert!(text("00000007 00000000 00000001 00 0029 04D0 01000000 0000")
+        .contains("\"RCODE\":\"BADCOOKIE\""));
+}
+
+#[test]
+fn names_and_labels_at_their_limits() {
+    let question = |name: &str| format!("00000000 00010000 00000000 {name} 0001 0001");
+    let label = |count: usize| format!("{count:02X}{}", "61".repeat(count));
+    let long = |last: usize| question(&format!("{}{}00", label(63).repeat(3), label(last)));
+    assert!(text(&long(61)).contains("\"NAME\":\"aaa"));
+    refused(&long(62), 6, 12);
+    assert!(text(&question(&(label(63) + "00"))).contains("\"NAME\":\"aaa"));
+    refused(&question(&(label(64) + "00")), 4, 12);
+    // 250 octets so far, a label of 10, and 7 octets left: 1 before 6.
+    let start = format!("{}{}", label(63).repeat(3), label(57));
+    refused(&format!("00000000 00010000 00000000 {start} 0A 61616161616161"), 1, 12);
+    refused(&format!("00000000 00010000 00000000 {start} 0A 61616161616161616161"), 6, 12);
+    // The same in RDATA: 7 before 6.
+    let record = |rdata: &str, length: usize| {
+        format!("00000000 00000001 00000000 00 0002 0001 00000000 {length:04X} {rdata}")
+    };
+    refused(&record(&format!("{start} 0A 61616161616161"), 258), 7, 12);
+    refused(&record(&format!("{start} 0A 61616161616161616161"), 261), 6, 12);
+}
+
+#[test]
+fn faults_in_rdata() {
+    let ns = |rdata: &str| {
+        let length = rdata.len() / 2;
+        format!("00000000 00010001 00000000 016100 0001 0001 00 0002 0001 00000000 {length:04X} {rdata}")
+    };
+    refused(&ns("C0"), 7, 19);
+    refused(&ns("40"), 4, 19);
+    refused(&ns("C01E"), 5, 19);
+    refused(&ns("C00B"), 5, 19);
+    refused(&ns("0262"), 7, 19);
+    refused(&ns("016200FF"), 7, 19);
+    assert!(text(&ns("C00C")).contains("\"RDATAHEX\":\"016100\""));
+    assert!(text(&ns("")).contains("\"TYPE\":2,\"CLASS\":1,\"TTL\":0,\"RDATAHEX\":\"\""));
+    // A pointer to a root octet.
+    assert!(text(&ns("C00E")).contains("\"RDATAHEX\":\"00\""));
+    // A run that begins in an earlier RDATA and passes the message's end.
+    refused(
+        "00000000 00000002 00000000 00 0010 0001 00000000 0001 20 00 0002 0001 00000000 0002 C017",
+        1,
+        24,
+    );
+}
+
+#[test]
+fn exact_room_and_one_less() {
+    let message = octets("1A2B01000001000000000000016101620000010001");
+    let text = text_of(&message).unwrap();
+    let mut room = vec![0xEE; text.len()];
+    assert_eq!(to_text(&message, &mut room), Ok(text.len()));
+    assert_eq!(room, text);
+    let mut small = vec![0xEE; text.len() - 1];
+    assert_eq!(to_text(&message, &mut small), Err(Refusal { number: 10, place: 0 }));
+    assert!(small.iter().all(|octet| *octet == 0xEE));
+    let mut room = vec![0xEE; message.len()];
+    assert_eq!(to_wire(&text, &mut room), Ok(message.len()));
+    assert_eq!(room, message);
+    let mut small = vec![0xEE; message.len() - 1];
+    assert_eq!(to_wire(&text, &mut small), Err(Refusal { number: 23, place: 0 }));
+    assert!(small.iter().all(|octet| *octet == 0xEE));
+}
+
+#[test]
+fn messages_over_the_limit() {
+    assert_eq!(text_of(&vec![0; 65_536]), Err(Refusal { number: 2, place: 0 }));
+    assert_eq!(text_of(&vec![0; 65_535]), Err(Refusal { number: 8, place: 12 }));
+    let mut all_z = vec![0xFF; 65_536];
+    assert_eq!(text_of(&all_z), Err(Refusal { number: 2, place: 0 }));
+    all_z.pop();
+    assert_eq!(text_of(&all_z), Err(Refusal { number: 3, place: 0 }));
+}
+
+#[test]
+fn numbers_in_texts() {
+    let with_id = |id: &str| asking(".").replacen("\"ID\":0", &format!("\"ID\":{id}"), 1);
+    for (id, number) in [
+        ("65535", 0),
+        ("65536", 21),
+        ("18446744073709551616", 21),
+        ("00", 20),
+        ("01", 20),
+        ("-1", 20),
+        ("-0", 20),
+        ("", 20),
+    ] {
+        answer_is(&with_id(id), number);
+    }
+    answer_is(&with_id(&"9".repeat(1_000_000)), 21);
+    answer_is(&with_id(&format!("1{}", "0".repeat(1_000_000))), 21);
+    let with_ttl = |ttl: &str| {
+        answering(&format!(
+            "{{\"NAME\":\".\",\"TYPE\":1,\"CLASS\":1,\"TTL\":{ttl},\"RDATAHEX\":\"\"}}"
+        ))
+    };
+    for (ttl, number) in [
+        ("2147483647", 0),
+        ("2147483648", 21),
+        ("-2147483648", 0),
+        ("-2147483649", 21),
+        ("-0", 20),
+        ("-01", 20),
+        ("-1", 0),
+        ("4294967295", 21),
+    ] {
+        answer_is(&with_ttl(ttl), number);
+    }
+}
+
+#[test]
+fn names_in_texts() {
+    for (name, number) in [
+        (".", 0),
+        ("a.", 0),
+        ("", 20),
+        ("a", 20),
+        ("..", 20),
+        ("a..", 20),
+        (".a.", 20),
+        ("\\\\..", 0),
+        ("\\\\.", 20),
+        ("\\..", 20),
+        ("\\\\\\\\.", 0),
+        ("\\\\\\\\\\\\.", 20),
+        ("\\\\046.", 20),
+        ("\\\\092.", 20),
+        ("\\\\034.", 0),
+        ("\\\".", 20),
+        ("\\\\\".", 20),
+        ("\\\\065.", 20),
+        ("\\\\000.", 0),
+        ("\\\\255.", 0),
+        ("\\\\256.", 20),
+        ("\\\\999.", 20),
+        ("\\\\32.", 20),
+        ("\\\\032.", 0),
+        (" .", 20),
+    ] {
+        answer_is(&asking(name), number);
+    }
+    let label = |count: usize| "\\\\000".repeat(count) + ".";
+    answer_is(&asking(&label(63)), 0);
+    answer_is(&asking(&label(64)), 21);
+    answer_is(&asking(&(label(63).repeat(3) + &label(61))), 0);
+    answer_is(&asking(&(label(63).repeat(3) + &label(62))), 21);
+    answer_is(&asking(&"b".repeat(3_000_000)), 20);
+    answer_is(&asking(&("b".repeat(3_000_000) + ".")), 21);
+}
+
+#[test]
+fn options_in_texts() {
+    let eight = "0102030405060708";
+    let cases = [
+        ("", 0),
+        (",\"NSID\":{\"HEX\":\"\"}", 0),
+        (",\"OPT3\":\"\"", 21),
+        (",\"OPT5\":\"00\"", 21),
+        (",\"OPT9\":\"\"", 21),
+        (",\"OPT9\":\"00\"", 0),
+        (",\"OPT9\":\"00000000\"", 21),
+        (",\"OPT10\":\"\"", 0),
+        (",\"OPT11\":\"0000\"", 21),
+        (",\"OPT11\":\"00\"", 0),
+        (",\"OPT12\":\"01\"", 21),
+        (",\"OPT14\":\"000000\"", 0),
+        (",\"OPT14\":\"\"", 21),
+        (",\"OPT15\":\"00\"", 0),
+        (",\"OPT15\":\"0000\"", 21),
+        (",\"OPT15\":\"00001F\"", 0),
+        (",\"OPT15\":\"000020\"", 21),
+        (",\"OPT65535\":\"\"", 0),
+        (",\"OPT65536\":\"\"", 21),
+        (",\"OPT05\":\"\"", 20),
+        (",\"OPT\":\"\"", 20),
+        (",\"OPT-1\":\"\"", 20),
+        (",\"EXPIRE\":4294967295", 0),
+        (",\"EXPIRE\":4294967296", 21),
+        (",\"EXPIRE\":\"none\"", 20),
+        (",\"EXPIRE\":\"NONE\",\"OPT9\":\"00\"", 21),
+        (",\"DAU\":[],\"NSID\":{\"HEX\":\"\"}", 21),
+        (",\"DAU\":[255]", 0),
+        (",\"DAU\":[256]", 21),
+        (",\"DAU\":[0,]", 20),
+        (",\"PADDING\":{\"LENGTH\":0}", 0),
+        (",\"PADDING\":{\"LENGTH\":0,\"HEX\":\"\"}", 21),
+        (",\"PADDING\":{\"LENGTH\":1,\"HEX\":\"00\"}", 21),
+        (",\"PADDING\":{\"LENGTH\":1,\"HEX\":\"10\"}", 0),
+        (",\"PADDING\":{\"LENGTH\":2,\"HEX\":\"10\"}", 21),
+        (",\"PADDING\":{\"LENGTH\":65508}", 0),
+        (",\"PADDING\":{\"LENGTH\":65509}", 22),
+        (",\"PADDING\":{\"LENGTH\":18446744073709551615}", 22),
+        (",\"PADDING\":{\"LENGTH\":18446744073709551616}", 22),
+        (",\"PADDING\":{\"LENGTH\":18446744073709551616,\"HEX\":\"\"}", 21),
+        (",\"EDE\":{\"CODE\":1,\"TEXT\":\"\"}", 21),
+        (",\"EDE\":{\"CODE\":1,\"TEXT\":\"\\\"\\\\/\"}", 0),
+        (",\"EDE\":{\"CODE\":1,\"TEXT\":\"\\/\"}", 20),
+        (",\"EDE\":{\"CODE\":1,\"TEXT\":\"\\u0041\"}", 20),
+        (",\"EDE\":{\"TEXT\":\"a\",\"CODE\":1}", 20),
+        (",\"COOKIE\":[]", 21),
+        (",\"UDPSIZE\":512", 20),
+    ];
+    for (options, number) in cases {
+        answer_is(&edns(options), number);
+    }
+    answer_is(&edns(&format!(",\"COOKIE\":[\"{eight}\"]")), 0);
+    answer_is(&edns(&format!(",\"COOKIE\":[\"{eight}\",\"{eight}\"]")), 0);
+    answer_is(&edns(&format!(",\"COOKIE\":[\"{eight}\",\"{}\"]", eight.repeat(4))), 0);
+    answer_is(&edns(&format!(",\"COOKIE\":[\"{eight}\",\"{}00\"]", eight.repeat(4))), 21);
+    answer_is(&edns(&format!(",\"COOKIE\":[\"{eight}{eight}\"]")), 21);
+    answer_is(&edns(&format!(",\"COOKIE\":[\"{eight}\",\"\"]")), 21);
+    answer_is(&edns(&format!(",\"COOKIE\":[\"{eight}\",\"{eight}\",\"{eight}\"]")), 21);
+    answer_is(&edns(&format!(",\"OPT10\":\"{eight}\"")), 21);
+    answer_is(&edns(&format!(",\"OPT10\":\"{eight}00\"")), 0);
+}
+
+#[test]
+fn edns_rules_in_texts() {
+    let opt = |ttl: &str, rdata: &str| {
+        format!("{{\"NAME\":\".\",\"TYPE\":41,\"CLASS\":1,\"TTL\":{ttl},\"RDATAHEX\":\"{rdata}\"}}")
+    };
+    let element = "{\"EDNS\":{\"Version\":0,\"FLAGS\":[],\"RCODE\":\"NoError\",\"UDPSIZE\":512}}";
+    let two = |first: &str, second: &str| {
+        whole(0, 0, [0, 0, 0, 2], ["", "", "", &format!("{first},{second}")])
+    };
+    answer_is(&adding(&opt("0", "")), 21);
+    answer_is(&adding(&opt("65536", "")), 0);
+    answer_is(&adding(&opt("0", "00")), 0);
+    answer_is(&adding(&opt("0", "0003000100")), 21);
+    answer_is(&adding(&opt("0", "0003000000030000")), 0);
+    answer_is(&answering(&opt("0", "")), 0);
+    answer_is(&answering(element), 20);
+    answer_is(&two(&opt("0", ""), &opt("0", "")), 0);
+    answer_is(&two(element, element), 21);
+    answer_is(&two(element, &opt("65536", "")), 21);
+    answer_is(
+        &whole(0, 7, [0, 0, 0, 1], ["", "", "", &element.replace("NoError", "BADCOOKIE")]),
+        0,
+    );
+    answer_is(
+        &whole(0, 6, [0, 0, 0, 1], ["", "", "", &element.replace("NoError", "BADCOOKIE")]),
+        21,
+    );
+    answer_is(&whole(0, 0, [0, 0, 0, 1], ["", "", "", &element.replace("NoError", "BADVERS")]), 20);
+    answer_is(
+        &whole(0, 0, [0, 0, 0, 1], ["", "", "", &element.replace("[]", "[\"DO\",\"DO\"]")]),
+        20,
+    );
+    answer_is(
+        &whole(
+            0,
+            0,
+            [0, 0, 0, 1],
+            ["", "", "", &element.replace("\"Version\":0", "\"Version\":1")],
+        ),
+        21,
+    );
+    answer_is(
+        &whole(
+            0,
+            0,
+            [0, 0, 0, 1],
+            ["", "", "", &element.replace("\"Version\":0", "\"Version\":00")],
+        ),
+        20,
+    );
+}
+
+#[test]
+fn sizes_over_the_limit() {
+    let zeros = |count: usize| "00".repeat(count);
+    let record = |rtype: &str, rdata: &str| {
+        format!(
+            "{{\"NAME\":\".\",\"TYPE\":{rtype},\"CLASS\":1,\"TTL\":0,\"RDATAHEX\":\"{rdata}\"}}"
+        )
+    };
+    answer_is(&answering(&record("16", &zeros(65_535 - 23))), 0);
+    answer_is(&answering(&record("16", &zeros(65_535 - 22))), 22);
+    answer_is(&answering(&record("16", &zeros(70_000))), 22);
+    answer_is(&answering(&record("2", &zeros(70_000))), 21);
+    answer_is(&answering(&record("16", &(zeros(70_000) + "0"))), 20);
+    // TYPE 41 in the additional section that could be an EDNS element but for its size.
+    let two_options = format!("0003FFFF{}0005FFFF{}", zeros(65_535), zeros(65_535));
+    answer_is(&adding(&record("41", &two_options)), 21);
+    answer_is(&adding(&record("41", &(two_options + "00"))), 22);
+    answer_is(&edns(&format!(",\"NSID\":{{\"HEX\":\"{}\"}}", zeros(70_000))), 22);
+    answer_is(&edns(&format!(",\"OPT14\":\"{}\"", zeros(70_000))), 21);
+    answer_is(&edns(&format!(",\"OPT14\":\"{}\"", zeros(70_001))), 22);
+    answer_is(&edns(&format!(",\"OPT20\":\"{}\"", zeros(70_000))), 22);
+    answer_is(&edns(&format!(",\"DAU\":[{}0]", "1,".repeat(70_000))), 22);
+    answer_is(&edns(&format!(",\"EDE\":{{\"CODE\":1,\"TEXT\":\"{}\"}}", "x".repeat(70_000))), 22);
+    answer_is(&edns(&format!(",\"COOKIE\":[\"{}\",\"{}\"]", zeros(8), zeros(70_000))), 21);
+    answer_is(
+        &edns(&format!(",\"PADDING\":{{\"LENGTH\":70000,\"HEX\":\"01{}\"}}", zeros(69_999))),
+        22,
+    );
+    answer_is(
+        &edns(&format!(",\"PADDING\":{{\"LENGTH\":70000,\"HEX\":\"{}\"}}", zeros(70_000))),
+        21,
+    );
+    answer_is(&edns(&format!(",\"PADDING\":{{\"LENGTH\":{}}}", "7".repeat(1_000_000))), 22);
+    answer_is(
+        &edns(&format!(
+            ",\"PADDING\":{{\"LENGTH\":{}}},\"EDE\":{{\"CODE\":65536}}",
+            "7".repeat(1_000)
+        )),
+        21,
+    );
+    // 65,535 and 65,536 questions.
+    let question = "{\"NAME\":\".\",\"TYPE\":1,\"CLASS\":1}";
+    let many = |count: u32| {
+        whole(0, 0, [count, 0, 0, 0], [&vec![question; count as usize].join(","), "", "", ""])
+    };
+    answer_is(&many(13_104), 0);
+    answer_is(&many(13_105), 22);
+    answer_is(&many(65_535), 22);
+    answer_is(&many(65_536), 21);
+}

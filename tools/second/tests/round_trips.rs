@@ -1,0 +1,150 @@
+//! What goes to text comes back, and what is refused leaves the buffer alone.
+
+use second::generate;
+use second::random::Random;
+use second::{message_of, text_of, to_text, to_wire, uncompressed, Refusal};
+
+const MESSAGES: usize = 6_000;
+
+fn check_message(message: &[u8]) {
+    let form = uncompressed(message).expect("the message is accepted");
+    let text = text_of(message).expect("the message is accepted");
+    assert!(text.iter().all(|octet| (0x20..=0x7E).contains(octet)));
+    assert_eq!(text_of(&form).as_ref(), Ok(&text));
+    assert_eq!(uncompressed(&form).as_ref(), Some(&form));
+    assert_eq!(message_of(&text).as_ref(), Ok(&form));
+}
+
+#[test]
+fn valid_messages_go_there_and_back() {
+    let mut random = Random::new(1);
+    for _ in 0..MESSAGES {
+        check_message(&generate::valid_message(&mut random));
+    }
+}
+
+#[test]
+fn large_messages_go_there_and_back() {
+    let mut random = Random::new(2);
+    for size in [500, 1_000, 5_000, 10_000, 20_000, 40_000, 60_000] {
+        for _ in 0..5 {
+            let message = generate::message_of_size(&mut random, size);
+            assert!(message.len() <= 65_535 && message.len() + 200 > size);
+            check_message(&message);
+        }
+    }
+}
+
+#[test]
+fn damaged_messages_are_refused_or_go_there_and_back() {
+    let mut random = Random::new(3);
+    for _ in 0..MESSAGES {
+        let message = generate::damaged_message(&mut random);
+        match text_of(&message) {
+            Ok(_) => check_message(&message),
+            Err(refusal) => {
+                assert!((1..=9).contains(&refusal.number));
+                assert!(refusal.place <= message.len() as u64);
+                assert_eq!(uncompressed(&message), None);
+            }
+        }
+    }
+}
+
+#[test]
+fn accepted_texts_come_back() {
+    let mut random = Random::new(4);
+    let mut accepted = 0;
+    for _ in 0..2 * MESSAGES {
+        let text = generate::text(&mut random);
+        assert!(!text.contains(&b'\n'));
+        match message_of(&text) {
+            Ok(message) => {
+                accepted += 1;
+                assert_eq!(text_of(&message), Ok(text));
+                assert_eq!(uncompressed(&message), Some(message));
+            }
+            Err(refusal) => {
+                assert!((20..=22).contains(&refusal.number));
+                assert_eq!(refusal.place, 0);
+            }
+        }
+    }
+    assert!(accepted > MESSAGES / 2 && accepted < 2 * MESSAGES);
+}
+
+#[test]
+fn valid_texts_are_accepted() {
+    let mut random = Random::new(5);
+    for _ in 0..MESSAGES {
+        assert!(message_of(&generate::valid_text(&mut random)).is_ok());
+    }
+}
+
+/// A buffer of random length and content; with it a copy.
+fn leftovers(random: &mut Random, around: usize) -> (Vec<u8>, Vec<u8>) {
+    let length = match random.below(4) {
+        0 => around,
+        1 => around.saturating_sub(1),
+        2 => random.below(around + 1),
+        _ => around + random.below(100),
+    };
+    let buffer = random.octets(length);
+    (buffer.clone(), buffer)
+}
+
+/// What a call must have left: the output and the octets behind it, or all as before.
+fn check_buffer(
+    answer: Result<usize, Refusal>,
+    whole: Result<Vec<u8>, Refusal>,
+    no_room: u32,
+    before: &[u8],
+    after: &[u8],
+) {
+    match whole {
+        Ok(output) if output.len() <= before.len() => {
+            assert_eq!(answer, Ok(output.len()));
+            assert_eq!(after[..output.len()], output);
+            assert_eq!(after[output.len()..], before[output.len()..]);
+        }
+        Ok(_) => {
+            assert_eq!(answer, Err(Refusal { number: no_room, place: 0 }));
+            assert_eq!(after, before);
+        }
+        Err(refusal) => {
+            assert_eq!(answer, Err(refusal));
+            assert_eq!(after, before);
+        }
+    }
+}
+
+#[test]
+fn buffers_keep_what_is_not_written() {
+    let mut random = Random::new(6);
+    for _ in 0..MESSAGES {
+        let message = generate::message(&mut random);
+        let whole = text_of(&message);
+        let (before, mut buffer) = leftovers(&mut random, whole.as_ref().map_or(50, Vec::len));
+        let answer = to_text(&message, &mut buffer);
+        check_buffer(answer, whole, 10, &before, &buffer);
+
+        let text = generate::text(&mut random);
+        let whole = message_of(&text);
+        let (before, mut buffer) = leftovers(&mut random, whole.as_ref().map_or(50, Vec::len));
+        let answer = to_wire(&text, &mut buffer);
+        check_buffer(answer, whole, 23, &before, &buffer);
+    }
+}
+
+#[test]
+fn the_same_seed_gives_the_same_inputs() {
+    let made = |seed| {
+        let mut random = Random::new(seed);
+        (generate::message(&mut random), generate::text(&mut random))
+    };
+    assert_eq!(made(9), made(9));
+    assert_ne!(made(9), made(10));
+    let mut random = Random::new(0);
+    assert_eq!(random.number(), 0xE220_A839_7B1D_CDAF);
+    assert_eq!(random.number(), 0x6E78_9E6A_A1B9_65F4);
+}
