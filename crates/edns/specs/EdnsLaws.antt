@@ -22,7 +22,7 @@ use Rattle.edns.specs.Edns.{optionForm, prepend, divided, optionsOf, ris
 
 -- ---- options in RDATA
 -- one step of dividing: the octets of an option, then the rest
-divided-end : (n : ℕ) → divided (suc n) [] ≡ some []
+pub divided-end : (n : ℕ) → divided (suc n) [] ≡ some []
 unfolding divided
 divided-end n = refl
 

@@ -1,3 +1,6 @@
 -- EDNS options: their table, the shapes of their values, their members.
 pub mod Options
 pub mod Boundaries
+pub mod Every
+pub mod Entries
+pub mod Writing

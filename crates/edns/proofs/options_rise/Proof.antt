@@ -1,0 +1,82 @@
+-- `edns::options_rise` meets its contract: what is read from `at` on gives the whole answer.
+-- Assumes nothing.
+use Prim.Native.Nat.{_≤_, _-_}
+use lib.ListN.{length}
+use Rattle.edns.specs.Element.{optionsRise}
+use Rattle.edns.specs.Ways.{From, rises-start, rises-cut, rises-short, rises-low, rises-more, rises-end}
+use borrow.Author.Needs.{needs}
+use Rattle.edns.proofs.options_rise.Statement.{statement}
+use Rattle.edns.proofs.options_rise.Tie as tie
+
+abbrev Inv-loop : tie.InvT-loop
+Inv-loop rdata least₀ at₀ least at = (at ≤ length rdata) × (least ≤ 65536) × From rdata (optionsRise rdata) least at
+
+abbrev μ-loop : tie.MeasureT-loop
+μ-loop rdata least₀ at₀ least at = length rdata - at
+
+loop-holds : tie.Need-loop-holds Inv-loop μ-loop
+loop-holds c = (search needs, search needs, rises-start _)
+
+add-if1 : tie.Need-add-if1 Inv-loop μ-loop
+add-if1 c = search needs
+
+returns : tie.Need-returns Inv-loop μ-loop
+returns c = search (rises-cut, needs)
+
+two-at-requires : tie.Need-two-at-requires Inv-loop μ-loop
+two-at-requires c κs = search needs
+
+add-two-at : tie.Need-add-two-at Inv-loop μ-loop
+add-two-at c = search needs
+
+two-at-requires-2 : tie.Need-two-at-requires-2 Inv-loop μ-loop
+two-at-requires-2 c κs = search needs
+
+cast-size : tie.Need-cast-size Inv-loop μ-loop
+cast-size c = search needs
+
+add-end : tie.Need-add-end Inv-loop μ-loop
+add-end c = search needs
+
+add-end-2 : tie.Need-add-end-2 Inv-loop μ-loop
+add-end-2 c = search needs
+
+returns-2 : tie.Need-returns-2 Inv-loop μ-loop
+returns-2 c = search (rises-short, needs)
+
+returns-3 : tie.Need-returns-3 Inv-loop μ-loop
+returns-3 c = search (rises-low, needs)
+
+add-least : tie.Need-add-least Inv-loop μ-loop
+add-least c = search needs
+
+loop-less : tie.Need-loop-less Inv-loop μ-loop
+loop-less c = search needs
+
+loop-again : tie.Need-loop-again Inv-loop μ-loop
+loop-again c = (search needs, search needs, search (rises-more, needs))
+
+returns-4 : tie.Need-returns-4 Inv-loop μ-loop
+returns-4 c = search (rises-end, needs)
+
+pub options-rise-spec : {M : Type 1} → statement M
+options-rise-spec =
+    tie.close
+    (tie.spec
+    Inv-loop
+    μ-loop
+    loop-holds
+    add-if1
+    returns
+    two-at-requires
+    add-two-at
+    two-at-requires-2
+    cast-size
+    add-end
+    add-end-2
+    returns-2
+    returns-3
+    add-least
+    loop-less
+    loop-again
+    returns-4)
