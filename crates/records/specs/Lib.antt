@@ -6,3 +6,9 @@ pub mod Decode
 pub mod RecordLaws
 pub mod MessageLaws
 pub mod Boundaries
+pub mod Parts
+pub mod Answer
+pub mod Reading
+pub mod Pieces
+pub mod Putting
+pub mod Uncompressed

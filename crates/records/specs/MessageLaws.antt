@@ -36,17 +36,17 @@ stopped≢reached e = subst Came (sym e) tt
 
 module _ {A : Type 0} (read : List ℕ → ℕ → Entry A) (s : List ℕ) where
   -- an entry that is read, and the entries behind it
-  section-step : (n at : ℕ) (a : A) (next : ℕ) → read s at ≡ entry a next → sectionAt read s (suc n) at ≡ add a (sectionAt read s n next)
+  pub section-step : (n at : ℕ) (a : A) (next : ℕ) → read s at ≡ entry a next → sectionAt read s (suc n) at ≡ add a (sectionAt read s n next)
   unfolding sectionAt
   section-step n at a next e = rw (e, sectionAt)
 
   -- a fault ends the section
-  section-stop : (n at : ℕ) (fault : Fault) → read s at ≡ bad fault → sectionAt read s (suc n) at ≡ record { entries = []; end = stopped at fault }
+  pub section-stop : (n at : ℕ) (fault : Fault) → read s at ≡ bad fault → sectionAt read s (suc n) at ≡ record { entries = []; end = stopped at fault }
   unfolding sectionAt
   section-stop n at fault e = rw (e, sectionAt)
 
   -- the section before has come to its end
-  from-reached : (n : ℕ) (w : Reached) (i : ℕ) → sectionFrom read s n w .end ≡ reached i → (at : ℕ) × (w ≡ reached at) × (sectionAt read s n at .end ≡ reached i)
+  pub from-reached : (n : ℕ) (w : Reached) (i : ℕ) → sectionFrom read s n w .end ≡ reached i → (at : ℕ) × (w ≡ reached at) × (sectionAt read s n at .end ≡ reached i)
   unfolding sectionFrom
   from-reached n (reached at) i e = (at, refl, e)
   from-reached n (stopped at fault) i e = absurd (stopped≢reached e)

@@ -107,7 +107,7 @@ Fills (fixed n ∷ layout) d = (a : List ℕ) × (b : List ℕ) × (length a ≡
 Fills (name ∷ layout) d = (m : Name) × (b : List ℕ) × Sized m × (length (nameForm m) ≤ 255) × Fills layout b × (d ≡ nameForm m ++ b)
 
 -- what is read is of that kind
-pieces-fill : (jumps : Bool) (layout : List Piece) (s : List ℕ) (start end at : ℕ) (d : List ℕ) → end ≤ length s
+pub pieces-fill : (jumps : Bool) (layout : List Piece) (s : List ℕ) (start end at : ℕ) (d : List ℕ) → end ≤ length s
     → pieces jumps layout s start end at ≡ laid d → Fills layout d
 pieces-fill jumps [] s start end at d h e = end-back jumps s start end at d e .1
 pieces-fill jumps (fixed n ∷ layout) s start end at d h e =
@@ -250,7 +250,7 @@ rdata-fits jumps s type at size d o h e = go (eqb size 0) refl (layoutOf type) r
 
 -- ---- fields behind a name
 -- the sum of the widths
-abbrev sum : List ℕ → ℕ
+abbrev pub sum : List ℕ → ℕ
 sum [] = 0
 sum (width ∷ widths) = width + sum widths
 
@@ -459,7 +459,7 @@ record-back s r at q h small e =
     (ap (entry q) place)
 
 -- RDATA's answer within a record's
-abbrev filled : (List ℕ → Record) → ℕ → Laid → Entry Record
+abbrev pub filled : (List ℕ → Record) → ℕ → Laid → Entry Record
 filled f next (laid d) = entry (f d) next
 filled f next (misfit fault) = bad fault
 
@@ -477,7 +477,7 @@ room-back s next fault w q i = go (ltb (length s) next) refl
     go false p e = (ltb-false (length s) next p, e)
 
 -- the same answer as `recordAt` writes it
-elim-filled : (f : List ℕ → Record) (next : ℕ) (w : Laid) → (elim w as (λ x. Entry Record) [ laid d ↦ entry (f d) next | misfit fault ↦ bad fault ]) ≡ filled f next w
+pub elim-filled : (f : List ℕ → Record) (next : ℕ) (w : Laid) → (elim w as (λ x. Entry Record) [ laid d ↦ entry (f d) next | misfit fault ↦ bad fault ]) ≡ filled f next w
 elim-filled f next (laid d) = refl
 elim-filled f next (misfit fault) = refl
 

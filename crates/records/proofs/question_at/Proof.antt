@@ -1,0 +1,52 @@
+-- `records::question_at` meets its contract: the name's fault, or TYPE and CLASS behind the name. Assumes nothing.
+use borrow.Author.Needs.{needs}
+use mathlib.Core.List.{[], _∷_}
+use native.Mathlib.Omega.{arith}
+use Rattle.records.specs.Reading.{begins, question-faulty, question-whole}
+use Rattle.records.proofs.question_at.Statement.{statement}
+use Rattle.records.proofs.question_at.Tie as tie
+
+slice-aggregate-begun-at : tie.Need-slice-aggregate-begun-at
+slice-aggregate-begun-at c = search needs
+
+begun-at-requires : tie.Need-begun-at-requires
+begun-at-requires c κs = search needs
+
+enum-known-answer : tie.Need-enum-known-answer
+enum-known-answer c = search needs
+
+enum-known-answer-2 : tie.Need-enum-known-answer-2
+enum-known-answer-2 c = search needs
+
+two-at-requires : tie.Need-two-at-requires
+two-at-requires c κs = omega (arith, begins _ (2 ∷ 2 ∷ []) (c .before .before .before .before .begun-at .ensures .1) (c .before .answer2 .given .1))
+
+add-two-at : tie.Need-add-two-at
+add-two-at c = omega (arith, begins _ (2 ∷ 2 ∷ []) (c .before .before .before .before .before .begun-at .ensures .1) (c .before .before .answer2 .given .1))
+
+two-at-requires-2 : tie.Need-two-at-requires-2
+two-at-requires-2 c κs = omega (arith, begins _ (2 ∷ 2 ∷ []) (c .before .before .before .before .before .begun-at .ensures .1) (c .before .before .answer2 .given .1))
+
+add-t16 : tie.Need-add-t16
+add-t16 c = omega (arith, begins _ (2 ∷ 2 ∷ []) (c .before .before .before .before .before .before .begun-at .ensures .1) (c .before .before .before .answer2 .given .1))
+
+returns : tie.Need-returns
+returns c = (question-faulty _ _ (c .before .before .before .before .begun-at .ensures .0) (c .before .answer .given .1), tt)
+
+returns-2 : tie.Need-returns-2
+returns-2 c = let p = begins _ (2 ∷ 2 ∷ []) (c .before .before .before .before .before .before .begun-at .ensures .1) (c .before .before .before .answer2 .given .1) in (question-whole _ _ (c .before .before .before .before .before .before .begun-at .ensures .0) (c .before .before .before .answer2 .given .1) (c .before .two-at .ensures .0) (c .two-at2 .ensures .0), omega arith)
+
+pub question-at-spec : {M : Type 1} → statement M
+question-at-spec =
+    tie.close
+    (tie.spec
+    slice-aggregate-begun-at
+    begun-at-requires
+    enum-known-answer
+    enum-known-answer-2
+    two-at-requires
+    add-two-at
+    two-at-requires-2
+    add-t16
+    returns
+    returns-2)

@@ -1,0 +1,188 @@
+-- The readers' ways through the code: a name and its fields, a question, a record's head. Assumes nothing.
+use mathlib.Core.Path.{_≡_, refl, sym, ap, _∙_, subst}
+use mathlib.Core.Option.{none, some}
+use mathlib.Core.List.{List, [], _∷_}
+use Prim.Native.Nat.{ℕ, _+_, _≤_, _<_}
+use native.Mathlib.Numerals.{add-one}
+use native.Mathlib.Omega.{arith}
+use borrow.Author.Tests.{le-leb, lt-leb, le-ltb, lt-ltb}
+use lib.ListN.{length, getD, drop, replicate, drop-of-length-le}
+use lib.Seq.{drop-cons}
+use Rattle.octets.specs.Fields.{twoAt, fourAt}
+use Rattle.names.specs.Name.{Name, nameForm}
+use Rattle.names.specs.Name as name
+use Rattle.names.specs.Walk.{message, named, faulty, nameAt}
+use Rattle.names.specs.Walk as walk
+use Rattle.names.specs.NameLaws.{read-sized}
+use Rattle.names.specs.Answer.{faultOf, failed, nameRead}
+use Rattle.names.specs.declared.Fault.{Fault}
+use Rattle.names.specs.declared.Fault.the-variants.{Cut}
+use Rattle.names.specs.declared.Named.{Named}
+use Rattle.names.specs.declared.Named.the-variants.{Read, Faulty}
+use Rattle.names.specs.declared.NameRead.{NameRead}
+use Rattle.records.specs.Read.{unfit, questionAt}
+use Rattle.records.specs.RecordLaws.{sum}
+use Rattle.records.specs.Parts.{begunAt, question-begun, headAt}
+use Rattle.records.specs.declared.Question.the-variants as question
+use Rattle.records.specs.declared.Record.the-variants as record′
+use Rattle.records.specs.Answer.{padded, Begins, questionRead, recordRead}
+
+-- ---- what a name's answer tells
+-- the parts of an answer
+abbrev nextOf : Named → ℕ
+nextOf (Read next size) = next
+nextOf (Faulty fault) = 0
+
+abbrev sizeOf : Named → ℕ
+sizeOf (Read next size) = size
+sizeOf (Faulty fault) = 0
+
+abbrev faultIn : Fault → Named → Fault
+faultIn d (Read next size) = d
+faultIn d (Faulty fault) = fault
+
+abbrev Whole : Named → Type 0
+Whole (Read next size) = Unit {0}
+Whole (Faulty fault) = ⊥
+
+faulty≢read : {fault : Fault} {next size : ℕ} → Faulty fault ≡ Read next size → ⊥
+faulty≢read e = subst Whole (sym e) tt
+
+module _ {r : NameRead} where
+  -- a name was read
+  pub name-read : (w : walk.Named) → r ≡ nameRead w → {next size : ℕ} → r .answer ≡ Read next size
+      → (n : Name) × (w ≡ named n next) × (size ≡ length (nameForm n)) × (r .octets ≡ padded (nameForm n))
+  unfolding nameRead failed
+  name-read (named n i) e p =
+      let q = sym (ap (λ (x : NameRead). x .answer) e) ∙ p in
+      (n, ap (named n) (ap nextOf q), sym (ap sizeOf q), ap (λ (x : NameRead). x .octets) e)
+  name-read (faulty fault) e p = absurd (faulty≢read (sym (ap (λ (x : NameRead). x .answer) e) ∙ p))
+
+  -- a fault was met
+  pub name-faulty : (w : walk.Named) → r ≡ nameRead w → {f : Fault} → r .answer ≡ Faulty f
+      → (fault : name.Fault) × (w ≡ faulty fault) × (f ≡ faultOf fault) × (r .octets ≡ replicate 255 0)
+  unfolding nameRead failed
+  name-faulty (named n i) e p = absurd (faulty≢read (sym p ∙ ap (λ (x : NameRead). x .answer) e))
+  name-faulty (faulty fault) e {f} p =
+      let q = sym (ap (λ (x : NameRead). x .answer) e) ∙ p in
+      (fault, refl, sym (ap (faultIn f) q), ap (λ (x : NameRead). x .octets) e)
+
+-- ---- fields behind a name
+-- the fields before the i-th fit, and end at `place`
+pub record Fields (s widths : List ℕ) (next place i : ℕ) : Type 0 where
+  pub same : unfit s next widths ≡ unfit s place (drop i widths)
+  pub long : place + sum (drop i widths) ≡ next + sum widths
+
+pub fields-start : (s widths : List ℕ) (next : ℕ) → Fields s widths next next 0
+fields-start s widths next = record { same = refl; long = refl }
+
+module _ {s widths : List ℕ} {next place i : ℕ} (f : Fields s widths next place i) where
+  -- the i-th field and those behind it
+  first : i < length widths → drop i widths ≡ getD widths i 0 ∷ drop (i + 1) widths
+  first h = rw (add-one, drop-cons widths i 0)
+
+  -- it fits
+  pub fields-more : {width : ℕ} → i < length widths → width ≡ getD widths i 0 → place + width ≤ length s → Fields s widths next (place + width) (i + 1)
+  unfolding unfit
+  fields-more {width} h e k =
+      record {
+        same = f .same ∙ rw (first h, ← e, le-leb (place + width) (length s) k);
+        long = let p : sum (drop i widths) ≡ width + sum (drop (i + 1) widths) = rw (first h, ← e) in omega (arith, f .long);
+      }
+
+  -- it does not
+  fields-cut : {width : ℕ} → i < length widths → width ≡ getD widths i 0 → length s < place + width → unfit s next widths ≡ some place
+  unfolding unfit
+  fields-cut {width} h e k = f .same ∙ rw (first h, ← e, lt-leb (place + width) (length s) k)
+
+  -- there is no i-th field
+  fields-end : length widths ≤ i → (unfit s next widths ≡ none) × (place ≡ next + sum widths)
+  unfolding unfit
+  fields-end h = (f .same ∙ rw (drop-of-length-le widths h), let p : sum (drop i widths) ≡ 0 = rw (drop-of-length-le widths h) in omega (arith, f .long))
+
+-- ---- a name with fields behind it
+-- where a name that is read ends
+name-ends : (s : List ℕ) (at : ℕ) {r : NameRead} → r ≡ nameRead (nameAt s message at) → {next size : ℕ} → r .answer ≡ Read next size
+    → (at < next) × (next ≤ length s) × (size ≤ 255)
+name-ends s at e {next} p =
+    let (n, q, a, b) = name-read (nameAt s message at) e p in
+    let k = read-sized s message at at n next (omega arith) q in
+    (k .2, k .3, omega (arith, k .1))
+
+pub name-within : (s : List ℕ) (at : ℕ) {r : NameRead} → r ≡ nameRead (nameAt s message at) → {next size : ℕ} → r .answer ≡ Read next size → next ≤ length s
+name-within s at e p = name-ends s at e p .1
+
+module _ (s widths : List ℕ) (at : ℕ) {r : NameRead} (e : r ≡ nameRead (nameAt s message at)) where
+  pub begun-faulty : {f : Fault} → r .answer ≡ Faulty f → r ≡ nameRead (begunAt s at widths)
+  unfolding begunAt
+  begun-faulty p =
+      let (fault, q, a, b) = name-faulty (nameAt s message at) e p in
+      e ∙ rw (q)
+
+  module _ {next size : ℕ} (p : r .answer ≡ Read next size) where
+    pub begun-cut : {place i width : ℕ} → Fields s widths next place i → i < length widths → width ≡ getD widths i 0 → length s < place + width
+        → record { answer = Faulty (Cut place); octets = replicate 255 0 } ≡ nameRead (begunAt s at widths)
+    unfolding begunAt nameRead failed
+    begun-cut f h k l =
+        let (n, q, a, b) = name-read (nameAt s message at) e p in
+        rw (q, fields-cut f h k l)
+
+    pub begun-whole : {place i : ℕ} → Fields s widths next place i → length widths ≤ i → r ≡ nameRead (begunAt s at widths)
+    unfolding begunAt
+    begun-whole f h =
+        let (n, q, a, b) = name-read (nameAt s message at) e p in
+        e ∙ rw (q, fields-end f h .0)
+
+    pub begun-fits : {place i : ℕ} → Fields s widths next place i → length widths ≤ i → place ≤ length s → Begins (r .answer) at widths (length s)
+    begun-fits f h k = let (a, b, c) = name-ends s at e p in rw p (a, omega (arith, fields-end f h .1), c)
+
+-- the bounds of a name that is read
+pub begins : (w : Named) (widths : List ℕ) {at end next size : ℕ} → Begins w at widths end → w ≡ Read next size → (at < next) × (next + sum widths ≤ end) × (size ≤ 255)
+begins w widths h e = rw e at h
+
+-- ---- questions
+module _ (s : List ℕ) (at : ℕ) {r : NameRead} (e : r ≡ nameRead (begunAt s at (2 ∷ 2 ∷ []))) where
+  pub question-faulty : {f : Fault} → r .answer ≡ Faulty f → record { answer = question.Faulty f; name = r .octets } ≡ questionRead (questionAt s at)
+  unfolding questionRead
+  question-faulty {f} p = go (name-faulty (begunAt s at (2 ∷ 2 ∷ [])) e p)
+    where
+      go : (x : (fault : name.Fault) × (begunAt s at (2 ∷ 2 ∷ []) ≡ faulty fault) × (f ≡ faultOf fault) × (r .octets ≡ replicate 255 0))
+          → record { answer = question.Faulty f; name = r .octets } ≡ questionRead (questionAt s at)
+      go (fault, q, a, b) = rw (question-begun s at, q, a, b)
+
+  pub question-whole : {next size kind class : ℕ} → r .answer ≡ Read next size → kind ≡ twoAt s next → class ≡ twoAt s (next + 2)
+      → record { answer = question.Read (record { size = size; kind = kind; class = class; next = next + 4 }); name = r .octets } ≡ questionRead (questionAt s at)
+  unfolding questionRead
+  question-whole {next} {size} {kind} {class} p k c = go (name-read (begunAt s at (2 ∷ 2 ∷ [])) e p)
+    where
+      go : (x : (n : Name) × (begunAt s at (2 ∷ 2 ∷ []) ≡ named n next) × (size ≡ length (nameForm n)) × (r .octets ≡ padded (nameForm n)))
+          → record { answer = question.Read (record { size = size; kind = kind; class = class; next = next + 4 }); name = r .octets } ≡ questionRead (questionAt s at)
+      go (n, q, a, b) = rw (question-begun s at, q, a, b, k, c)
+
+-- ---- heads of records
+module _ (s : List ℕ) (at : ℕ) {r : NameRead} (e : r ≡ nameRead (begunAt s at (2 ∷ 2 ∷ 4 ∷ 2 ∷ []))) where
+  pub head-faulty : {f : Fault} → r .answer ≡ Faulty f → record { answer = record′.Faulty f; name = r .octets } ≡ recordRead (headAt s at)
+  unfolding recordRead headAt
+  head-faulty {f} p = go (name-faulty (begunAt s at (2 ∷ 2 ∷ 4 ∷ 2 ∷ [])) e p)
+    where
+      go : (x : (fault : name.Fault) × (begunAt s at (2 ∷ 2 ∷ 4 ∷ 2 ∷ []) ≡ faulty fault) × (f ≡ faultOf fault) × (r .octets ≡ replicate 255 0))
+          → record { answer = record′.Faulty f; name = r .octets } ≡ recordRead (headAt s at)
+      go (fault, q, a, b) = rw (q, a, b)
+
+  module _ {next size : ℕ} (p : r .answer ≡ Read next size) {length′ : ℕ} (l : length′ ≡ twoAt s (next + 8)) where
+    pub head-cut : length s < next + 10 + length′ → record { answer = record′.Faulty (Cut (next + 10)); name = replicate 255 0 } ≡ recordRead (headAt s at)
+    unfolding recordRead headAt
+    head-cut h =
+        let (n, q, a, b) = name-read (begunAt s at (2 ∷ 2 ∷ 4 ∷ 2 ∷ [])) e p in
+        rw (q, ← l, lt-ltb (length s) (next + 10 + length′) h)
+
+    pub head-whole : {kind class ttl : ℕ} → next + 10 + length′ ≤ length s → kind ≡ twoAt s next → class ≡ twoAt s (next + 2) → ttl ≡ fourAt s (next + 4)
+        → record { answer = record′.Read (record { size = size; kind = kind; class = class; ttl = ttl; rdata = next + 10; length = length′ }); name = r .octets }
+        ≡ recordRead (headAt s at)
+    unfolding recordRead headAt
+    head-whole {kind} {class} {ttl} h k c t = go (name-read (begunAt s at (2 ∷ 2 ∷ 4 ∷ 2 ∷ [])) e p)
+      where
+        go : (x : (n : Name) × (begunAt s at (2 ∷ 2 ∷ 4 ∷ 2 ∷ []) ≡ named n next) × (size ≡ length (nameForm n)) × (r .octets ≡ padded (nameForm n)))
+            → record { answer = record′.Read (record { size = size; kind = kind; class = class; ttl = ttl; rdata = next + 10; length = length′ }); name = r .octets }
+            ≡ recordRead (headAt s at)
+        go (n, q, a, b) = rw (q, a, b, k, c, t, ← l, le-ltb (length s) (next + 10 + length′) h)
