@@ -1,25 +1,30 @@
 -- Calls of the converter, and what they write. Assumes nothing.
-use mathlib.Core.Path.{_≡_}
 use mathlib.Core.List.{List, [], _∷_, _++_}
 use Prim.Native.Nat.{ℕ, _≤_}
 use lib.ListN.{length}
 use Rattle.octets.specs.Lists.{Octets}
-use Rattle.octets.specs.Answer.{Answer, Left, written}
+use Rattle.octets.specs.Answer.{Left, written}
 use Rattle.records.specs.Message.{form}
 use Rattle.records.specs.Decode.{Decoded, accepted, refused, decode}
 use Rattle.json.specs.Text.{text}
-use Rattle.json.specs.Converted.{toText}
+use Rattle.json.specs.Promise.{answerOf, Converted}
+use Rattle.json.specs.declared.Answer.{Answer as Told}
 
--- a call: the message's octets, the lent buffer before it, and its answer with the buffer after it
+-- a call: the message's octets, the lent buffer before it, its answer, the buffer after it
 pub record Call : Type 0 where
   pub message : List ℕ
   pub before : List ℕ
-  pub left : Left
+  pub answer : Told
+  pub after : List ℕ
 
--- the call answered and left what document 01 says
+-- a call of `json::convert`: its message is octets, as every slice of them is, and the function's promise holds of it
 pub record Made (c : Call) : Type 0 where
   pub octets : Octets (c .message)
-  pub leaves : c .left ≡ toText (c .message) (c .before)
+  pub promise : Converted (c .message) (c .before) (c .answer) (c .after)
+
+-- what the call answered, in document 01's number and values, and left in its buffer
+abbrev pub leftBy : Call → Left
+leftBy c = record { answer = answerOf (c .answer); buffer = c .after }
 
 -- given room: if the message is accepted, the buffer is at least as long as its text
 abbrev pub Fits : Decoded → ℕ → Type 0
@@ -31,7 +36,7 @@ Room c = Fits (decode (c .message)) (length (c .before))
 
 -- the text that a call wrote: the octets of its buffer up to the reported length; a refusal adds nothing
 abbrev pub textOf : Call → List ℕ
-textOf c = written (c .left)
+textOf c = written (leftBy c)
 
 -- what a list of calls wrote, set end to end
 unfoldable pub stream : List Call → List ℕ

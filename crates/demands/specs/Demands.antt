@@ -14,38 +14,38 @@ use Rattle.records.specs.MessageLaws.{decode-valid, forms-equal}
 use Rattle.json.specs.Text.{text}
 use Rattle.json.specs.Converted.{outputOf, converted, toText}
 use Rattle.strict.specs.ReadingLaws.{Whole, text-splits, text-filled}
-use Rattle.demands.specs.Calls.{Call, Made, Fits, Room, textOf, stream, addForm, formsOf}
+use Rattle.demands.specs.Calls.{Call, Made, leftBy, Fits, Room, textOf, stream, addForm, formsOf}
 
 -- ---- demand 1
 -- answer and octets written depend on the message and the buffer's length, not on what the buffer held
 pub demand-1-same : (c d : Call) → Made c → Made d → c .message ≡ d .message → length (c .before) ≡ length (d .before)
-    → (c .left .answer ≡ d .left .answer) × (textOf c ≡ textOf d)
+    → (leftBy c .answer ≡ leftBy d .answer) × (textOf c ≡ textOf d)
 unfolding toText
-demand-1-same c d p q e n = rw (p .leaves, q .leaves, e) (delivered-same 10 (converted (d .message)) (c .before) (d .before) n)
+demand-1-same c d p q e n = rw (p .promise .answers, p .promise .leaves, q .promise .answers, q .promise .leaves, e) (delivered-same 10 (converted (d .message)) (c .before) (d .before) n)
 
 -- the octets after the reported length stay, and on a refusal, which reports none, all of them; the buffer keeps its length
 pub demand-1-stays : (c : Call) → Made c
-    → (drop (reported (c .left .answer)) (c .left .buffer) ≡ drop (reported (c .left .answer)) (c .before)) × (length (c .left .buffer) ≡ length (c .before))
+    → (drop (reported (leftBy c .answer)) (leftBy c .buffer) ≡ drop (reported (leftBy c .answer)) (c .before)) × (length (leftBy c .buffer) ≡ length (c .before))
 unfolding toText
-demand-1-stays c p = rw (p .leaves) (delivered-stays 10 (converted (c .message)) (c .before))
+demand-1-stays c p = rw (p .promise .answers, p .promise .leaves) (delivered-stays 10 (converted (c .message)) (c .before))
 
 -- ---- demand 2, its writing half
 module _ (c : Call) (made : Made c) where
   -- an accepted message, given room: its length is reported, and its text stands in the buffer
   pub demand-2-writes : (m : Message) → decode (c .message) ≡ accepted m → length (text m) ≤ length (c .before)
-      → (c .left .answer ≡ success (length (text m))) × (textOf c ≡ text m)
+      → (leftBy c .answer ≡ success (length (text m))) × (textOf c ≡ text m)
   unfolding toText converted
-  demand-2-writes m e h = rw (made .leaves, e) (delivered-room 10 (text m) (c .before) h)
+  demand-2-writes m e h = rw (made .promise .answers, made .promise .leaves, e) (delivered-room 10 (text m) (c .before) h)
 
   -- without room: 10 at 0
-  pub demand-2-room : (m : Message) → decode (c .message) ≡ accepted m → length (c .before) < length (text m) → c .left .answer ≡ refusal 10 0
+  pub demand-2-room : (m : Message) → decode (c .message) ≡ accepted m → length (c .before) < length (text m) → leftBy c .answer ≡ refusal 10 0
   unfolding toText converted
-  demand-2-room m e h = rw (made .leaves, e, delivered-none 10 (text m) (c .before) h)
+  demand-2-room m e h = rw (made .promise .answers, e, delivered-none 10 (text m) (c .before) h)
 
   -- a message that is not accepted: its refusal's number and place
-  pub demand-2-refuses : (number place : ℕ) → decode (c .message) ≡ refused number place → c .left .answer ≡ refusal number place
+  pub demand-2-refuses : (number place : ℕ) → decode (c .message) ≡ refused number place → leftBy c .answer ≡ refusal number place
   unfolding toText converted Rattle.octets.specs.Answer.delivered
-  demand-2-refuses number place e = rw (made .leaves, e)
+  demand-2-refuses number place e = rw (made .promise .answers, e)
 
 -- ---- demand 3
 -- the accepted messages of a list of calls

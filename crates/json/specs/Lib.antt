@@ -5,5 +5,13 @@ pub mod ViewLaws
 pub mod Document
 pub mod Text
 pub mod Converted
+pub mod Head
+pub mod Elements
+pub mod Does
+pub mod Writing
+pub mod Showing
+pub mod Arrays
+pub mod Whole
+pub mod Promise
 pub mod Sample
 pub mod Boundaries

@@ -26,7 +26,7 @@ record-valid rcode (ordinary r) h = h
 record-valid rcode (edns e) h = edns-valid rcode e h
 
 -- the entry of a record, by whether it is the only one of TYPE 41
-abbrev entryOf : ℕ → Bool → Record → Additional
+abbrev pub entryOf : ℕ → Bool → Record → Additional
 entryOf rcode true r = recognised rcode r
 entryOf rcode false r = ordinary r
 
@@ -57,7 +57,7 @@ entered rcode n b c r h = go b c (opt? r) refl (ednsOf rcode r) refl
 -- ---- sections
 -- what becomes of every element of a list
 module _ {A B : Type 0} (f : A → B) where
-  map-long : (l : List A) → length (map f l) ≡ length l
+  pub map-long : (l : List A) → length (map f l) ≡ length l
   map-long [] = refl
   map-long (a ∷ l) = ap suc (map-long l)
 
@@ -79,7 +79,7 @@ all-both P Q [] h k = tt
 all-both P Q (a ∷ l) h k = ((h .0, k .0), all-both P Q l (h .1) (k .1))
 
 -- the entries of a section of valid records
-additional-map : (rcode : ℕ) (l : List Record) → additionalOf rcode l ≡ map (entryOf rcode (eqb (count opt? l) 1)) l
+pub additional-map : (rcode : ℕ) (l : List Record) → additionalOf rcode l ≡ map (entryOf rcode (eqb (count opt? l) 1)) l
 unfolding additionalOf
 additional-map rcode l = go (eqb (count opt? l) 1)
   where

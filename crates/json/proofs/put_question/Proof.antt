@@ -1,0 +1,58 @@
+-- `json::put_question` meets its contract: the question's fault, or its members and the brace.
+-- Assumes nothing.
+use Prim.Native.Nat.{_-_}
+use native.Mathlib.Omega.{arith}
+use borrow.Author.Needs.{needs}
+use Rattle.records.specs.Putting.{asks-within, question-room}
+use Rattle.json.specs.Writing.{part-short, question-fails, question-does}
+use Rattle.json.proofs.put_question.Statement.{statement}
+use Rattle.json.proofs.put_question.Tie as tie
+
+question-at-requires : tie.Need-question-at-requires
+question-at-requires c κs = search needs
+
+enum-known-answer : tie.Need-enum-known-answer
+enum-known-answer c = search needs
+
+enum-told : tie.Need-enum-told
+enum-told c = search needs
+
+returns : tie.Need-returns
+returns c = (search (question-fails, needs), search needs)
+
+sub-put-start : tie.Need-sub-put-start
+sub-put-start c = search needs
+
+part-put-start-start : tie.Need-part-put-start-start
+part-put-start-start c = search needs
+
+part-put-start-end : tie.Need-part-put-start-end
+part-put-start-end c = question-room _ _ (c .before .before .before .before .before .before .question-at .ensures .0) (c .before .before .before .answer .given .1)
+
+put-start-requires : tie.Need-put-start-requires
+put-start-requires c κs = let k = asks-within _ (c .before .before .before .before .before .before .before .before .before .before .args .at) (c .before .before .before .before .before .before .before .question-at .ensures .1) (c .before .before .before .before .answer .given .1) in (search needs, part-short (c .before .before .before .before .answer .given .0 .0 .size - 0) (c .before .before .before .before .before .before .before .question-at .result .name) 255 (omega arith))
+
+put-requires : tie.Need-put-requires
+put-requires c κs = search needs
+
+same-length : tie.Need-same-length
+same-length c = search needs
+
+returns-2 : tie.Need-returns-2
+returns-2 c = let k = asks-within _ (c .before .before .before .before .before .before .before .before .before .before .before .before .before .before .before .before .before .args .at) (c .before .before .before .before .before .before .before .before .before .before .before .before .before .before .question-at .ensures .1) (c .before .before .before .before .before .before .before .before .before .before .before .answer .given .1) in (search (question-does, needs), (omega arith, omega arith, omega (arith, c .before .before .before .before .before .before .put-start .ensures .1, c .before .before .put .ensures .place)))
+
+pub put-question-spec : {M : Type 1} → statement M
+put-question-spec =
+    tie.close
+    (tie.spec
+    question-at-requires
+    enum-known-answer
+    enum-told
+    returns
+    sub-put-start
+    part-put-start-start
+    part-put-start-end
+    put-start-requires
+    put-requires
+    same-length
+    returns-2)

@@ -1,0 +1,248 @@
+-- The ways of the writers of records: as they are, or as an EDNS element. Assumes nothing.
+use mathlib.Core.Path.{_≡_, refl, sym, ap, _∙_, subst}
+use mathlib.Core.Bool.{Bool, true, false, not, _&&_, cond}
+use mathlib.Core.Option.{Option, none, some}
+use mathlib.Core.List.{List, [], _∷_, _++_}
+use Prim.Native.Nat.{ℕ, _+_, _-_, _≤_}
+use native.Mathlib.Omega.{arith}
+use borrow.Author.Tests.{ne-eqb, eq-eqb, eqb-true}
+use lib.Dec.{T, eqb}
+use lib.ListN.{length, take, length-append}
+use Rattle.octets.specs.Lists.{ascii, none?, lookup}
+use Rattle.octets.specs.Overlay.{Wrote, then}
+use Rattle.octets.specs.Hexadecimal.{hexText}
+use Rattle.names.specs.Name.{Name, nameForm, Fault}
+use Rattle.names.specs.Walk.{part}
+use Rattle.names.specs.NameLaws.{Sized}
+use Rattle.names.specs.declared.Fault.{Fault as FaultRead}
+use Rattle.records.specs.Layout.{laid, misfit, layouts, layoutOf, rdataAt}
+use Rattle.records.specs.Layout as layout
+use Rattle.records.specs.Message.{Record}
+use Rattle.records.specs.Read.{Entry, entry, bad}
+use Rattle.records.specs.RecordLaws.{laid-octets, misfit≢laid, filled}
+use Rattle.records.specs.Parts.{HeadOf, headAt, withRdata, with-rdata, record-head, head-next}
+use Rattle.records.specs.Answer.{padded, headRead, recordRead}
+use Rattle.records.specs.Putting.{form-part}
+use Rattle.records.specs.declared.Head.{Head}
+use Rattle.records.specs.declared.Record.{Record as RecordAnswer}
+use Rattle.records.specs.declared.Record.the-variants as record′
+use Rattle.records.specs.declared.RecordRead.{RecordRead}
+use Rattle.spelling.specs.Spelling.{signed, signedText}
+use Rattle.edns.specs.Edns.{Edns, ednsOf}
+use Rattle.edns.specs.Element.{showsEdns, elementText, shows-edns, element-text}
+use Rattle.json.specs.View.{opt?}
+use Rattle.json.specs.ViewLaws.{entryOf}
+use Rattle.json.specs.Document.{recordText, itemText}
+use Rattle.json.specs.Text.{recordItem, item}
+use Rattle.json.specs.Elements.{texts, and-then, fieldsText, hexed, rdataText, ordinaryText, rcodeOf, rdataOf, shows?, entryText, recordTextAt}
+use Rattle.json.specs.Does.{Does, wrote, fails}
+use Rattle.json.specs.Writing.{front-text, head-sized}
+use Rattle.json.specs.declared.Went.{Went}
+use Rattle.json.specs.declared.Went.the-variants.{To, Faulty}
+
+-- ---- a record as it is
+-- RDATA between what stands around it
+abbrev around : List ℕ → List ℕ → Entry (List ℕ) → Entry (List ℕ)
+around t u e = and-then (texts (λ v. t ++ v) e) (λ next. entry u next)
+
+does-around : {e : Entry (List ℕ)} {t u b b₁ b₂ b₃ : List ℕ} {to n₁ n₂ n₃ next : ℕ} → Wrote b to t b₁ n₁ → Does e b₁ n₁ b₂ (To next n₂) → Wrote b₂ n₂ u b₃ n₃
+    → Does (around t u e) b to b₃ (To next n₃)
+does-around p (wrote q) v = wrote (then (then p q) v)
+
+fails-around : {e : Entry (List ℕ)} (t u : List ℕ) {b b₁ b₂ b₃ : List ℕ} {to n₁ : ℕ} → Does e b₁ n₁ b₂ Faulty → Does (around t u e) b to b₃ Faulty
+fails-around t u fails = fails
+
+module _ (s form : List ℕ) (h : Head) {b b₁ b₂ : List ℕ} {to n₁ : ℕ} {w : Went} (d : Does (rdataText s (h .kind) (h .rdata) (h .length)) b₁ n₁ b₂ w) where
+  pub ordinary-does : {b₃ : List ℕ} {n₂ n₃ next : ℕ} → Wrote b to (fieldsText form (h .kind) (h .class) (h .ttl)) b₁ n₁ → w ≡ To next n₂ → Wrote b₂ n₂ (125 ∷ []) b₃ n₃
+      → Does (ordinaryText s form h) b to b₃ (To next n₃)
+  unfolding ordinaryText
+  ordinary-does p e q = does-around p (rw e at d) q
+
+  pub ordinary-fails : w ≡ Faulty → Does (ordinaryText s form h) b to b₂ w
+  unfolding ordinaryText
+  ordinary-fails e = rw e (fails-around (fieldsText form (h .kind) (h .class) (h .ttl)) (ascii "}") (rw e at d))
+
+-- the texts of a record's parts
+record-parts : (r : Record) → Sized (r .name) → recordText (recordItem r) ≡ fieldsText (nameForm (r .name)) (r .type) (r .class) (r .ttl) ++ hexText (r .rdata) ++ ascii "}"
+unfolding recordText recordItem fieldsText
+record-parts r h =
+    ap (λ (t : List ℕ). t ++ ascii ",\"TTL\":" ++ signedText (signed (r .ttl)) ++ ascii ",\"RDATAHEX\":\"" ++ hexText (r .rdata) ++ ascii "}") (front-text (r .name) (r .type) (r .class) h)
+
+ordinary-text : (s : List ℕ) (k : HeadOf) → Sized (k .name)
+    → ordinaryText s (nameForm (k .name)) (headRead k) ≡ texts (λ (r : Record). recordText (recordItem r)) (with-rdata s (entry k (k .rdata + k .length)))
+unfolding ordinaryText rdataText
+ordinary-text s k h = go (rdataAt true s (k .type) (k .rdata) (k .length))
+  where
+    go : (w : layout.Laid) → around (fieldsText (nameForm (k .name)) (k .type) (k .class) (k .ttl)) (ascii "}") (hexed (k .rdata + k .length) w)
+        ≡ texts (λ (r : Record). recordText (recordItem r)) (filled (withRdata k) (k .rdata + k .length) w)
+    go (laid d) = ap (λ (t : List ℕ). entry t (k .rdata + k .length)) (sym (record-parts (withRdata k d) h))
+    go (misfit fault) = refl
+
+-- ---- a record as an element or as it is
+-- an EDNS element exactly if it shows as one
+abbrev shown? : ℕ → Bool → Record → Bool
+shown? rcode lone r = lone && opt? r && showsEdns (none? (r .name)) (r .ttl) rcode (r .rdata)
+
+entry-text : (rcode : ℕ) (lone : Bool) (r : Record) → entryText rcode lone r ≡ cond (shown? rcode lone r) (elementText (r .class) (r .ttl) rcode (r .rdata)) (recordText (recordItem r))
+unfolding entryText itemText item
+entry-text rcode lone r = go lone (opt? r) refl (ednsOf rcode r) refl
+  where
+    go : (lone : Bool) (t : Bool) → opt? r ≡ t → (o : Option Edns) → ednsOf rcode r ≡ o
+        → itemText (item rcode (entryOf rcode lone r)) ≡ cond (shown? rcode lone r) (elementText (r .class) (r .ttl) rcode (r .rdata)) (recordText (recordItem r))
+    go false t p o q = refl
+    go true false p o q = rw p
+    go true true p none q = rw (p, shows-edns rcode r, q)
+    go true true p (some e) q = rw (p, shows-edns rcode r, q) (sym (element-text rcode r e q))
+
+-- RDATA of TYPE 41 is carried as it is
+opt-rdata : (s : List ℕ) (at size : ℕ) → rdataAt true s 41 at size ≡ laid (part s at size)
+unfolding rdataAt layoutOf layouts lookup
+opt-rdata s at size = go (eqb size 0) refl
+  where
+    go : (b : Bool) → eqb size 0 ≡ b → cond b (laid []) (laid (part s at size)) ≡ laid (part s at size)
+    go true e = rw (eqb-true size 0 e)
+    go false e = refl
+
+-- a form of one octet is the root's
+root-form : (n : Name) → eqb (length (nameForm n)) 1 ≡ none? n
+unfolding nameForm
+root-form [] = refl
+root-form (l ∷ n) = ne-eqb _ 1 λ e. some-octet n e
+  where
+    long : (n : Name) → 1 ≤ length (nameForm n)
+    long [] = omega arith
+    long (l ∷ n) = omega arith
+
+    some-octet : (n : Name) → length (length l ∷ (l ++ nameForm n)) ≡ 1 → ⊥
+    some-octet n e = let a = length-append l (nameForm n) in let b = long n in let c : length (length l ∷ (l ++ nameForm n)) ≡ 1 + length (l ++ nameForm n) = omega arith in omega arith
+
+-- the record of a head, where RDATA is read
+module _ (s : List ℕ) (k : HeadOf) (lone : Bool) where
+  size-same : k .rdata + k .length - k .rdata ≡ k .length
+  size-same = omega arith
+
+  -- what the code tests is what the definition tests
+  head-shows : (d : List ℕ) → rdataAt true s (k .type) (k .rdata) (k .length) ≡ laid d → shows? s (headRead k) lone ≡ shown? (rcodeOf s) lone (withRdata k d)
+  unfolding shows?
+  head-shows d e = go lone (eqb (k .type) 41) refl
+    where
+      go : (lone : Bool) (t : Bool) → eqb (k .type) 41 ≡ t → shows? s (headRead k) lone ≡ shown? (rcodeOf s) lone (withRdata k d)
+      go false t p = refl
+      go true false p = rw p
+      go true true p =
+          let f : rdataAt true s 41 (k .rdata) (k .length) ≡ laid d = subst (λ (n : ℕ). rdataAt true s n (k .rdata) (k .length) ≡ laid d) (eqb-true (k .type) 41 p) e in
+          let g : part s (k .rdata) (k .length) ≡ d = laid-octets (sym (opt-rdata s (k .rdata) (k .length)) ∙ f) in
+          rw (p, root-form (k .name), size-same, g)
+
+  -- where it shows as no element, its text is that of the record as it is
+  as-is : (w : layout.Laid) → rdataAt true s (k .type) (k .rdata) (k .length) ≡ w → shows? s (headRead k) lone ≡ false
+      → texts (entryText (rcodeOf s) lone) (filled (withRdata k) (k .rdata + k .length) w) ≡ texts (λ (r : Record). recordText (recordItem r)) (filled (withRdata k) (k .rdata + k .length) w)
+  as-is (laid d) p q = ap (λ (t : List ℕ). entry t (k .rdata + k .length)) (entry-text (rcodeOf s) lone (withRdata k d) ∙ rw (← (head-shows d p), q))
+  as-is (misfit fault) p q = refl
+
+  -- where it shows as one, its text is the element's
+  as-element : (w : layout.Laid) → rdataAt true s (k .type) (k .rdata) (k .length) ≡ w → w ≡ laid (rdataOf s (headRead k)) → shows? s (headRead k) lone ≡ true
+      → texts (entryText (rcodeOf s) lone) (filled (withRdata k) (k .rdata + k .length) w) ≡ entry (elementText (k .class) (k .ttl) (rcodeOf s) (rdataOf s (headRead k))) (k .rdata + k .length)
+  as-element (laid d) p g q =
+      ap (λ (t : List ℕ). entry t (k .rdata + k .length))
+      (entry-text (rcodeOf s) lone (withRdata k d) ∙ rw (← (head-shows d p), q) (ap (elementText (k .class) (k .ttl) (rcodeOf s)) (laid-octets g)))
+  as-element (misfit fault) p g q = absurd (misfit≢laid g)
+
+-- ---- what the test tells
+false≢true : false ≡ true → ⊥
+false≢true e = subst T (sym e) tt
+
+both-true : (a b : Bool) → (a && b) ≡ true → (a ≡ true) × (b ≡ true)
+both-true true b e = (refl, e)
+both-true false b e = absurd (false≢true e)
+
+shows-root : (root : Bool) (ttl rcode : ℕ) (d : List ℕ) → showsEdns root ttl rcode d ≡ true → showsEdns true ttl rcode d ≡ true
+unfolding showsEdns
+shows-root true ttl rcode d e = e
+shows-root false ttl rcode d e = absurd (false≢true e)
+
+-- the record is of TYPE 41, and shows as an element
+pub element-shows : (s : List ℕ) (h : Head) (lone : Bool) {t : Bool} {rcode : ℕ} → t ≡ shows? s h lone → t ≡ true → rcode ≡ rcodeOf s → showsEdns true (h .ttl) rcode (rdataOf s h) ≡ true
+unfolding shows?
+element-shows s h lone p q e = rw e (shows-root (eqb (h .size) 1) (h .ttl) (rcodeOf s) (rdataOf s h) (both-true (lone && eqb (h .kind) 41) _ (sym p ∙ q) .1))
+
+element-kind : (s : List ℕ) (h : Head) (lone : Bool) → shows? s h lone ≡ true → h .kind ≡ 41
+unfolding shows?
+element-kind s h lone e =
+    let p = both-true (lone && eqb (h .kind) 41) _ e .0 in
+    eqb-true (h .kind) 41 (both-true lone (eqb (h .kind) 41) p .1)
+
+element-rdata : (s : List ℕ) (k : HeadOf) → k .type ≡ 41 → rdataAt true s (k .type) (k .rdata) (k .length) ≡ laid (rdataOf s (headRead k))
+element-rdata s k e =
+    let z : k .rdata + k .length - k .rdata ≡ k .length = omega arith in
+    ap (λ (n : ℕ). rdataAt true s n (k .rdata) (k .length)) e ∙ opt-rdata s (k .rdata) (k .length) ∙ ap (λ (n : ℕ). laid (part s (k .rdata) n)) (sym z)
+
+-- the test as the code makes it
+pub shows-many : (s : List ℕ) (h : Head) (lone : Bool) → not lone ≡ true → false ≡ shows? s h lone
+unfolding shows?
+shows-many s h true e = absurd (false≢true e)
+shows-many s h false e = refl
+
+pub shows-other : (s : List ℕ) (h : Head) (lone : Bool) → (h .kind ≡ 41 → ⊥) → false ≡ shows? s h lone
+unfolding shows?
+shows-other s h true e = rw (ne-eqb (h .kind) 41 e)
+shows-other s h false e = refl
+
+pub shows-lone : (s : List ℕ) (h : Head) (lone : Bool) {r : Bool} {rcode : ℕ} → not lone ≡ false → h .kind ≡ 41 → rcode ≡ rcodeOf s
+    → r ≡ showsEdns (eqb (h .size) 1) (h .ttl) rcode (rdataOf s h) → r ≡ shows? s h lone
+unfolding shows?
+shows-lone s h true e k c p = rw (eq-eqb (h .kind) 41 k, ← c) p
+shows-lone s h false e k c p = absurd (false≢true (sym e))
+
+-- ---- records
+-- what the code's answer says of the definition's
+abbrev Heading : RecordAnswer → List ℕ → Entry HeadOf → Type 0
+Heading (record′.Read h) l e = (k : HeadOf) × (next : ℕ) × (e ≡ entry k next) × (h ≡ headRead k) × (l ≡ padded (nameForm (k .name)))
+Heading (record′.Faulty f) l e = (fault : Fault) × (e ≡ bad fault)
+
+heading : (e : Entry HeadOf) → Heading (recordRead e .answer) (recordRead e .name) e
+unfolding recordRead
+heading (entry k next) = (k, next, refl, refl, refl)
+heading (bad fault) = (fault, refl)
+
+headed : (e : Entry HeadOf) {r : RecordRead} {y : RecordAnswer} → r ≡ recordRead e → r .answer ≡ y → Heading y (r .name) e
+headed e {r} {y} p q = subst (λ (z : RecordAnswer). Heading z (r .name) e) q (subst (λ (z : RecordRead). Heading (z .answer) (z .name) e) (sym p) (heading e))
+
+-- the record's text by its head and RDATA
+record-text : (lone : Bool) (s : List ℕ) (at : ℕ) (k : HeadOf) (next : ℕ) → headAt s at ≡ entry k next
+    → recordTextAt lone s at ≡ texts (entryText (rcodeOf s) lone) (filled (withRdata k) (k .rdata + k .length) (rdataAt true s (k .type) (k .rdata) (k .length)))
+unfolding recordTextAt
+record-text lone s at k next e =
+    ap (texts (entryText (rcodeOf s) lone))
+    (record-head s at ∙ ap (with-rdata s) e ∙ ap (λ (i : ℕ). filled (withRdata k) i (rdataAt true s (k .type) (k .rdata) (k .length))) (head-next s at k next e))
+
+module _ (s : List ℕ) (at : ℕ) (lone : Bool) {r : RecordRead} (e : r ≡ recordRead (headAt s at)) where
+  pub record-fails : {f : FaultRead} {b b′ : List ℕ} {to : ℕ} → r .answer ≡ record′.Faulty f → Does (recordTextAt lone s at) b to b′ Faulty
+  unfolding recordTextAt
+  record-fails p = let (fault, u) = headed (headAt s at) e p in rw (record-head s at, u) fails
+
+  module _ {h : Head} (p : r .answer ≡ record′.Read h) where
+    pub record-element : {t : Bool} {rcode : ℕ} {b b′ : List ℕ} {to n : ℕ} → t ≡ shows? s h lone → t ≡ true → rcode ≡ rcodeOf s
+        → Wrote b to (elementText (h .class) (h .ttl) rcode (rdataOf s h)) b′ n → Does (recordTextAt lone s at) b to b′ (To (h .rdata + h .length) n)
+    record-element {b = b} {b′ = b′} {to = to} {n = n} x t c y = go (headed (headAt s at) e p) (sym x ∙ t) (rw c at y)
+      where
+        Given : Head → Type 0
+        Given c = shows? s c lone ≡ true → Wrote b to (elementText (c .class) (c .ttl) (rcodeOf s) (rdataOf s c)) b′ n → Does (recordTextAt lone s at) b to b′ (To (c .rdata + c .length) n)
+
+        go : (z : (k : HeadOf) × (next : ℕ) × (headAt s at ≡ entry k next) × (h ≡ headRead k) × (r .name ≡ padded (nameForm (k .name)))) → Given h
+        go (k, next, u, v, l) =
+            subst Given (sym v) λ x y.
+            rw (record-text lone s at k next u, as-element s k lone _ refl (element-rdata s k (element-kind s (headRead k) lone x)) x) (wrote y)
+
+    pub record-ordinary : {t : Bool} {b b′ : List ℕ} {to : ℕ} {w : Went} → t ≡ shows? s h lone → t ≡ false
+        → Does (ordinaryText s (take (h .size - 0) (r .name)) h) b to b′ w → Does (recordTextAt lone s at) b to b′ w
+    record-ordinary {b = b} {b′ = b′} {to = to} {w = w} x t y = go (headed (headAt s at) e p) (sym x ∙ t) y
+      where
+        Given : Head → Type 0
+        Given c = shows? s c lone ≡ false → Does (ordinaryText s (take (c .size - 0) (r .name)) c) b to b′ w → Does (recordTextAt lone s at) b to b′ w
+
+        go : (z : (k : HeadOf) × (next : ℕ) × (headAt s at ≡ entry k next) × (h ≡ headRead k) × (r .name ≡ padded (nameForm (k .name)))) → Given h
+        go (k, next, u, v, l) =
+            subst Given (sym v) λ x y.
+            rw (record-text lone s at k next u, as-is s k lone _ refl x, ← (ordinary-text s k (head-sized s at k next u)))
+            (rw (form-part (nameForm (k .name)) (r .name) (length (nameForm (k .name))) refl l) at y)
