@@ -1,0 +1,91 @@
+-- The place that a refusal names lies within the message. Assumes nothing.
+use mathlib.Core.Path.{_≡_, refl, sym, subst}
+use mathlib.Core.Bool.{Bool, true, false, cond}
+use mathlib.Core.List.{List}
+use Prim.Native.Nat.{ℕ, zero, suc, _≤_}
+use native.Mathlib.Omega.{arith}
+use borrow.Author.Tests.{ltb-false}
+use lib.Dec.{leb, ltb, eqb}
+use lib.ListN.{length}
+use Rattle.octets.specs.Lists.{Octets}
+use Rattle.octets.specs.Fields.{twoAt}
+use Rattle.octets.specs.Answer.{Answer, success, refusal, Left, overwritten, delivered}
+use Rattle.names.specs.Name.{number}
+use Rattle.records.specs.Message.{form}
+use Rattle.records.specs.Read.{Entry, entry, bad, Reached, reached, stopped, questionAt, recordAt, sectionAt, sectionFrom}
+use Rattle.records.specs.Decode.{Decoded, accepted, refused, zOf, sectionsOf, messageOf, decode}
+use Rattle.records.specs.RecordLaws.{question-read, record-read}
+use Rattle.json.specs.Text.{text}
+use Rattle.json.specs.Converted.{outputOf, converted, toText}
+
+-- reading came to an offset, or to a faulty entry's, within so many octets
+abbrev Inside : ℕ → Reached → Type 0
+Inside size (reached at) = at ≤ size
+Inside size (stopped at fault) = at ≤ size
+
+module _ {A : Type 0} (read : List ℕ → ℕ → Entry A) (s : List ℕ) (inside : (at : ℕ) (a : A) (next : ℕ) → read s at ≡ entry a next → next ≤ length s) where
+  section-inside : (n at : ℕ) → at ≤ length s → Inside (length s) (sectionAt read s n at .end)
+  unfolding sectionAt
+  section-inside zero at h = h
+  section-inside (suc n) at h = go (read s at) refl (section-inside n)
+    where
+      go : (w : Entry A) → read s at ≡ w → ((i : ℕ) → i ≤ length s → Inside (length s) (sectionAt read s n i .end)) → Inside (length s) (sectionAt read s (suc n) at .end)
+      go (entry a next) e k = rw (e, sectionAt) (k next (inside at a next e))
+      go (bad fault) e k = rw (e, sectionAt) h
+
+  from-inside : (n : ℕ) (w : Reached) → Inside (length s) w → Inside (length s) (sectionFrom read s n w .end)
+  unfolding sectionFrom
+  from-inside n (reached at) h = section-inside n at h
+  from-inside n (stopped at fault) h = h
+
+sections-inside : (s : List ℕ) → Octets s → 12 ≤ length s → Inside (length s) (sectionsOf s .additional .end)
+unfolding sectionsOf
+sections-inside s o h =
+    let records = from-inside recordAt s (λ at a next e. record-read s at a next o e .2) in
+    records (twoAt s 10) _ (records (twoAt s 8) _ (records (twoAt s 6) _ (section-inside questionAt s (λ at a next e. question-read s at a next o e .2) (twoAt s 4) 12 h)))
+
+-- a refusal's place within so many octets
+abbrev Placed : ℕ → Decoded → Type 0
+Placed size (accepted m) = Unit {0}
+Placed size (refused k p) = p ≤ size
+
+at-first : (size : ℕ) (b : Bool) (k : ℕ) (d : Decoded) → (b ≡ false → Placed size d) → Placed size (cond b (refused k 0) d)
+at-first size true k d f = omega arith
+at-first size false k d f = f refl
+
+ended-placed : (size : ℕ) (whole : Decoded) (w : Reached) → Inside size w → Placed size whole
+    → Placed size (elim w as (λ x. Decoded) [ reached at ↦ cond (ltb at size) (refused 8 at) whole | stopped at fault ↦ refused (number (fault .kind)) at ])
+ended-placed size whole (reached at) h p = go (ltb at size)
+  where
+    go : (b : Bool) → Placed size (cond b (refused 8 at) whole)
+    go true = h
+    go false = p
+ended-placed size whole (stopped at fault) h p = h
+
+decode-placed : (s : List ℕ) → Octets s → Placed (length s) (decode s)
+unfolding decode
+decode-placed s o =
+    let n = length s in
+    at-first n (ltb 65535 n) 2 _ λ a. at-first n (ltb n 12) 1 _ λ b. at-first n (eqb (zOf s) 1) 3 _ λ c.
+    ended-placed n _ (sectionsOf s .additional .end) (sections-inside s o (ltb-false n 12 b)) (at-first n (ltb 65535 (length (form (messageOf s)))) 9 (accepted (messageOf s)) λ d. tt)
+
+-- the same of a call's answer
+abbrev PlacedAt : ℕ → Answer → Type 0
+PlacedAt size (success n) = Unit {0}
+PlacedAt size (refusal k p) = p ≤ size
+
+delivered-placed : (size : ℕ) (d : Decoded) (b : List ℕ) → Placed size d → PlacedAt size (delivered 10 (outputOf d) b .answer)
+unfolding delivered
+delivered-placed size (accepted m) b h = go (leb (length (text m)) (length b))
+  where
+    left : Bool → Left
+    left t = cond t (record { answer = success (length (text m)); buffer = overwritten (text m) b }) (record { answer = refusal 10 0; buffer = b })
+
+    go : (t : Bool) → PlacedAt size (left t .answer)
+    go true = tt
+    go false = omega arith
+delivered-placed size (refused k p) b h = h
+
+pub place-within : (s b : List ℕ) → Octets s → {k p : ℕ} → refusal k p ≡ toText s b .answer → p ≤ length s
+unfolding toText converted
+place-within s b o e = subst (PlacedAt (length s)) (sym e) (delivered-placed (length s) (decode s) b (decode-placed s o))
