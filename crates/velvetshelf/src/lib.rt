@@ -1,6 +1,6 @@
 // The two conversions as functions for programs in C.
-use json::convert;
 use json::Answer;
+use json::convert;
 ghost use mathlib.Core.Path.{_≡_};
 ghost use Rattle.json.specs.Promise.{answerOf};
 ghost use Rattle.velvetshelf.specs.Told.{numberOf, valueOf, ToText};

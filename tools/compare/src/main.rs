@@ -1,0 +1,30 @@
+//! `compare check SEED COUNT`: compares the proved library with the independent converter.
+//! `compare bench SEED`: measures both.
+
+mod bench;
+mod checks;
+mod proved;
+
+fn check(seed: u64, count: usize) -> Result<(), String> {
+    println!("random messages: {} agree", checks::random_messages(seed, count)?);
+    println!("exact rooms: {} agree", checks::exact_rooms(seed, count / 20)?);
+    println!("look-alike names: {} texts, all different", checks::look_alikes(3)?);
+    Ok(())
+}
+
+fn main() {
+    let words: Vec<String> = std::env::args().skip(1).collect();
+    let number = |place: usize| words.get(place).and_then(|word| word.parse::<u64>().ok());
+    let result = match (words.first().map(String::as_str), number(1), number(2)) {
+        (Some("check"), Some(seed), Some(count)) => check(seed, count as usize),
+        (Some("bench"), Some(seed), None) => {
+            bench::run(seed);
+            Ok(())
+        }
+        _ => Err("compare check SEED COUNT, or compare bench SEED".to_string()),
+    };
+    if let Err(message) = result {
+        eprintln!("{message}");
+        std::process::exit(1);
+    }
+}
