@@ -28,6 +28,29 @@ pub fn put(out: &mut [u8], at: usize, b: u8) -> usize
     next
 }
 
+// Writes an octet that there is room for, and returns the next place.
+fn store(out: &mut [u8], at: usize, b: u8) -> usize
+    requires { ⌜ at < length (now out) ⌝ }
+    ensures { λ r. ⌜ Wrote (now (out .entry)) at (b ∷ []) (now (out .exit)) r ⌝ }
+{
+    out[at] = b;
+    at + 1
+}
+
+// Writes all of src, for which there is room: no octet is tested.
+fn copy(out: &mut [u8], at: usize, src: &[u8]) -> usize
+    requires { ⌜ at + length (now src) ≤ length (now out) ⌝ }
+    ensures { λ r. ⌜ Wrote (now (out .entry)) at (now (src .entry)) (now (out .exit)) r ⌝ }
+{
+    let mut to = at;
+    let mut i = 0;
+    while i < src.len() {
+        to = store(out, to, src[i]);
+        i += 1;
+    }
+    to
+}
+
 // Writes all of src.
 pub fn put_all(out: &mut [u8], at: usize, src: &[u8]) -> usize
     requires { ⌜ at + length (now src) < 2 ^ 40 ⌝ }
@@ -36,6 +59,9 @@ pub fn put_all(out: &mut [u8], at: usize, src: &[u8]) -> usize
     let end = at + src.len();
     if at >= out.len() {
         return end;
+    }
+    if end <= out.len() {
+        return copy(out, at, src);
     }
     let mut to = at;
     let mut i = 0;
@@ -79,6 +105,30 @@ fn put_octet(out: &mut [u8], at: usize, b: u8) -> usize
     put(out, next, hex_digit(b % 16))
 }
 
+// Writes an octet as two hexadecimal digits, for which there is room.
+fn store_octet(out: &mut [u8], at: usize, b: u8) -> usize
+    requires { ⌜ at + 2 ≤ length (now out) ⌝ }
+    ensures { λ r. ⌜ Wrote (now (out .entry)) at (hexOctet b) (now (out .exit)) r ⌝ }
+{
+    let next = store(out, at, hex_digit(b / 16));
+    store(out, next, hex_digit(b % 16))
+}
+
+// Writes each octet of src as two hexadecimal digits, for which there is room.
+fn copy_hex(out: &mut [u8], at: usize, src: &[u8]) -> usize
+    requires { ⌜ at + 2 * length (now src) ≤ length (now out) ⌝ }
+    ensures { λ r. ⌜ Wrote (now (out .entry)) at (each hexOctet (now (src .entry))) (now (out .exit)) r ⌝ }
+    ensures { λ r. ⌜ r ≡ at + 2 * length (now (src .entry)) ⌝ }
+{
+    let mut to = at;
+    let mut i = 0;
+    while i < src.len() {
+        to = store_octet(out, to, src[i]);
+        i += 1;
+    }
+    to
+}
+
 // Writes each octet of src as two hexadecimal digits.
 pub fn put_hex(out: &mut [u8], at: usize, src: &[u8]) -> usize
     requires { ⌜ at + 2 * length (now src) < 2 ^ 40 ⌝ }
@@ -88,6 +138,9 @@ pub fn put_hex(out: &mut [u8], at: usize, src: &[u8]) -> usize
     let end = at + 2 * src.len();
     if at >= out.len() {
         return end;
+    }
+    if end <= out.len() {
+        return copy_hex(out, at, src);
     }
     let mut to = at;
     let mut i = 0;

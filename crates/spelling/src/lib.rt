@@ -6,11 +6,13 @@ ghost use lib.ListN.{length};
 ghost use Rattle.octets.specs.Overlay.{Wrote};
 ghost use Rattle.spelling.specs.Spelling.{three-digits, spelled, labelText, signed, signedText, stringOctet, stringText};
 ghost use Rattle.spelling.specs.Form.{formText};
+ghost use Rattle.spelling.specs.Width.{widthTable};
 use octets::put;
 use octets::put_all;
 use octets::put_decimal;
 use octets::wide;
 use widths::width;
+use widths::widths;
 
 mod widths;
 
@@ -25,13 +27,13 @@ fn put_digits(out: &mut [u8], at: usize, x: u8) -> usize
     put(out, third, 48 + x % 10)
 }
 
-// Writes an octet of a label.
-fn put_spelled(out: &mut [u8], at: usize, x: u8) -> usize
-    requires { ⌜ at < 2 ^ 39 ⌝ }
+// Writes an octet of a label, by the table of widths.
+fn put_spelled(out: &mut [u8], at: usize, x: u8, table: &[u8; 256]) -> usize
+    requires { ⌜ (at < 2 ^ 39) × (now table ≡ widthTable) ⌝ }
     ensures { λ r. ⌜ Wrote (now (out .entry)) at (spelled x) (now (out .exit)) r ⌝ }
     ensures { λ r. ⌜ r ≤ at + 5 ⌝ }
 {
-    let w = width(x);
+    let w = width(table, x);
     if at >= out.len() {
         return at + w;
     }
@@ -47,16 +49,16 @@ fn put_spelled(out: &mut [u8], at: usize, x: u8) -> usize
     put_digits(out, at, x)
 }
 
-// Writes a label and its dot.
-fn put_label(out: &mut [u8], at: usize, label: &[u8]) -> usize
-    requires { ⌜ at + 5 * length (now label) < 2 ^ 39 ⌝ }
+// Writes a label and its dot, by the table of widths.
+fn put_label(out: &mut [u8], at: usize, label: &[u8], table: &[u8; 256]) -> usize
+    requires { ⌜ (at + 5 * length (now label) < 2 ^ 39) × (now table ≡ widthTable) ⌝ }
     ensures { λ r. ⌜ Wrote (now (out .entry)) at (labelText (now (label .entry))) (now (out .exit)) r ⌝ }
     ensures { λ r. ⌜ r ≤ at + 5 * length (now (label .entry)) + 1 ⌝ }
 {
     let mut to = at;
     let mut i = 0;
     while i < label.len() {
-        to = put_spelled(out, to, label[i]);
+        to = put_spelled(out, to, label[i], table);
         i += 1;
     }
     put(out, to, 46)
@@ -74,6 +76,7 @@ pub fn put_name(out: &mut [u8], at: usize, form: &[u8]) -> usize
     if form[0] == 0 {
         return put_all(out, at, b".\"");
     }
+    let table = widths();
     let mut to = at;
     let mut i = 0;
     while i < form.len() {
@@ -83,11 +86,11 @@ pub fn put_name(out: &mut [u8], at: usize, form: &[u8]) -> usize
         }
         let start = i + 1;
         if n > form.len() - start {
-            let next = put_label(out, to, &form[start..form.len()]);
+            let next = put_label(out, to, &form[start..form.len()], &table);
             return put(out, next, 34);
         }
         let end = start + n;
-        to = put_label(out, to, &form[start..end]);
+        to = put_label(out, to, &form[start..end], &table);
         i = end;
     }
     put(out, to, 34)

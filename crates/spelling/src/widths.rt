@@ -3,6 +3,7 @@ ghost use mathlib.Core.Path.{_≡_};
 ghost use Prim.Native.Nat.{_≤_};
 ghost use lib.ListN.{length};
 ghost use Rattle.spelling.specs.Spelling.{spelled};
+ghost use Rattle.spelling.specs.Width.{widthTable};
 use octets::wide;
 
 // By octet: 1 for an octet that stands for itself, 3 for a dot, 4 for a backslash, 5 for every other.
@@ -265,10 +266,18 @@ const WIDTHS: [u8; 256] = [
     5,
 ];
 
+// The table. A caller that looks up many octets makes it once.
+pub fn widths() -> [u8; 256]
+    ensures { λ r. ⌜ r ≡ widthTable ⌝ }
+{
+    WIDTHS
+}
+
 // The width of the spelling of an octet.
-pub fn width(x: u8) -> usize
+pub fn width(table: &[u8; 256], x: u8) -> usize
+    requires { ⌜ now table ≡ widthTable ⌝ }
     ensures { λ r. ⌜ r ≡ length (spelled x) ⌝ }
     ensures { λ r. ⌜ (1 ≤ r) × (r ≤ 5) ⌝ }
 {
-    wide(WIDTHS[wide(x)])
+    wide(table[wide(x)])
 }

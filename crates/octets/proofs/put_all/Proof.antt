@@ -1,4 +1,4 @@
--- `octets::put_all` meets its contract: past the end nothing is written; else, after `i` turns, the first `i` octets are copied.
+-- `octets::put_all` meets its contract: past the end nothing is written; given room, `copy` writes; else, after `i` turns, the first `i` octets are copied.
 -- Assumes nothing.
 use borrow.Author.Needs.{needs}
 use mathlib.Core.Path.{_≡_, refl}
@@ -21,6 +21,15 @@ add-end c = search needs
 returns : tie.Need-returns Inv-loop μ-loop
 returns c = past _ _ _ (c .if1 .taken) refl
 
+copy-requires : tie.Need-copy-requires Inv-loop μ-loop
+copy-requires c κs = search needs
+
+same-length : tie.Need-same-length Inv-loop μ-loop
+same-length c = search needs
+
+returns-2 : tie.Need-returns-2 Inv-loop μ-loop
+returns-2 c = search needs
+
 loop-holds : tie.Need-loop-holds Inv-loop μ-loop
 loop-holds c = (search needs, search needs, nothing _ _)
 
@@ -39,11 +48,11 @@ loop-less c = search needs
 loop-again : tie.Need-loop-again Inv-loop μ-loop
 loop-again c = (search needs, search needs, search (copy-step, needs))
 
-same-length : tie.Need-same-length Inv-loop μ-loop
-same-length c = same-long (c .before .loop .inv .2)
+same-length-2 : tie.Need-same-length-2 Inv-loop μ-loop
+same-length-2 c = same-long (c .before .loop .inv .2)
 
-returns-2 : tie.Need-returns-2 Inv-loop μ-loop
-returns-2 c = rw (take-all _ _ (c .loop-test .left)) at (c .before .loop .inv .2)
+returns-3 : tie.Need-returns-3 Inv-loop μ-loop
+returns-3 c = rw (take-all _ _ (c .loop-test .left)) at (c .before .loop .inv .2)
 
 pub put-all-spec : {M : Type 1} → statement M
 put-all-spec =
@@ -53,11 +62,14 @@ put-all-spec =
     μ-loop
     add-end
     returns
+    copy-requires
+    same-length
+    returns-2
     loop-holds
     shared-slice-read-put
     put-requires
     add-i
     loop-less
     loop-again
-    same-length
-    returns-2)
+    same-length-2
+    returns-3)

@@ -1,4 +1,4 @@
--- `octets::put_hex` meets its contract: past the end nothing is written; else, after `i` turns, the first `i` octets are written.
+-- `octets::put_hex` meets its contract: past the end nothing is written; given room, `copy_hex` writes; else, after `i` turns, the first `i` octets are written.
 -- Assumes nothing.
 use borrow.Author.Needs.{needs}
 use mathlib.Core.Path.{_≡_}
@@ -27,6 +27,15 @@ add-end c = search needs
 returns : tie.Need-returns Inv-loop μ-loop
 returns c = (past _ _ _ (c .if1 .taken) (omega (arith, each-hex-length (c .before .before .before .args .src .now))), search needs)
 
+copy-hex-requires : tie.Need-copy-hex-requires Inv-loop μ-loop
+copy-hex-requires c κs = search needs
+
+same-length : tie.Need-same-length Inv-loop μ-loop
+same-length c = search needs
+
+returns-2 : tie.Need-returns-2 Inv-loop μ-loop
+returns-2 c = search needs
+
 loop-holds : tie.Need-loop-holds Inv-loop μ-loop
 loop-holds c = (search needs, search needs, each-start _ _ _)
 
@@ -45,11 +54,11 @@ loop-less c = search needs
 loop-again : tie.Need-loop-again Inv-loop μ-loop
 loop-again c = (search needs, search needs, search (each-step, needs))
 
-same-length : tie.Need-same-length Inv-loop μ-loop
-same-length c = same-long (c .before .loop .inv .2)
+same-length-2 : tie.Need-same-length-2 Inv-loop μ-loop
+same-length-2 c = same-long (c .before .loop .inv .2)
 
-returns-2 : tie.Need-returns-2 Inv-loop μ-loop
-returns-2 c = (each-end _ _ (c .loop-test .left) (c .before .loop .inv .2), search needs)
+returns-3 : tie.Need-returns-3 Inv-loop μ-loop
+returns-3 c = (each-end _ _ (c .loop-test .left) (c .before .loop .inv .2), search needs)
 
 pub put-hex-spec : {M : Type 1} → statement M
 put-hex-spec =
@@ -60,11 +69,14 @@ put-hex-spec =
     mul-end
     add-end
     returns
+    copy-hex-requires
+    same-length
+    returns-2
     loop-holds
     shared-slice-read-put-octet
     put-octet-requires
     add-i
     loop-less
     loop-again
-    same-length
-    returns-2)
+    same-length-2
+    returns-3)

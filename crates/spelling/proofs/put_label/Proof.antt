@@ -11,10 +11,10 @@ use Rattle.spelling.proofs.put_label.Statement.{statement}
 use Rattle.spelling.proofs.put_label.Tie as tie
 
 abbrev Inv-loop : tie.InvT-loop
-Inv-loop out₀ at label to₀ i₀ out to i = (i ≤ length label) × (to ≤ at + 5 * i) × Wrote out₀ at (each spelled (take i label)) out to
+Inv-loop out₀ at label table to₀ i₀ out to i = (i ≤ length label) × (to ≤ at + 5 * i) × Wrote out₀ at (each spelled (take i label)) out to
 
 abbrev μ-loop : tie.MeasureT-loop
-μ-loop out₀ at label to₀ i₀ out to i = length label - i
+μ-loop out₀ at label table to₀ i₀ out to i = length label - i
 
 loop-holds : tie.Need-loop-holds Inv-loop μ-loop
 loop-holds c = (search needs, search needs, each-start _ _ _)

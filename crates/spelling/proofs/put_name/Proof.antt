@@ -9,10 +9,10 @@ use Rattle.spelling.proofs.put_name.Statement.{statement}
 use Rattle.spelling.proofs.put_name.Tie as tie
 
 abbrev Inv-loop : tie.InvT-loop
-Inv-loop out₀ at form to₀ i₀ out to i = (i ≤ length form) × (to ≤ at + 5 * i) × (length out ≡ length out₀) × Begun form out₀ at out to i
+Inv-loop out₀ at form table to₀ i₀ out to i = (i ≤ length form) × (to ≤ at + 5 * i) × (length out ≡ length out₀) × Begun form out₀ at out to i
 
 abbrev μ-loop : tie.MeasureT-loop
-μ-loop out₀ at form to₀ i₀ out to i = length form - i
+μ-loop out₀ at form table to₀ i₀ out to i = length form - i
 
 put-requires : tie.Need-put-requires Inv-loop μ-loop
 put-requires c κs = search needs
@@ -37,6 +37,9 @@ same-length-2 c = search needs
 
 returns-2 : tie.Need-returns-2 Inv-loop μ-loop
 returns-2 c = (search (wrote-root, needs), search needs)
+
+widths-requires : tie.Need-widths-requires Inv-loop μ-loop
+widths-requires c κs = search needs
 
 loop-holds : tie.Need-loop-holds Inv-loop μ-loop
 loop-holds c = (search needs, search needs, search needs, search (begun-start, needs))
@@ -127,6 +130,7 @@ put-name-spec =
     put-all-requires
     same-length-2
     returns-2
+    widths-requires
     loop-holds
     shared-slice-read-wide
     wide-requires
