@@ -12,6 +12,7 @@ pub mod Writing
 pub mod Showing
 pub mod Arrays
 pub mod Whole
+pub mod Bound
 pub mod Promise
 pub mod Sample
 pub mod Boundaries

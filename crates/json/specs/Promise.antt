@@ -1,20 +1,20 @@
 -- What the converter promises, and how it follows from a run that measures and a run that writes. Assumes nothing.
 use mathlib.Core.Path.{_≡_, refl, sym, ap, _∙_, subst}
 use mathlib.Core.List.{List, [], _∷_, _++_}
-use Prim.Native.Nat.{ℕ, _≤_, _<_}
+use Prim.Native.Nat.{ℕ, suc, _+_, _*_, _≤_, _<_}
 use native.Mathlib.Omega.{arith}
 use borrow.Author.Tests.{le-leb}
 use lib.Dec.{eqb}
-use lib.ListN.{length}
-use Rattle.octets.specs.Lists.{count}
+use lib.ListN.{length, getD}
+use Rattle.octets.specs.Lists.{Octets, count}
 use Rattle.octets.specs.Overlay.{overlay-first}
 use Rattle.octets.specs.Answer.{output, success, refusal, delivered, overwritten, delivered-none}
 use Rattle.octets.specs.Answer as answer
 use Rattle.names.specs.Name.{Fault}
-use Rattle.records.specs.Message.{Message}
+use Rattle.records.specs.Message.{Message, form}
 use Rattle.records.specs.Read.{Entry, entry, bad}
 use Rattle.records.specs.Decode.{Decoded, accepted, refused, decode}
-use Rattle.records.specs.MessageLaws.{decode-back}
+use Rattle.records.specs.MessageLaws.{decode-back, decode-valid}
 use Rattle.records.specs.Uncompressed.{scanOf, Uncompressed}
 use Rattle.records.specs.declared.Outcome.{Outcome}
 use Rattle.records.specs.declared.Outcome.the-variants as outcome
@@ -25,6 +25,7 @@ use Rattle.json.specs.Converted.{converted, toText}
 use Rattle.json.specs.Elements.{wholeText}
 use Rattle.json.specs.Does.{Does, wrote, fails}
 use Rattle.json.specs.Whole.{accepted-text}
+use Rattle.json.specs.Bound.{text-short}
 use Rattle.json.specs.declared.Went.{Went}
 use Rattle.json.specs.declared.Went.the-variants.{To, Faulty}
 use Rattle.json.specs.declared.Answer.{Answer}
@@ -70,6 +71,27 @@ measured-text {b = b} {b′ = b′} {n = n} (wrote {t = t} w) h (wrote p) =
     let j : length t ≤ length b = omega arith in
     fitting t b b′ n _ k h (p .text ∙ overlay-first b t j)
 
+-- a text that is known to be at most so long; of octets with a fault nothing is said
+abbrev pub Bounded : Entry (List ℕ) → ℕ → Type 0
+Bounded (entry t next) most = length t ≤ most
+Bounded (bad fault) most = Unit {0}
+
+once-text : {e : Entry (List ℕ)} {b b′ : List ℕ} {next n most : ℕ} → Bounded e most → most ≤ length b → Does e b 0 b′ (To next n) → Delivers e b (Text n) b′
+once-text {b = b} {b′ = b′} {n = n} h k (wrote {t = t} w) =
+    let j : length t ≤ length b = omega (arith, h, k) in
+    fitting t b b′ n _ (omega (arith, w .place)) (omega (arith, w .place)) (w .text ∙ overlay-first b t j)
+
+once-fault : {e : Entry (List ℕ)} {b b′ : List ℕ} {r : Answer} → Does e b 0 b′ Faulty → Delivers e b r b′
+once-fault fails = unknown
+
+-- such a text is written where there is room for the longest
+module _ {e : Entry (List ℕ)} {b b′ : List ℕ} {most : ℕ} {w : Went} (h : Bounded e most) (k : most ≤ length b) (d : Does e b 0 b′ w) where
+  pub at-once-text : {next n : ℕ} → w ≡ To next n → Delivers e b (Text n) b′
+  at-once-text q = once-text h k (rw q at d)
+
+  pub at-once-fault : {r : Answer} → w ≡ Faulty → Delivers e b r b′
+  at-once-fault q = once-fault (rw q at d)
+
 -- as the code's proof has it: l is what the measuring run leaves of no octets
 module _ (b l : List ℕ) (z : length l ≡ 0) {e : Entry (List ℕ)} {w : Went} (d : Does e [] 0 l w) where
   pub deliver-fault : {r : Answer} → w ≡ Faulty → Delivers e b r (l ++ b)
@@ -84,11 +106,11 @@ module _ (b l : List ℕ) (z : length l ≡ 0) {e : Entry (List ℕ)} {w : Went}
 -- ---- the whole
 -- what the outcome tells of the message
 abbrev Outcomes : Outcome → ℕ → Decoded → Type 0
-Outcomes (outcome.Whole n) opts x = (m : Message) × (x ≡ accepted m) × (opts ≡ count opt? (m .additional))
+Outcomes (outcome.Whole n) opts x = (m : Message) × (x ≡ accepted m) × (opts ≡ count opt? (m .additional)) × (n ≡ length (form m))
 Outcomes (outcome.Refused k p) opts x = x ≡ refused k p
 
 outcomes : (x : Decoded) → Outcomes (scanOf x .outcome) (scanOf x .opts) x
-outcomes (accepted m) = (m, refl, refl)
+outcomes (accepted m) = (m, refl, refl, refl)
 outcomes (refused k p) = refl
 
 scanned : (x : Decoded) {r : Scan} {o : Outcome} → r ≡ scanOf x → r .outcome ≡ o → Outcomes o (r .opts) x
@@ -97,6 +119,10 @@ scanned x {r} {o} p q = subst (λ (y : Outcome). Outcomes y (r .opts) x) q (subs
 given : {t b b′ : List ℕ} {next : ℕ} {r : Answer} → Delivers (entry t next) b r b′ → (answerOf r ≡ delivered 10 (output t) b .answer) × (b′ ≡ delivered 10 (output t) b .buffer)
 given (delivers p q) = (p, q)
 
+octets-known : (s : List ℕ) → ((i : ℕ) → getD s i 0 < 256) → Octets s
+octets-known [] o = tt
+octets-known (x ∷ s) o = (o 0, octets-known s (λ i. o (suc i)))
+
 -- l is what the search for faults leaves of no octets
 module _ (s b l : List ℕ) (z : length l ≡ 0) {x : Scan} (u : Uncompressed s [] x l) where
   pub convert-refused : {k p : ℕ} → x .outcome ≡ outcome.Refused k p → Converted s b (Refused k p) (l ++ b)
@@ -104,13 +130,22 @@ module _ (s b l : List ℕ) (z : length l ≡ 0) {x : Scan} (u : Uncompressed s 
   convert-refused q = let e = scanned (decode s) (u .answers) q in record { answers = rw e; leaves = rw (e, empty l z) }
 
   pub convert-limits : {n : ℕ} → x .outcome ≡ outcome.Whole n → (12 ≤ length s) × (length s ≤ 65535)
-  convert-limits q = let (m, e, c) = scanned (decode s) (u .answers) q in let k = decode-back s m e in (k .room, k .small)
+  convert-limits q = let (m, e, c, f) = scanned (decode s) (u .answers) q in let k = decode-back s m e in (k .room, k .small)
+
+  -- how long the text can be at most
+  pub convert-bounded : {n : ℕ} → ((i : ℕ) → getD s i 0 < 256) → x .outcome ≡ outcome.Whole n → (n ≤ 65535) × Bounded (wholeText (eqb (x .opts) 1) s) (10 * n + 400)
+  convert-bounded {n} o q =
+      let (m, e, c, f) = scanned (decode s) (u .answers) q in
+      let (last, t) = accepted-text s m e in
+      let (v, k) = decode-valid s m (octets-known s o) e in
+      let j : length (text m) ≤ 10 * n + 400 = omega (arith, text-short m v, f) in
+      (omega (arith, f, k), subst (λ (y : Entry (List ℕ)). Bounded y (10 * n + 400)) (sym (ap (λ (i : ℕ). wholeText (eqb i 1) s) c ∙ t)) j)
 
   pub convert-whole : {n : ℕ} {r : Answer} {b′ : List ℕ} → x .outcome ≡ outcome.Whole n → Delivers (wholeText (eqb (x .opts) 1) s) (l ++ b) r b′ → Converted s b r b′
   unfolding toText converted
   convert-whole {r = r} {b′ = b′} q d =
-      let (m, e, c) = scanned (decode s) (u .answers) q in
+      let (m, e, c, f) = scanned (decode s) (u .answers) q in
       let (last, t) = accepted-text s m e in
-      let f : Delivers (entry (text m) last) b r b′ = subst (λ (y : Entry (List ℕ)). Delivers y b r b′) (ap (λ (n : ℕ). wholeText (eqb n 1) s) c ∙ t) (rw (empty l z) at d) in
-      let (g, h) = given f in
-      record { answers = rw e g; leaves = rw e h }
+      let g : Delivers (entry (text m) last) b r b′ = subst (λ (y : Entry (List ℕ)). Delivers y b r b′) (ap (λ (n : ℕ). wholeText (eqb n 1) s) c ∙ t) (rw (empty l z) at d) in
+      let (h, i) = given g in
+      record { answers = rw e h; leaves = rw e i }

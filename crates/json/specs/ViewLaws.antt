@@ -195,7 +195,8 @@ pub view-small : (m : Message) → T (valid? m) → T (all small-options? (viewO
 unfolding viewOf
 view-small m h = section-small (m .header .rcode) (m .additional) (valid-additional m h)
 
-view-additional : (v : View) → T (view? v) → T (additionals? (v .header .rcode) (v .additional))
+-- a valid view's additional section
+pub view-additional : (v : View) → T (view? v) → T (additionals? (v .header .rcode) (v .additional))
 unfolding view?
 view-additional v h = and-right (shared? (v .header) (v .questions) (v .answers) (v .authority)) (additionals? (v .header .rcode) (v .additional)) h
 

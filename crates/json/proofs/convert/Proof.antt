@@ -2,7 +2,7 @@
 -- Assumes nothing.
 use mathlib.Core.List.{[]}
 use borrow.Author.Needs.{needs}
-use Rattle.json.specs.Promise.{convert-refused, convert-limits, convert-whole}
+use Rattle.json.specs.Promise.{convert-refused, convert-limits, convert-bounded, convert-whole}
 use Rattle.json.proofs.convert.Statement.{statement}
 use Rattle.json.proofs.convert.Tie as tie
 
@@ -18,11 +18,15 @@ uncompress-requires c κs = search needs
 enum-known-outcome : tie.Need-enum-known-outcome
 enum-known-outcome c = search needs
 
-enum-told : tie.Need-enum-told
-enum-told c = search needs
+enum-known-outcome-2 : tie.Need-enum-known-outcome-2
+enum-known-outcome-2 c = search needs
 
 deliver-requires : tie.Need-deliver-requires
-deliver-requires c κs = convert-limits _ [] _ (c .before .before .before .before .before .uncompress .kept .1 .0) (c .before .before .before .before .before .uncompress .ensures) (c .before .enum-told .given .1)
+deliver-requires c κs =
+    let u = c .before .before .before .before .before .before .uncompress in
+    let k = convert-limits _ [] _ (u .kept .1 .0) (u .ensures) (c .before .before .outcome2 .given .1) in
+    let l = convert-bounded _ [] _ (u .kept .1 .0) (u .ensures) (λ i. c .before .before .before .before .before .before .before .before .before .shared-slice-known .given i .fits) (c .before .before .outcome2 .given .1) in
+    (k .0, k .1, l .0, l .1)
 
 same-length : tie.Need-same-length
 same-length c = search needs
@@ -34,7 +38,7 @@ same-length-2 : tie.Need-same-length-2
 same-length-2 c = search needs
 
 returns-2 : tie.Need-returns-2
-returns-2 c = convert-whole _ _ _ (c .before .before .before .before .before .before .before .before .uncompress .kept .1 .0) (c .before .before .before .before .before .before .before .before .uncompress .ensures) (c .before .before .before .before .enum-told .given .1) (c .before .before .deliver .ensures)
+returns-2 c = convert-whole _ _ _ (c .before .before .before .before .before .before .before .before .before .uncompress .kept .1 .0) (c .before .before .before .before .before .before .before .before .before .uncompress .ensures) (c .before .before .before .before .before .outcome2 .given .1) (c .before .before .deliver .ensures)
 
 pub convert-spec : {M : Type 1} → statement M
 convert-spec =
@@ -44,7 +48,7 @@ convert-spec =
     slice-aggregate-uncompress
     uncompress-requires
     enum-known-outcome
-    enum-told
+    enum-known-outcome-2
     deliver-requires
     same-length
     returns

@@ -1,9 +1,9 @@
--- `json::deliver` meets its contract: a first run measures, and a second one writes where there is room.
+-- `json::deliver_measured` meets its contract: a first run measures, and a second one writes where there is room.
 -- Assumes nothing.
 use borrow.Author.Needs.{needs}
 use Rattle.json.specs.Promise.{deliver-fault, deliver-long, deliver-text}
-use Rattle.json.proofs.deliver.Statement.{statement}
-use Rattle.json.proofs.deliver.Tie as tie
+use Rattle.json.proofs.deliver_measured.Statement.{statement}
+use Rattle.json.proofs.deliver_measured.Tie as tie
 
 slice-relend-prefix-put-text : tie.Need-slice-relend-prefix-put-text
 slice-relend-prefix-put-text c = search needs
@@ -41,8 +41,8 @@ same-length-3 c = search needs
 returns-3 : tie.Need-returns-3
 returns-3 c = deliver-text _ _ (c .before .before .before .before .before .before .before .before .before .before .put-text .kept .1 .1 .0) (c .before .before .before .before .before .before .before .before .before .before .put-text .ensures) (c .before .before .before .before .before .before .size .given .1) (c .before .before .before .before .if1 .left) (c .before .before .put-text2 .ensures)
 
-pub deliver-spec : {M : Type 1} → statement M
-deliver-spec =
+pub deliver-measured-spec : {M : Type 1} → statement M
+deliver-measured-spec =
     tie.close
     (tie.spec
     slice-relend-prefix-put-text
