@@ -1,5 +1,5 @@
 -- `names::name_at` meets its contract. The outer loop's invariant: the walk from `place` on gives the whole answer, from what is written in `form`
--- so far. The inner loop's: k octets of the label are copied, and the end is not before them. The measure of the outer loop is the bound on the
+-- so far. The inner loop's: k octets of the label are copied, unless the name is too long, and the end is not before them. The measure of the outer loop is the bound on the
 -- definition's steps: a label adds to `total`, a pointer lowers `low`. Assumes nothing.
 use Prim.Native.Nat.{_≤_, _+_, _-_}
 use mathlib.Core.Path.{_≡_}
@@ -14,7 +14,7 @@ use Rattle.names.proofs.name_at.Tie as tie
 
 abbrev Inv-loop : tie.InvT-loop
 Inv-loop s run at bound low place total next form₀ end x more to₀ k₀ form to k =
-    (k ≤ x) × (place + 1 + k ≤ end) × (to ≡ total + 1 + k) × (length form ≡ 255) × Wrote form₀ to₀ (part s (place + 1) k) form to
+    (k ≤ x) × (place + 1 + k ≤ end) × (to ≡ total + 1 + k) × (length form ≡ 255) × (more ≤ 254 → Wrote form₀ to₀ (part s (place + 1) k) form to)
 
 abbrev μ-loop : tie.MeasureT-loop
 μ-loop s run at bound low place total next form₀ end x more to₀ k₀ form to k = x - k
@@ -57,17 +57,17 @@ add-more c = search needs
 add-more-2 : tie.Need-add-more-2 Inv-loop μ-loop Inv-walk μ-walk
 add-more-2 c = search needs
 
-slice-aggregate-put : tie.Need-slice-aggregate-put Inv-loop μ-loop Inv-walk μ-walk
-slice-aggregate-put c = search needs
+slice-aggregate-keep : tie.Need-slice-aggregate-keep Inv-loop μ-loop Inv-walk μ-walk
+slice-aggregate-keep c = search needs
 
-shared-slice-read-put : tie.Need-shared-slice-read-put Inv-loop μ-loop Inv-walk μ-walk
-shared-slice-read-put c = search needs
+shared-slice-read-keep : tie.Need-shared-slice-read-keep Inv-loop μ-loop Inv-walk μ-walk
+shared-slice-read-keep c = search needs
 
-put-requires : tie.Need-put-requires Inv-loop μ-loop Inv-walk μ-walk
-put-requires c κs = search needs
+keep-requires : tie.Need-keep-requires Inv-loop μ-loop Inv-walk μ-walk
+keep-requires c κs = (search needs, λ h. search needs)
 
 loop-holds : tie.Need-loop-holds Inv-loop μ-loop Inv-walk μ-walk
-loop-holds c = (search needs, search needs, search needs, search needs, nothing _ _)
+loop-holds c = (search needs, search needs, search needs, search needs, λ h. nothing _ _)
 
 add-from : tie.Need-add-from Inv-loop μ-loop Inv-walk μ-walk
 add-from c = search needs
@@ -81,14 +81,14 @@ past-requires-2 c κs = search needs
 fail-requires-2 : tie.Need-fail-requires-2 Inv-loop μ-loop Inv-walk μ-walk
 fail-requires-2 c κs = search needs
 
-slice-aggregate-put-2 : tie.Need-slice-aggregate-put-2 Inv-loop μ-loop Inv-walk μ-walk
-slice-aggregate-put-2 c = search needs
+slice-aggregate-keep-2 : tie.Need-slice-aggregate-keep-2 Inv-loop μ-loop Inv-walk μ-walk
+slice-aggregate-keep-2 c = search needs
 
-shared-slice-read-put-2 : tie.Need-shared-slice-read-put-2 Inv-loop μ-loop Inv-walk μ-walk
-shared-slice-read-put-2 c = search needs
+shared-slice-read-keep-2 : tie.Need-shared-slice-read-keep-2 Inv-loop μ-loop Inv-walk μ-walk
+shared-slice-read-keep-2 c = search needs
 
-put-requires-2 : tie.Need-put-requires-2 Inv-loop μ-loop Inv-walk μ-walk
-put-requires-2 c κs = search needs
+keep-requires-2 : tie.Need-keep-requires-2 Inv-loop μ-loop Inv-walk μ-walk
+keep-requires-2 c κs = (search needs, λ h. search needs)
 
 add-k : tie.Need-add-k Inv-loop μ-loop Inv-walk μ-walk
 add-k c = search needs
@@ -102,7 +102,7 @@ loop-again c = (
   search needs,
   search needs,
   search needs,
-  label-more _ _ _ (c .before .before .before .before .if5 .left) (search needs) (c .before .before .before .before .before .before .loop .inv .4) (c .before .put2 .ensures),
+  λ h. label-more _ _ _ (c .before .before .before .before .if5 .left) (search needs) (c .before .before .before .before .before .before .loop .inv .4 h) (c .before .keep2 .ensures .1 h),
 )
 
 fail-requires-3 : tie.Need-fail-requires-3 Inv-loop μ-loop Inv-walk μ-walk
@@ -134,8 +134,8 @@ walk-again c = (
       (c .before .before .loop .inv .0)
       (c .if6 .left)
       (c .before .before .before .before .before .before .before .before .before .before .before .before .before .walk .inv .1)
-      (c .before .before .before .before .put .ensures)
-      (c .before .before .loop .inv .4),
+      (c .before .before .before .before .keep .ensures .1 (c .if6 .left))
+      (c .before .before .loop .inv .4 (c .if6 .left)),
 )
 
 fail-requires-4 : tie.Need-fail-requires-4 Inv-loop μ-loop Inv-walk μ-walk
@@ -228,17 +228,17 @@ name-at-spec =
     add-after
     add-more
     add-more-2
-    slice-aggregate-put
-    shared-slice-read-put
-    put-requires
+    slice-aggregate-keep
+    shared-slice-read-keep
+    keep-requires
     loop-holds
     add-from
     add-from-2
     past-requires-2
     fail-requires-2
-    slice-aggregate-put-2
-    shared-slice-read-put-2
-    put-requires-2
+    slice-aggregate-keep-2
+    shared-slice-read-keep-2
+    keep-requires-2
     add-k
     loop-less
     loop-again
