@@ -51,6 +51,12 @@ add-size c = search needs
 add-after : tie.Need-add-after Inv-loop μ-loop Inv-walk μ-walk
 add-after c = search needs
 
+returns : tie.Need-returns Inv-loop μ-loop Inv-walk μ-walk
+returns c = search (root-first, needs)
+
+returns-2 : tie.Need-returns-2 Inv-loop μ-loop Inv-walk μ-walk
+returns-2 c = search (root-later, needs)
+
 add-more : tie.Need-add-more Inv-loop μ-loop Inv-walk μ-walk
 add-more c = search needs
 
@@ -183,14 +189,8 @@ walk-less-3 c = search needs
 walk-again-3 : tie.Need-walk-again-3 Inv-loop μ-loop Inv-walk μ-walk
 walk-again-3 c = (search needs, search needs, search needs, search (jump-later, needs))
 
-returns : tie.Need-returns Inv-loop μ-loop Inv-walk μ-walk
-returns c = search (behind, needs)
-
-returns-2 : tie.Need-returns-2 Inv-loop μ-loop Inv-walk μ-walk
-returns-2 c = search (root-first, needs)
-
 returns-3 : tie.Need-returns-3 Inv-loop μ-loop Inv-walk μ-walk
-returns-3 c = search (root-later, needs)
+returns-3 c = search (behind, needs)
 
 returns-4 : tie.Need-returns-4 Inv-loop μ-loop Inv-walk μ-walk
 returns-4 c = search (label-cut, needs)
@@ -226,6 +226,8 @@ name-at-spec =
     wide-requires
     add-size
     add-after
+    returns
+    returns-2
     add-more
     add-more-2
     slice-aggregate-keep
@@ -262,8 +264,6 @@ name-at-spec =
     walk-again-2
     walk-less-3
     walk-again-3
-    returns
-    returns-2
     returns-3
     returns-4
     returns-5
