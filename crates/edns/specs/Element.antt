@@ -35,14 +35,17 @@ unfoldable pub optionsText : List ℕ → List ℕ
 optionsText rdata = each (λ m. 44 ∷ memberText m) (map memberOf (optionsIn rdata))
 
 -- ---- the element
--- whether a TYPE 41 record shows as an EDNS element: its owner is the root or not, its TTL, the header's RCODE, its RDATA
-unfoldable pub showsEdns : Bool → ℕ → ℕ → List ℕ → Bool
-showsEdns root ttl rcode rdata =
+-- the tests of a TYPE 41 record without its RDATA: its owner is the root or not, its TTL, the header's RCODE
+abbrev pub ednsFields : Bool → ℕ → ℕ → Bool
+ednsFields root ttl rcode =
     root
     && eqb (ttl / 65536 % 256) 0
     && (eqb (ttl % 65536) 0 || eqb (ttl % 65536) 32768)
     && key? (fullRcode rcode (ttl / 16777216)) rcodes
-    && optionsRise rdata
+
+-- whether a TYPE 41 record shows as an EDNS element: the same, and its RDATA
+unfoldable pub showsEdns : Bool → ℕ → ℕ → List ℕ → Bool
+showsEdns root ttl rcode rdata = ednsFields root ttl rcode && optionsRise rdata
 
 -- the element's text: CLASS, TTL, the header's RCODE, RDATA
 unfoldable pub elementText : ℕ → ℕ → ℕ → List ℕ → List ℕ
@@ -73,11 +76,7 @@ unfolding showsEdns optionsRise ednsOf
 shows-edns rcode r = go (optionsOf (r .rdata)) refl
   where
     tests : Bool
-    tests =
-        none? (r .name)
-        && eqb (r .ttl / 65536 % 256) 0
-        && (eqb (r .ttl % 65536) 0 || eqb (r .ttl % 65536) 32768)
-        && key? (fullRcode rcode (r .ttl / 16777216)) rcodes
+    tests = ednsFields (none? (r .name)) (r .ttl) rcode
 
     go : (o : Option (List EdnsOption)) → optionsOf (r .rdata) ≡ o
         → showsEdns (none? (r .name)) (r .ttl) rcode (r .rdata) ≡ present? (ednsOf rcode r)

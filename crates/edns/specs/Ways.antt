@@ -16,7 +16,7 @@ use Rattle.octets.specs.Fields.{twoAt}
 use Rattle.options.specs.Options.{EdnsOption}
 use Rattle.edns.specs.Edns.{prepend, divided, optionsOf, rising?, rcodes}
 use Rattle.edns.specs.EdnsLaws.{divided-end}
-use Rattle.edns.specs.Element.{risen?, optionsRise, showsEdns}
+use Rattle.edns.specs.Element.{risen?, optionsRise, ednsFields, showsEdns}
 
 -- ---- RDATA divided
 -- the first option
@@ -162,26 +162,27 @@ module _ {s : List ℕ} {v : Bool} {least at : ℕ} (f : From s v least at) wher
         rises-more i = record { goes = more ∙ rise-next least (here s at) (optionsOf (drop (at + 4 + size) s)) (rw (← d) i) ∙ rw (← d) }
 
 -- ---- the tests of an element, in order
-module _ (root : Bool) (ttl rcode : ℕ) (rdata : List ℕ) where
-  pub shows-root : not root ≡ true → false ≡ showsEdns root ttl rcode rdata
-  unfolding showsEdns
-  shows-root h = rw (not-true root h)
+module _ (root : Bool) (ttl rcode : ℕ) where
+  pub fields-root : not root ≡ true → false ≡ ednsFields root ttl rcode
+  fields-root h = rw (not-true root h)
 
   module _ (a : not root ≡ false) where
-    pub shows-version : (ttl / 65536 % 256 ≡ 0 → ⊥) → false ≡ showsEdns root ttl rcode rdata
-    unfolding showsEdns
-    shows-version h = rw (not-false root a, ne-eqb (ttl / 65536 % 256) 0 h)
+    pub fields-version : (ttl / 65536 % 256 ≡ 0 → ⊥) → false ≡ ednsFields root ttl rcode
+    fields-version h = rw (not-false root a, ne-eqb (ttl / 65536 % 256) 0 h)
 
     module _ (b : ttl / 65536 % 256 ≡ 0) {flags : Bool} (c : flags ≡ (eqb (ttl % 65536) 0 || eqb (ttl % 65536) 32768)) where
-      pub shows-flags : not flags ≡ true → false ≡ showsEdns root ttl rcode rdata
-      unfolding showsEdns
-      shows-flags h = rw (not-false root a, eq-eqb (ttl / 65536 % 256) 0 b, ← c, not-true flags h)
+      pub fields-flags : not flags ≡ true → false ≡ ednsFields root ttl rcode
+      fields-flags h = rw (not-false root a, eq-eqb (ttl / 65536 % 256) 0 b, ← c, not-true flags h)
 
-      module _ (d : not flags ≡ false) {key : Bool} (e : key ≡ key? (ttl / 16777216 * 16 + rcode) rcodes) where
-        pub shows-rcode : not key ≡ true → false ≡ showsEdns root ttl rcode rdata
-        unfolding showsEdns
-        shows-rcode h = rw (not-false root a, eq-eqb (ttl / 65536 % 256) 0 b, ← c, not-false flags d, ← e, not-true key h)
+      pub fields-rcode : not flags ≡ false → {key : Bool} → key ≡ key? (ttl / 16777216 * 16 + rcode) rcodes → key ≡ ednsFields root ttl rcode
+      fields-rcode d e = rw (not-false root a, eq-eqb (ttl / 65536 % 256) 0 b, ← c, not-false flags d) e
 
-        pub shows-options : not key ≡ false → {rise : Bool} → rise ≡ optionsRise rdata → rise ≡ showsEdns root ttl rcode rdata
-        unfolding showsEdns
-        shows-options h f = rw (not-false root a, eq-eqb (ttl / 65536 % 256) 0 b, ← c, not-false flags d, ← e, not-false key h) f
+  -- the tests without RDATA, then RDATA
+  module _ (rdata : List ℕ) {fields : Bool} (e : fields ≡ ednsFields root ttl rcode) where
+    pub shows-fields : not fields ≡ true → false ≡ showsEdns root ttl rcode rdata
+    unfolding showsEdns
+    shows-fields h = rw (← e, not-true fields h)
+
+    pub shows-options : not fields ≡ false → {rise : Bool} → rise ≡ optionsRise rdata → rise ≡ showsEdns root ttl rcode rdata
+    unfolding showsEdns
+    shows-options h f = rw (← e, not-false fields h) f

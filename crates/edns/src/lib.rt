@@ -12,7 +12,7 @@ ghost use lib.ListN.{length};
 ghost use Rattle.octets.specs.Lists.{key?, textOf};
 ghost use Rattle.octets.specs.Overlay.{Wrote};
 ghost use Rattle.edns.specs.Edns.{rcodes, flags};
-ghost use Rattle.edns.specs.Element.{optionsRise, optionsText, showsEdns, elementText, headText};
+ghost use Rattle.edns.specs.Element.{optionsRise, optionsText, ednsFields, showsEdns, elementText, headText};
 
 // Whether an RCODE has a name.
 fn listed_rcode(n: u32) -> bool
@@ -63,10 +63,10 @@ fn options_rise(rdata: &[u8]) -> bool
     true
 }
 
-// Whether a TYPE 41 record shows as an EDNS element: its owner is the root or not, its TTL, the header's RCODE, its RDATA.
-pub fn is_edns(root: bool, ttl: u32, rcode: u32, rdata: &[u8]) -> bool
-    requires { ⌜ (rcode < 16) × (length (now rdata) < 65536) ⌝ }
-    ensures { λ r. ⌜ r ≡ showsEdns root ttl rcode (now (rdata .entry)) ⌝ }
+// Whether a TYPE 41 record passes the tests without its RDATA: its owner is the root or not, its TTL, the header's RCODE.
+pub fn has_edns_fields(root: bool, ttl: u32, rcode: u32) -> bool
+    requires { ⌜ rcode < 16 ⌝ }
+    ensures { λ r. ⌜ r ≡ ednsFields root ttl rcode ⌝ }
 {
     if !root {
         return false;
@@ -77,7 +77,15 @@ pub fn is_edns(root: bool, ttl: u32, rcode: u32, rdata: &[u8]) -> bool
     if !known_flags(ttl % 65536) {
         return false;
     }
-    if !listed_rcode(ttl / 16777216 * 16 + rcode) {
+    listed_rcode(ttl / 16777216 * 16 + rcode)
+}
+
+// Whether a TYPE 41 record shows as an EDNS element: those tests, and its RDATA.
+pub fn is_edns(root: bool, ttl: u32, rcode: u32, rdata: &[u8]) -> bool
+    requires { ⌜ (rcode < 16) × (length (now rdata) < 65536) ⌝ }
+    ensures { λ r. ⌜ r ≡ showsEdns root ttl rcode (now (rdata .entry)) ⌝ }
+{
+    if !has_edns_fields(root, ttl, rcode) {
         return false;
     }
     options_rise(rdata)

@@ -11,7 +11,7 @@ use lib.Dec.{T, T-not, eqb, eqb-refl, eqb→eq}
 use lib.ListN.{length, length-append}
 use Rattle.octets.specs.Lists.{ascii, none?, all, All, key?, textOf, ended, listed}
 use Rattle.octets.specs.Bits.{is-true, is-false, and-left, and-right}
-use Rattle.octets.specs.Parsed.{Parsed, took, stuck, and-then, or-else, strip, Holds, missed, found, took-value, took-rest, held, is-stuck, map-holds, then-holds, or-holds, strip-back, strip-sound}
+use Rattle.octets.specs.Parsed.{Parsed, took, stuck, and-then, or-else, otherwise, strip, Holds, missed, found, took-value, took-rest, held, is-stuck, map-holds, then-holds, or-holds, otherwise-holds, strip-back, strip-sound}
 
 -- ---- the fronts of texts
 -- no text of `f` begins with `x`
@@ -175,18 +175,19 @@ module _ {A : Type 0} {I : A → Type 0} {f : A → List ℕ} {F : List ℕ → 
     sound = λ t. map-holds (p .sound t) λ a r h. (same a .1 (h .0), h .1);
   }
 
+  -- things one after another up to the octet `stop`; the number bounds how many there are
+  abbrev pub repeated : ℕ → Codec I f F → ℕ → List ℕ → Parsed (List A)
+  repeated stop p zero t = stuck t
+  repeated stop p (suc n) t = otherwise (and-then (strip (stop ∷ []) t) λ u r. took [] r) (and-then (p .parse t) λ a w. and-then (repeated stop p n w) λ l r. took (a ∷ l) r)
+
   -- any number, and an octet that none of them begins with; the text's length bounds how many there are
   abbrev pub many : {stop : ℕ} → Avoids I f stop → ((r : List ℕ) → F (stop ∷ r)) → ((b : A) (r : List ℕ) → I b → F (f b ++ r)) → Codec I f F → Codec (All I) (ended f stop) Any
   many {stop} avoids fits₁ fits₂ p = record {
-    parse = λ t. go (length t) t;
+    parse = λ t. repeated stop p (length t) t;
     back = λ l r h m. go-back _ l r h (longer l r h);
     sound = λ t. go-sound (length t) t;
   }
     where
-      go : ℕ → List ℕ → Parsed (List A)
-      go zero t = stuck t
-      go (suc n) t = or-else (and-then (strip (stop ∷ []) t) λ u r. took [] r) (and-then (p .parse t) λ a w. and-then (go n w) λ l r. took (a ∷ l) r)
-
       filled : (a : A) (w : List ℕ) → I a → f a ≡ w → 0 < length w
       filled a [] h e = absurd (avoids a (stop ∷ []) [] h (ap (λ z. z ++ (stop ∷ [])) e))
       filled a (x ∷ w) h e = omega arith
@@ -199,7 +200,7 @@ module _ {A : Type 0} {I : A → Type 0} {f : A → List ℕ} {F : List ℕ → 
       fits [] r h = fits₁ r
       fits (a ∷ l) r h = rw (append-assoc) (fits₂ a (ended f stop l ++ r) (h .0))
 
-      go-back : (n : ℕ) (l : List A) (r : List ℕ) → All I l → length l < n → go n (ended f stop l ++ r) ≡ took l r
+      go-back : (n : ℕ) (l : List A) (r : List ℕ) → All I l → length l < n → repeated stop p n (ended f stop l ++ r) ≡ took l r
       go-back zero l r h k = absurd (omega arith)
       go-back (suc n) [] r h k = rw (strip-back (stop ∷ []) r)
       go-back (suc n) (a ∷ l) r h k =
@@ -210,9 +211,9 @@ module _ {A : Type 0} {I : A → Type 0} {f : A → List ℕ} {F : List ℕ → 
             go-back n l r (h .1) (omega arith),
           )
 
-      go-sound : (n : ℕ) (t : List ℕ) → Holds (λ l r. All I l × (ended f stop l ++ r ≡ t)) (go n t)
+      go-sound : (n : ℕ) (t : List ℕ) → Holds (λ l r. All I l × (ended f stop l ++ r ≡ t)) (repeated stop p n t)
       go-sound zero t = missed t
-      go-sound (suc n) t = or-holds
+      go-sound (suc n) t = otherwise-holds
           (then-holds _ (strip-sound (stop ∷ []) t) λ u r e. found (tt, e))
           (then-holds _ (p .sound t) λ a w h. then-holds _ (go-sound n w) λ l r k. found ((h .0, k .0), behind (f a) _ _ (k .1) (h .1)))
 
@@ -294,7 +295,7 @@ module _ {A : Type 0} {I : A → Type 0} {f : A → List ℕ} {F : List ℕ → 
       both = joined p (many (λ a r s h e. fronts tt e) fits₂ (λ b r h. fits₁ _) ("," ▷ p)) (λ l r h m. fits l r)
 
       inside : List ℕ → Parsed (List A)
-      inside t = or-else (and-then (strip (93 ∷ []) t) λ u r. took [] r) (and-then (both .parse t) λ u r. took (u .0 ∷ u .1) r)
+      inside t = otherwise (and-then (strip (93 ∷ []) t) λ u r. took [] r) (and-then (both .parse t) λ u r. took (u .0 ∷ u .1) r)
 
       go : List ℕ → Parsed (List A)
       go t = and-then (strip (91 ∷ []) t) λ u w. inside w
@@ -306,7 +307,7 @@ module _ {A : Type 0} {I : A → Type 0} {f : A → List ℕ} {F : List ℕ → 
           rw (is-stuck (strip-sound (93 ∷ []) w) (λ u s e. avoids a _ s (h .0) (sym (append-assoc (f a) _ r) ∙ sym e)) .1, both .back (a, l) r h tt)
 
       go-sound : (t : List ℕ) → Holds (λ l r. All I l × (listed f l ++ r ≡ t)) (go t)
-      go-sound t = then-holds (λ u w. inside w) (strip-sound (91 ∷ []) t) λ u w e. or-holds
+      go-sound t = then-holds (λ u w. inside w) (strip-sound (91 ∷ []) t) λ u w e. otherwise-holds
           (then-holds _ (strip-sound (93 ∷ []) w) λ v r d. found (tt, ap (λ z. 91 ∷ z) d ∙ e))
           (then-holds _ (both .sound w) λ v r h. found (h .0, ap (λ z. 91 ∷ z) (h .1) ∙ e))
 

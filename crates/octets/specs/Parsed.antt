@@ -22,6 +22,11 @@ or-else (took a r) o = took a r
 or-else (stuck w) (took a r) = took a r
 or-else (stuck w) (stuck u) = stuck (cond (ltb (length u) (length w)) u w)
 
+-- one parser, or else another that comes at least as far
+abbrev pub otherwise : {A : Type 0} → Parsed A → Parsed A → Parsed A
+otherwise (took a r) o = took a r
+otherwise (stuck w) o = o
+
 -- fixed octets, one by one
 abbrev pub strip : List ℕ → List ℕ → Parsed (Unit {0})
 strip [] t = took tt t
@@ -90,6 +95,10 @@ module _ {A : Type 0} {P : A → List ℕ → Type 0} where
   or-holds (missed w) (missed u) = missed _
   or-holds (missed w) (found k) = found k
   or-holds (found h) k = found h
+
+  pub otherwise-holds : {o p : Parsed A} → Holds P o → Holds P p → Holds P (otherwise o p)
+  otherwise-holds (missed w) k = k
+  otherwise-holds (found h) k = found h
 
   pub cond-holds : (b : Bool) {o : Parsed A} (w : List ℕ) → (T b → Holds P o) → Holds P (cond b o (stuck w))
   cond-holds true w h = h tt

@@ -159,7 +159,7 @@ unfolding shape
 form-none form e v = rw e
 
 -- a code that is none of the table's
-no-row : (code : ℕ) → (code ≡ 3 → ⊥) → (code ≡ 5 → ⊥) → (code ≡ 6 → ⊥) → (code ≡ 7 → ⊥) → (code ≡ 9 → ⊥) → (code ≡ 10 → ⊥) → (code ≡ 11 → ⊥) → (code ≡ 12 → ⊥) → (code ≡ 14 → ⊥) → (code ≡ 15 → ⊥) → formOf code ≡ unlisted
+pub no-row : (code : ℕ) → (code ≡ 3 → ⊥) → (code ≡ 5 → ⊥) → (code ≡ 6 → ⊥) → (code ≡ 7 → ⊥) → (code ≡ 9 → ⊥) → (code ≡ 10 → ⊥) → (code ≡ 11 → ⊥) → (code ≡ 12 → ⊥) → (code ≡ 14 → ⊥) → (code ≡ 15 → ⊥) → formOf code ≡ unlisted
 unfolding lookup rows formOf
 no-row code h3 h5 h6 h7 h9 h10 h11 h12 h14 h15 =
     rw (not-here 3 h3, not-here 5 h5, not-here 6 h6, not-here 7 h7, not-here 9 h9, not-here 10 h10, not-here 11 h11, not-here 12 h12, not-here 14 h14, not-here 15 h15)

@@ -129,7 +129,7 @@ not-listed kind a b c d e f g h i j k = missing kind layouts (λ x. a (sym x), (
 
 -- ---- a step's ways
 -- the layout of a piece
-abbrev headPiece : PieceRead → List Piece → Type 0
+abbrev pub headPiece : PieceRead → List Piece → Type 0
 headPiece piece.End l = l ≡ []
 headPiece (piece.Fixed n) l = l ≡ fixed n ∷ drop 1 l
 headPiece piece.Name l = l ≡ name ∷ drop 1 l
@@ -139,7 +139,7 @@ piece-head [] = refl
 piece-head (fixed n ∷ l) = refl
 piece-head (name ∷ l) = refl
 
-headed : (l : List Piece) (p : PieceRead) → p ≡ pieceRead l → headPiece p l
+pub headed : (l : List Piece) (p : PieceRead) → p ≡ pieceRead l → headPiece p l
 headed l p e = subst (λ (q : PieceRead). headPiece q l) (sym e) (piece-head l)
 
 module _ (s : List ℕ) (l : List Piece) (start end at : ℕ) {p : PieceRead} (e : p ≡ pieceRead l) where

@@ -231,28 +231,18 @@ bareDocument (h, (qn, (an, (nn, rn)))) = record { header = h; qdcount = qn; anco
 abbrev pub headOf : Document → Head
 headOf d = (d .header, (d .qdcount, (d .ancount, (d .nscount, d .arcount))))
 
--- the 14 numbers, up to the last digit
+-- the 14 numbers, up to the last digit: ID; the flags of the header's third octet and of its fourth; the counts
 unfoldable pub head : Codec {A = Head} (λ h. Unit {0}) (λ h. headText (bareDocument h)) NoDigit
 unfolding headText
 head = titled (λ h. simp append-assoc) (on
-    (λ (h, (qn, (an, (nn, rn)))). (h .id, (h .qr, (h .opcode, (h .aa, (h .tc, (h .rd, (h .ra, (h .ad, (h .cd, (h .rcode, (qn, (an, (nn, rn))))))))))))))
-    (λ (id, (qr, (opcode, (aa, (tc, (rd, (ra, (ad, (cd, (rcode, n)))))))))). (record { id = id; qr = qr; opcode = opcode; aa = aa; tc = tc; rd = rd; ra = ra; ad = ad; cd = cd; rcode = rcode }, n))
-    (λ h i. ((tt, (tt, (tt, (tt, (tt, (tt, (tt, (tt, (tt, (tt, (tt, (tt, (tt, tt))))))))))))), refl))
+    (λ (h, n). (h .id, ((h .qr, (h .opcode, (h .aa, (h .tc, h .rd)))), ((h .ra, (h .ad, (h .cd, h .rcode))), n))))
+    (λ (id, ((qr, (opcode, (aa, (tc, rd)))), ((ra, (ad, (cd, rcode))), n))). (record { id = id; qr = qr; opcode = opcode; aa = aa; tc = tc; rd = rd; ra = ra; ad = ad; cd = cd; rcode = rcode }, n))
+    (λ h i. ((tt, ((tt, (tt, (tt, (tt, tt)))), ((tt, (tt, (tt, tt))), (tt, (tt, (tt, tt)))))), refl))
     (λ u i. (tt, refl))
     ("{\"ID\":" ▷ till ",\"QR\":" tt number
-    ⊗ till ",\"Opcode\":" tt number
-    ⊗ till ",\"AA\":" tt number
-    ⊗ till ",\"TC\":" tt number
-    ⊗ till ",\"RD\":" tt number
-    ⊗ till ",\"RA\":" tt number
-    ⊗ till ",\"AD\":" tt number
-    ⊗ till ",\"CD\":" tt number
-    ⊗ till ",\"RCODE\":" tt number
-    ⊗ till ",\"QDCOUNT\":" tt number
-    ⊗ till ",\"ANCOUNT\":" tt number
-    ⊗ till ",\"NSCOUNT\":" tt number
-    ⊗ till ",\"ARCOUNT\":" tt number
-    ⊗ number))
+    ⊗ (till ",\"Opcode\":" tt number ⊗ till ",\"AA\":" tt number ⊗ till ",\"TC\":" tt number ⊗ till ",\"RD\":" tt number ⊗ till ",\"RA\":" tt number)
+    ⊗ (till ",\"AD\":" tt number ⊗ till ",\"CD\":" tt number ⊗ till ",\"RCODE\":" tt number ⊗ till ",\"QDCOUNT\":" tt number)
+    ⊗ till ",\"ANCOUNT\":" tt number ⊗ till ",\"NSCOUNT\":" tt number ⊗ till ",\"ARCOUNT\":" tt number ⊗ number))
 
 -- the text of a document's head is that of its header and counts alone
 pub head-same : (d : Document) → headText d ≡ headText (bareDocument (headOf d))
