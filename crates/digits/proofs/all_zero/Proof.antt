@@ -1,0 +1,55 @@
+-- `digits::all_zero` meets its contract: as long as no octet differs from zero, those from `i` on decide.
+-- Assumes nothing.
+use Prim.Native.Nat.{_-_}
+use Rattle.octets.specs.Lists.{paired, all}
+use Rattle.options.specs.Options.{zero?}
+use Rattle.options.specs.Every.{zero-is, zero-not}
+use Rattle.digits.specs.Every.{Rest, rest-start, rest-next, rest-fails, rest-ends}
+use borrow.Author.Needs.{needs}
+use Rattle.digits.proofs.all_zero.Statement.{statement}
+use Rattle.digits.proofs.all_zero.Tie as tie
+
+abbrev Inv-loop : tie.InvT-loop
+Inv-loop hex size i₀ i = Rest zero? (paired hex) (all zero? (paired hex)) i
+
+abbrev μ-loop : tie.MeasureT-loop
+μ-loop hex size i₀ i = size - i
+
+size-of-requires : tie.Need-size-of-requires Inv-loop μ-loop
+size-of-requires c κs = search needs
+
+loop-holds : tie.Need-loop-holds Inv-loop μ-loop
+loop-holds c = rest-start _ _ _
+
+octet-at-requires : tie.Need-octet-at-requires Inv-loop μ-loop
+octet-at-requires c κs = search needs
+
+returns : tie.Need-returns Inv-loop μ-loop
+returns c = search (rest-fails, zero-not, needs)
+
+add-i : tie.Need-add-i Inv-loop μ-loop
+add-i c = search needs
+
+loop-less : tie.Need-loop-less Inv-loop μ-loop
+loop-less c = search needs
+
+loop-again : tie.Need-loop-again Inv-loop μ-loop
+loop-again c = search (rest-next, zero-is, needs)
+
+returns-2 : tie.Need-returns-2 Inv-loop μ-loop
+returns-2 c = search (rest-ends, needs)
+
+pub all-zero-spec : {M : Type 1} → statement M
+all-zero-spec =
+    tie.close
+    (tie.spec
+    Inv-loop
+    μ-loop
+    size-of-requires
+    loop-holds
+    octet-at-requires
+    returns
+    add-i
+    loop-less
+    loop-again
+    returns-2)
