@@ -1,0 +1,59 @@
+-- `tokens::rcode_10` meets its contract: five rows before those.
+-- Assumes nothing.
+use borrow.Author.Needs.{needs}
+use Rattle.tokens.specs.Rows.{rcodes-10}
+use Rattle.tokens.proofs.rcode_10.Statement.{statement}
+use Rattle.tokens.proofs.rcode_10.Tie as tie
+
+rcode-19-requires : tie.Need-rcode-19-requires
+rcode-19-requires c κs = search needs
+
+slice-aggregate-or-row : tie.Need-slice-aggregate-or-row
+slice-aggregate-or-row c = search needs
+
+or-row-requires : tie.Need-or-row-requires
+or-row-requires c κs = search needs
+
+slice-aggregate-or-row-2 : tie.Need-slice-aggregate-or-row-2
+slice-aggregate-or-row-2 c = search needs
+
+or-row-requires-2 : tie.Need-or-row-requires-2
+or-row-requires-2 c κs = search needs
+
+slice-aggregate-or-row-3 : tie.Need-slice-aggregate-or-row-3
+slice-aggregate-or-row-3 c = search needs
+
+or-row-requires-3 : tie.Need-or-row-requires-3
+or-row-requires-3 c κs = search needs
+
+slice-aggregate-or-row-4 : tie.Need-slice-aggregate-or-row-4
+slice-aggregate-or-row-4 c = search needs
+
+or-row-requires-4 : tie.Need-or-row-requires-4
+or-row-requires-4 c κs = search needs
+
+slice-aggregate-or-row-5 : tie.Need-slice-aggregate-or-row-5
+slice-aggregate-or-row-5 c = search needs
+
+or-row-requires-5 : tie.Need-or-row-requires-5
+or-row-requires-5 c κs = search needs
+
+returns : tie.Need-returns
+returns c = rcodes-10 (c .or-row5 .ensures) (c .before .before .or-row4 .ensures) (c .before .before .before .before .or-row3 .ensures) (c .before .before .before .before .before .before .or-row2 .ensures) (c .before .before .before .before .before .before .before .before .or-row .ensures) (c .before .before .before .before .before .before .before .before .before .before .rcode-19 .ensures)
+
+pub rcode-10-spec : {M : Type 1} → statement M
+rcode-10-spec =
+    tie.close
+    (tie.spec
+    rcode-19-requires
+    slice-aggregate-or-row
+    or-row-requires
+    slice-aggregate-or-row-2
+    or-row-requires-2
+    slice-aggregate-or-row-3
+    or-row-requires-3
+    slice-aggregate-or-row-4
+    or-row-requires-4
+    slice-aggregate-or-row-5
+    or-row-requires-5
+    returns)

@@ -1,0 +1,10 @@
+-- The tokens of a text, read one after another: fixed octets, numbers, names, strings, hexadecimal; and what is written of them.
+pub mod Cursor
+pub mod Step
+pub mod Many
+pub mod Leaf
+pub mod Number
+pub mod Signed
+pub mod Hex
+pub mod Rows
+pub mod Fields

@@ -1,0 +1,160 @@
+-- Numbers of any size: what is kept of them, and how a reader goes through one. Assumes nothing.
+use mathlib.Core.Path.{_≡_, refl, sym, _∙_, ap, subst}
+use mathlib.Core.Bool.{true, false, not}
+use mathlib.Core.List.{List, [], _∷_}
+use Prim.Native.Nat.{ℕ, zero, suc, _+_, _-_, _*_, _≤_, _<_, min}
+use native.Mathlib.Omega.{arith}
+use borrow.Author.Tests.{not-true, not-false}
+use lib.Dec.{T, T-not, not-T, leb, ltb, le→leb, lt→ltb, leb→le, ltb→lt}
+use lib.ListN.{length, drop, getD, drop-of-length-le}
+use Rattle.octets.specs.Bits.{is-true, is-false, both, unequal, and-left, and-right}
+use Rattle.octets.specs.Parsed.{took, stuck, strip}
+use Rattle.octets.specs.Decimal.{digit?, digit-in, digit-test, NoDigit, leading?, run, run-digit, run-stop, positive, natural}
+use Rattle.tokens.specs.declared.Cursor.{Cursor}
+use Rattle.tokens.specs.declared.Amount.{Amount}
+use Rattle.tokens.specs.Cursor.{drop-one, Safe, Keeps, keeps-same, Passed, Came, Stopped, went-keeps}
+use Rattle.tokens.specs.Step.{Found, found-as, found-stuck}
+use Rattle.tokens.specs.Leaf.{found-took, found-stop, found-same, found-entry, passed-took, passed-stop, strip-first, strip-not}
+
+-- what is kept of a number: one above 2^63 counts as 2^63, which is more than the octets of any text
+abbrev pub capped : ℕ → ℕ
+capped n = min n 9223372036854775808
+
+-- a number was read
+pub record NumberRead (t : List ℕ) (c : Cursor) (r : Amount) : Type 0 where
+  pub found : Found natural (λ n. r .value ≡ capped n) t c (r .cursor)
+  pub keeps : Keeps t c (r .cursor)
+
+-- a number that is not 0 was read
+pub record PositiveRead (t : List ℕ) (c : Cursor) (r : Amount) : Type 0 where
+  pub found : Found positive (λ n. (0 < n) × (r .value ≡ capped n)) t c (r .cursor)
+  pub keeps : Keeps t c (r .cursor)
+
+-- ---- digits
+-- r is what the digit x stands for, or 10 if it is none
+pub record DigitOf (x r : ℕ) : Type 0 where
+  pub low : r ≤ 9 → x ≡ 48 + r
+  pub high : 9 < r → digit? x ≡ false
+
+no-digit : (x : ℕ) → (48 ≤ x → x ≤ 57 → ⊥) → digit? x ≡ false
+no-digit x f = is-false (digit? x) (not-T (digit? x) λ u. let z = digit-in x u in f (z .0) (z .1))
+
+pub digit-below : {x : ℕ} → x < 48 → DigitOf x 10
+digit-below {x} h = record { low = λ k. absurd (omega arith); high = λ k. no-digit x (λ a b. omega arith) }
+
+pub digit-above : {x : ℕ} → 57 < x → DigitOf x 10
+digit-above {x} h = record { low = λ k. absurd (omega arith); high = λ k. no-digit x (λ a b. omega arith) }
+
+pub digit-is : {x r : ℕ} → x ≡ 48 + r → r ≤ 9 → DigitOf x r
+digit-is h l = record { low = λ k. h; high = λ k. absurd (omega arith) }
+
+-- ---- the parser's first octet
+positive-first : (w : ℕ) (r : List ℕ) → 0 < w → w ≤ 9 → positive ((48 + w) ∷ r) ≡ run w r
+unfolding positive
+positive-first w r h k =
+    let z : 48 + w - 48 ≡ w = omega arith in
+    rw (is-true (leading? (48 + w)) (both (leb 49 (48 + w)) (ltb (48 + w) 58) (le→leb 49 (48 + w) (omega arith)) (lt→ltb (48 + w) 58 (omega arith))), positive, z)
+
+positive-none : (x : ℕ) (r : List ℕ) → (49 ≤ x → x ≤ 57 → ⊥) → positive (x ∷ r) ≡ stuck (x ∷ r)
+unfolding positive
+positive-none x r f = rw (is-false (leading? x) (not-T (leading? x) no), positive)
+  where
+    no : T (leading? x) → ⊥
+    no u = f (leb→le 49 x (and-left (leb 49 x) (ltb x 58) u)) (omega (arith, ltb→lt x 58 (and-right (leb 49 x) (ltb x 58) u)))
+
+positive-empty : positive [] ≡ stuck []
+unfolding positive
+positive-empty = refl
+
+natural-zero : (w r : List ℕ) → strip (48 ∷ []) w ≡ took tt r → natural w ≡ took 0 r
+unfolding natural
+natural-zero w r e = rw (strip-first 48 w r e)
+
+natural-other : (w u : List ℕ) → strip (48 ∷ []) w ≡ stuck u → natural w ≡ positive w
+unfolding natural positive
+natural-other w u e = go w (λ s d. strip-not 48 w s u e d)
+  where
+    go : (w : List ℕ) → ((s : List ℕ) → w ≡ 48 ∷ s → ⊥) → natural w ≡ positive w
+    go [] h = refl
+    go (x ∷ w) h = rw (unequal x 48 (λ e. h w (ap (λ y. y ∷ w) e)), natural)
+
+-- ---- how the reader goes through a number that is not 0
+-- the digits up to `at` are those of n
+pub record Digits (t : List ℕ) (c : Cursor) (at value : ℕ) : Type 0 where
+  pub n : ℕ
+  pub goes : positive (drop (c .at) t) ≡ run n (drop at t)
+  pub is : value ≡ capped n
+  pub filled : 0 < n
+  pub within : at ≤ length t
+  pub onward : c .at ≤ at
+
+pub digits-capped : {t : List ℕ} {c : Cursor} {at v : ℕ} → Digits t c at v → v ≤ 9223372036854775808
+digits-capped d = omega (arith, d .is)
+
+module _ {t : List ℕ} {c : Cursor} where
+  pub positive-stuck : {v : ℕ} → Safe t c → not (c .spelled) ≡ true → PositiveRead t c (record { cursor = c; value = v })
+  positive-stuck h g = record { found = found-stuck positive t c h (not-true (c .spelled) g); keeps = keeps-same h }
+
+  module _ (f : Safe t c) (g : not (c .spelled) ≡ false) where
+    stops : {r : Amount} → positive (drop (c .at) t) ≡ stuck (drop (c .at) t) → Stopped c (c .at) (r .cursor) → PositiveRead t c r
+    stops e s = record { found = found-stop f (not-false (c .spelled) g) e (omega arith) (f .inside) s; keeps = went-keeps f s (omega arith) (f .inside) }
+
+    -- no digit there
+    pub positive-short : {r : Amount} → length t ≤ c .at → Stopped c (c .at) (r .cursor) → PositiveRead t c r
+    positive-short l = stops (rw (drop-of-length-le t l) positive-empty)
+
+    module _ {w : ℕ} (k : c .at < length t) (q : DigitOf (getD t (c .at) 0) w) where
+      pub positive-other : {r : Amount} → 9 < w → Stopped c (c .at) (r .cursor) → PositiveRead t c r
+      positive-other l = stops (rw (drop-one t (c .at) k) (positive-none (getD t (c .at) 0) _ no))
+        where
+          no : 49 ≤ getD t (c .at) 0 → getD t (c .at) 0 ≤ 57 → ⊥
+          no a b = T-not (digit? (getD t (c .at) 0)) (subst (λ b. T (not b)) (sym (q .high l)) tt) (digit-test (getD t (c .at) 0) (omega arith) b)
+
+      pub positive-zero : {r : Amount} → w < 1 → Stopped c (c .at) (r .cursor) → PositiveRead t c r
+      positive-zero z = stops (rw (drop-one t (c .at) k) (positive-none (getD t (c .at) 0) _ λ a b. omega (arith, q .low (omega arith))))
+
+    module _ {at value : ℕ} (d : Digits t c at value) where
+      done : {r : Cursor} → NoDigit (drop at t) → Came c at r → PositiveRead t c (record { cursor = r; value = value })
+      done e s = record { found = found-took f (not-false (c .spelled) g) (d .goes ∙ run-stop (d .n) (drop at t) e) (d .onward) (d .within) s (d .filled, d .is); keeps = went-keeps f s (d .onward) (d .within) }
+
+      -- the text ends, or what comes is no digit
+      pub digits-short : {r : Cursor} → length t ≤ at → Came c at r → PositiveRead t c (record { cursor = r; value = value })
+      digits-short l = done (rw (drop-of-length-le t l) tt)
+
+      pub digits-end : {w : ℕ} {r : Cursor} → at < length t → DigitOf (getD t at 0) w → 9 < w → Came c at r → PositiveRead t c (record { cursor = r; value = value })
+      digits-end k q l = done (rw (drop-one t at k, q .high l) tt)
+
+  -- the first digit, and one more
+  pub digits-start : {w : ℕ} → c .at < length t → DigitOf (getD t (c .at) 0) w → w ≤ 9 → 0 < w → Digits t c (c .at + 1) w
+  digits-start {w} k q l z = record {
+    n = w;
+    goes = rw (drop-one t (c .at) k, q .low l) (positive-first w _ z l);
+    is = omega arith;
+    filled = z;
+    within = omega arith;
+    onward = omega arith;
+  }
+
+  pub digits-more : {at value w v : ℕ} → Digits t c at value → at < length t → DigitOf (getD t at 0) w → w ≤ 9 → v ≡ capped (value * 10 + w) → Digits t c (at + 1) v
+  digits-more {at} {value} {w} {v} d k q l e = record {
+    n = d .n * 10 + w;
+    goes = d .goes ∙ rw (drop-one t at k, q .low l) (run-digit (d .n) w _ (omega arith));
+    is = omega (arith, d .is);
+    filled = omega (arith, d .filled);
+    within = omega arith;
+    onward = omega (arith, d .onward);
+  }
+
+-- ---- 0 alone, or such a number
+module _ {t : List ℕ} {c z : Cursor} (q : Passed (48 ∷ []) t c z) where
+  pub number-zero : z .spelled ≡ true → NumberRead t c (record { cursor = z; value = 0 })
+  number-zero g = record {
+    found = found-same natural (λ h. rw (passed-took q g) (sym (natural-zero (drop (c .at) t) (drop (z .at) t) (passed-took q g)))) (found-entry q {P = λ n. 0 ≡ capped n} 0 refl);
+    keeps = q .keeps;
+  }
+
+  pub number-other : {r : Amount} → z .spelled ≡ false → PositiveRead t c r → NumberRead t c r
+  number-other {r} g y = record {
+    found = found-same natural (λ h. sym (natural-other (drop (c .at) t) _ (passed-stop q g h))) (found-as (y .found) λ n h. h .1);
+    keeps = y .keeps;
+  }

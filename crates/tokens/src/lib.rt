@@ -1,0 +1,574 @@
+// The tokens of a text. What each reader finds is what the parsers of the definitions find, and it stops where they stop.
+ghost use mathlib.Core.Path.{_≡_};
+ghost use mathlib.Core.Bool.{true, false, not};
+ghost use Prim.Native.Nat.{_+_, _-_, _*_, _^_, _<_, _≤_};
+ghost use mathlib.Core.List.{[], _∷_};
+ghost use lib.ListN.{length, drop};
+ghost use Rattle.octets.specs.Lists.{octet?, word?, long?};
+ghost use Rattle.octets.specs.Fields.{two, four};
+ghost use Rattle.octets.specs.Codec.{tried};
+ghost use Rattle.octets.specs.Overlay.{Wrote};
+ghost use Rattle.options.specs.Options.{members};
+ghost use Rattle.edns.specs.Edns.{flags, rcodes};
+ghost use Rattle.strict.specs.Meaning.{ttl?, unsigned};
+ghost use Rattle.tokens.specs.Cursor.{Safe, Passed, Stopped, Came};
+ghost use Rattle.tokens.specs.Step.{Over, Emits, Judged};
+ghost use Rattle.tokens.specs.Number.{capped, NumberRead, PositiveRead, DigitOf};
+ghost use Rattle.tokens.specs.Signed.{Kept, SignedRead, Plus, Minus};
+ghost use Rattle.tokens.specs.Hex.{HexTest, HexAt, Quoted, HexRead};
+ghost use Rattle.tokens.specs.Rows.{RowRead, OrRow};
+ghost use Rattle.tokens.specs.Fields.{Done};
+use octets::put_all;
+
+// Where the reader is in a text. `spelled`: all before `at` is within the grammar; if not, nothing more is read, and `at` is the first octet at which no text
+// goes on. `meant`: a message can have the text so far, limits of size aside. `small`: the message so far is within its limit. `to`: where its next octet goes.
+pub struct Cursor {
+    pub at: usize,
+    pub to: usize,
+    pub spelled: bool,
+    pub meant: bool,
+    pub small: bool,
+}
+
+pub fn came(c: Cursor, at: usize) -> Cursor
+    ensures { λ r. ⌜ Came c at r ⌝ }
+{
+    Cursor {
+        at: at,
+        to: c.to,
+        spelled: true,
+        meant: c.meant,
+        small: c.small,
+    }
+}
+
+pub fn stop(c: Cursor, at: usize) -> Cursor
+    ensures { λ r. ⌜ Stopped c at r ⌝ }
+{
+    Cursor {
+        at: at,
+        to: c.to,
+        spelled: false,
+        meant: c.meant,
+        small: c.small,
+    }
+}
+
+// Takes fixed octets.
+pub fn literal(text: &[u8], c: Cursor, lit: &[u8]) -> Cursor
+    requires { ⌜ Safe (now text) c ⌝ }
+    ensures { λ r. ⌜ Passed (now (lit .entry)) (now (text .entry)) c r ⌝ }
+{
+    let spelled = c.spelled;
+    if !spelled {
+        return c;
+    }
+    let mut at = c.at;
+    let mut i = 0;
+    while i < lit.len() {
+        if at >= text.len() {
+            return stop(c, at);
+        }
+        if text[at] != lit[i] {
+            return stop(c, at);
+        }
+        at += 1;
+        i += 1;
+    }
+    came(c, at)
+}
+
+// The message goes past its limit.
+pub fn over(c: Cursor) -> Cursor
+    ensures { λ r. ⌜ Over c r ⌝ }
+{
+    Cursor {
+        at: c.at,
+        to: c.to,
+        spelled: c.spelled,
+        meant: c.meant,
+        small: false,
+    }
+}
+
+// `meant` only if this holds too.
+pub fn judge(c: Cursor, ok: bool) -> Cursor
+    ensures { λ r. ⌜ Judged ok c r ⌝ }
+{
+    let meant = c.meant;
+    Cursor {
+        at: c.at,
+        to: c.to,
+        spelled: c.spelled,
+        meant: meant && ok,
+        small: c.small,
+    }
+}
+
+// Writes octets of the message, unless they go past its limit.
+pub fn emit(c: Cursor, octets: &[u8], out: &mut [u8]) -> Cursor
+    requires { ⌜ (c .to ≤ 65535) × (length (now octets) ≤ 65535) ⌝ }
+    ensures { λ r. ⌜ Emits (now (octets .entry)) c (now (out .entry)) r (now (out .exit)) ⌝ }
+{
+    let to = c.to;
+    let end = to + octets.len();
+    if end > 65535 {
+        return over(c);
+    }
+    let small = c.small;
+    let _end = put_all(out, to, octets);
+    Cursor {
+        at: c.at,
+        to: end,
+        spelled: c.spelled,
+        meant: c.meant,
+        small: small,
+    }
+}
+
+// A number that was read; one above 2^63 counts as 2^63.
+pub struct Amount {
+    pub cursor: Cursor,
+    pub value: u64,
+}
+
+// No number: the reader stops at `at`.
+fn none(c: Cursor, at: usize) -> Amount
+    ensures { λ r. ⌜ Stopped c at (r .cursor) ⌝ }
+{
+    Amount {
+        cursor: stop(c, at),
+        value: 0,
+    }
+}
+
+// What a digit stands for; 10 if it is none.
+fn digit(x: u8) -> u64
+    ensures { λ r. ⌜ DigitOf x r ⌝ }
+{
+    if x < 48 {
+        return 10;
+    }
+    if x > 57 {
+        return 10;
+    }
+    (x - 48) as u64
+}
+
+// One more digit.
+fn push(value: u64, d: u64) -> u64
+    requires { ⌜ (value ≤ 9223372036854775808) × (d ≤ 9) ⌝ }
+    ensures { λ r. ⌜ r ≡ capped (value * 10 + d) ⌝ }
+{
+    if value > 922337203685477580 {
+        return 9223372036854775808;
+    }
+    let v = value * 10 + d;
+    if v > 9223372036854775808 {
+        return 9223372036854775808;
+    }
+    v
+}
+
+// A number that is not 0: a digit from 1 to 9, and all the digits that come.
+fn positive(text: &[u8], c: Cursor) -> Amount
+    requires { ⌜ Safe (now text) c ⌝ }
+    ensures { λ r. ⌜ PositiveRead (now (text .entry)) c r ⌝ }
+{
+    let spelled = c.spelled;
+    if !spelled {
+        return Amount {
+            cursor: c,
+            value: 0,
+        };
+    }
+    let mut at = c.at;
+    if at >= text.len() {
+        return none(c, at);
+    }
+    let mut value = digit(text[at]);
+    if value > 9 {
+        return none(c, at);
+    }
+    if value < 1 {
+        return none(c, at);
+    }
+    at += 1;
+    loop {
+        if at >= text.len() {
+            return Amount {
+                cursor: came(c, at),
+                value: value,
+            };
+        }
+        let d = digit(text[at]);
+        if d > 9 {
+            return Amount {
+                cursor: came(c, at),
+                value: value,
+            };
+        }
+        value = push(value, d);
+        at += 1;
+    }
+}
+
+// A number: 0 alone, or one that is not 0. A digit behind the 0 is left.
+pub fn number(text: &[u8], c: Cursor) -> Amount
+    requires { ⌜ Safe (now text) c ⌝ }
+    ensures { λ r. ⌜ NumberRead (now (text .entry)) c r ⌝ }
+{
+    let z = literal(text, c, b"0");
+    let zero = z.spelled;
+    if zero {
+        return Amount {
+            cursor: z,
+            value: 0,
+        };
+    }
+    positive(text, c)
+}
+
+// A TTL that was read: whether it is within 32 bits with a sign, and if so its bits.
+pub struct Ttl {
+    pub cursor: Cursor,
+    pub bits: u32,
+    pub fits: bool,
+}
+
+// A number with no minus before it.
+fn plus(a: Amount) -> Ttl
+    ensures { λ r. ⌜ Plus a r ⌝ }
+{
+    let d = a.cursor;
+    let v = a.value;
+    if v > 2147483647 {
+        return Ttl {
+            cursor: d,
+            bits: 0,
+            fits: false,
+        };
+    }
+    Ttl {
+        cursor: d,
+        bits: v as u32,
+        fits: true,
+    }
+}
+
+// A number behind a minus, in two's complement. It is not 0; of 0 nothing is said.
+fn minus(a: Amount) -> Ttl
+    ensures { λ r. ⌜ Minus a r ⌝ }
+{
+    let d = a.cursor;
+    let v = a.value;
+    if v > 2147483648 {
+        return Ttl {
+            cursor: d,
+            bits: 0,
+            fits: false,
+        };
+    }
+    if v == 0 {
+        return Ttl {
+            cursor: d,
+            bits: 0,
+            fits: true,
+        };
+    }
+    Ttl {
+        cursor: d,
+        bits: (4294967296 - v) as u32,
+        fits: true,
+    }
+}
+
+// A number, or a minus and a number that is not 0.
+pub fn signed(text: &[u8], c: Cursor) -> Ttl
+    requires { ⌜ Safe (now text) c ⌝ }
+    ensures { λ r. ⌜ SignedRead (now (text .entry)) c r ⌝ }
+{
+    let m = literal(text, c, b"-");
+    let negative = m.spelled;
+    if negative {
+        return minus(positive(text, m));
+    }
+    plus(number(text, c))
+}
+
+// Hexadecimal digits that were read, two for an octet: they stand from `from` to `end`.
+pub struct Span {
+    pub cursor: Cursor,
+    pub from: usize,
+    pub end: usize,
+}
+
+// Whether an octet is a digit from 0 to 9 or from A to F.
+fn is_hex(x: u8) -> bool
+    ensures { λ r. ⌜ HexTest x r ⌝ }
+{
+    if x < 48 {
+        return false;
+    }
+    if x < 58 {
+        return true;
+    }
+    if x < 65 {
+        return false;
+    }
+    if x < 71 {
+        return true;
+    }
+    false
+}
+
+// Whether such a digit stands at a place.
+fn hex_at(text: &[u8], at: usize) -> bool
+    ensures { λ r. ⌜ HexAt (now (text .entry)) at r ⌝ }
+{
+    if at >= text.len() {
+        return false;
+    }
+    is_hex(text[at])
+}
+
+// The quote at a place.
+fn quote(text: &[u8], c: Cursor, at: usize) -> Cursor
+    requires { ⌜ Safe (now text) c × ((c .at ≤ at) × (at ≤ length (now text))) ⌝ }
+    ensures { λ r. ⌜ Quoted (now (text .entry)) c at r ⌝ }
+{
+    literal(text, came(c, at), b"\"")
+}
+
+// Digits in pairs, and the quote behind them.
+pub fn hex(text: &[u8], c: Cursor) -> Span
+    requires { ⌜ Safe (now text) c ⌝ }
+    ensures { λ r. ⌜ HexRead (now (text .entry)) c r ⌝ }
+{
+    let from = c.at;
+    let spelled = c.spelled;
+    if !spelled {
+        return Span {
+            cursor: c,
+            from: from,
+            end: from,
+        };
+    }
+    let mut at = from;
+    loop {
+        let first = hex_at(text, at);
+        if !first {
+            return Span {
+                cursor: quote(text, c, at),
+                from: from,
+                end: at,
+            };
+        }
+        let second = hex_at(text, at + 1);
+        if !second {
+            return Span {
+                cursor: stop(c, at + 1),
+                from: from,
+                end: at,
+            };
+        }
+        at += 2;
+    }
+}
+
+// A title of a table that was read, and its key.
+pub struct Row {
+    pub cursor: Cursor,
+    pub key: u32,
+}
+
+// No title: the reader stops where it is.
+fn no_row(c: Cursor) -> Row
+    ensures { λ r. ⌜ Stopped c (c .at) (r .cursor) ⌝ }
+{
+    let at = c.at;
+    Row {
+        cursor: stop(c, at),
+        key: 0,
+    }
+}
+
+// This title, or one of those of the rows behind it, which were read from the same place on. Where none stands there, the one that came furthest tells where.
+fn or_row(text: &[u8], c: Cursor, title: &[u8], key: u32, later: Row) -> Row
+    requires { ⌜ Safe (now text) c ⌝ }
+    ensures { λ r. ⌜ OrRow (now (title .entry)) key (now (text .entry)) c later r ⌝ }
+{
+    let d = literal(text, c, title);
+    let taken = d.spelled;
+    if taken {
+        return Row {
+            cursor: d,
+            key: key,
+        };
+    }
+    let e = later.cursor;
+    let other = e.spelled;
+    if other {
+        return later;
+    }
+    let here = d.at;
+    let there = e.at;
+    if here < there {
+        return later;
+    }
+    Row {
+        cursor: d,
+        key: key,
+    }
+}
+
+// FLAGS.
+pub fn flags(text: &[u8], c: Cursor) -> Row
+    requires { ⌜ Safe (now text) c ⌝ }
+    ensures { λ r. ⌜ RowRead (tried flags) (now (text .entry)) c r ⌝ }
+{
+    let r0 = no_row(c);
+    let r1 = or_row(text, c, b"[\"DO\"]", 1, r0);
+    or_row(text, c, b"[]", 0, r1)
+}
+
+// RCODE: the rows from 19 on.
+fn rcode_19(text: &[u8], c: Cursor) -> Row
+    requires { ⌜ Safe (now text) c ⌝ }
+    ensures { λ r. ⌜ RowRead (tried (drop 15 rcodes)) (now (text .entry)) c r ⌝ }
+{
+    let r0 = no_row(c);
+    let r1 = or_row(text, c, b"BADCOOKIE", 23, r0);
+    let r2 = or_row(text, c, b"BADTRUNC", 22, r1);
+    let r3 = or_row(text, c, b"BADALG", 21, r2);
+    let r4 = or_row(text, c, b"BADNAME", 20, r3);
+    or_row(text, c, b"BADMODE", 19, r4)
+}
+
+// RCODE: the rows from 10 on.
+fn rcode_10(text: &[u8], c: Cursor) -> Row
+    requires { ⌜ Safe (now text) c ⌝ }
+    ensures { λ r. ⌜ RowRead (tried (drop 10 rcodes)) (now (text .entry)) c r ⌝ }
+{
+    let r0 = rcode_19(text, c);
+    let r1 = or_row(text, c, b"BADTIME", 18, r0);
+    let r2 = or_row(text, c, b"BADKEY", 17, r1);
+    let r3 = or_row(text, c, b"BADSIG", 16, r2);
+    let r4 = or_row(text, c, b"DSOTYPENI", 11, r3);
+    or_row(text, c, b"NotZone", 10, r4)
+}
+
+// RCODE: the rows from 5 on.
+fn rcode_5(text: &[u8], c: Cursor) -> Row
+    requires { ⌜ Safe (now text) c ⌝ }
+    ensures { λ r. ⌜ RowRead (tried (drop 5 rcodes)) (now (text .entry)) c r ⌝ }
+{
+    let r0 = rcode_10(text, c);
+    let r1 = or_row(text, c, b"NotAuth", 9, r0);
+    let r2 = or_row(text, c, b"NXRRSet", 8, r1);
+    let r3 = or_row(text, c, b"YXRRSet", 7, r2);
+    let r4 = or_row(text, c, b"YXDomain", 6, r3);
+    or_row(text, c, b"Refused", 5, r4)
+}
+
+// RCODE.
+pub fn rcode(text: &[u8], c: Cursor) -> Row
+    requires { ⌜ Safe (now text) c ⌝ }
+    ensures { λ r. ⌜ RowRead (tried rcodes) (now (text .entry)) c r ⌝ }
+{
+    let r0 = rcode_5(text, c);
+    let r1 = or_row(text, c, b"NotImp", 4, r0);
+    let r2 = or_row(text, c, b"NXDomain", 3, r1);
+    let r3 = or_row(text, c, b"ServFail", 2, r2);
+    let r4 = or_row(text, c, b"FormErr", 1, r3);
+    or_row(text, c, b"NoError", 0, r4)
+}
+
+// An option's name: the rows from 10 on.
+fn option_10(text: &[u8], c: Cursor) -> Row
+    requires { ⌜ Safe (now text) c ⌝ }
+    ensures { λ r. ⌜ RowRead (tried (drop 5 members)) (now (text .entry)) c r ⌝ }
+{
+    let r0 = no_row(c);
+    let r1 = or_row(text, c, b"EDE", 15, r0);
+    let r2 = or_row(text, c, b"KEYTAG", 14, r1);
+    let r3 = or_row(text, c, b"PADDING", 12, r2);
+    let r4 = or_row(text, c, b"KEEPALIVE", 11, r3);
+    or_row(text, c, b"COOKIE", 10, r4)
+}
+
+// An option's name.
+pub fn option_name(text: &[u8], c: Cursor) -> Row
+    requires { ⌜ Safe (now text) c ⌝ }
+    ensures { λ r. ⌜ RowRead (tried members) (now (text .entry)) c r ⌝ }
+{
+    let r0 = option_10(text, c);
+    let r1 = or_row(text, c, b"EXPIRE", 9, r0);
+    let r2 = or_row(text, c, b"N3U", 7, r1);
+    let r3 = or_row(text, c, b"DHU", 6, r2);
+    let r4 = or_row(text, c, b"DAU", 5, r3);
+    or_row(text, c, b"NSID", 3, r4)
+}
+
+// A number of one octet.
+pub fn put_octet(c: Cursor, value: u64, out: &mut [u8]) -> Cursor
+    requires { ⌜ c .to ≤ 65535 ⌝ }
+    ensures { λ r. ⌜ Done (λ n. value ≡ capped n) octet? (λ n. n ∷ []) c (now (out .entry)) r (now (out .exit)) ⌝ }
+{
+    if value > 255 {
+        return judge(c, false);
+    }
+    emit(c, &[value as u8], out)
+}
+
+// A number of two octets.
+pub fn put_word(c: Cursor, value: u64, out: &mut [u8]) -> Cursor
+    requires { ⌜ c .to ≤ 65535 ⌝ }
+    ensures { λ r. ⌜ Done (λ n. value ≡ capped n) word? two c (now (out .entry)) r (now (out .exit)) ⌝ }
+{
+    if value > 65535 {
+        return judge(c, false);
+    }
+    emit(c, &[(value / 256 % 256) as u8, (value % 256) as u8], out)
+}
+
+// Four octets.
+fn emit_four(c: Cursor, bits: u32, out: &mut [u8]) -> Cursor
+    requires { ⌜ c .to ≤ 65535 ⌝ }
+    ensures { λ r. ⌜ Emits (four bits) c (now (out .entry)) r (now (out .exit)) ⌝ }
+{
+    let high = bits / 65536;
+    let low = bits % 65536;
+    emit(
+        c,
+        &[
+            (high / 256 % 256) as u8,
+            (high % 256) as u8,
+            (low / 256 % 256) as u8,
+            (low % 256) as u8,
+        ],
+        out,
+    )
+}
+
+// A number of four octets.
+pub fn put_long(c: Cursor, value: u64, out: &mut [u8]) -> Cursor
+    requires { ⌜ c .to ≤ 65535 ⌝ }
+    ensures { λ r. ⌜ Done (λ n. value ≡ capped n) long? four c (now (out .entry)) r (now (out .exit)) ⌝ }
+{
+    if value > 4294967295 {
+        return judge(c, false);
+    }
+    emit_four(c, value as u32, out)
+}
+
+// A TTL.
+pub fn put_ttl(c: Cursor, bits: u32, fits: bool, out: &mut [u8]) -> Cursor
+    requires { ⌜ c .to ≤ 65535 ⌝ }
+    ensures { λ r. ⌜ Done (Kept fits bits) ttl? (λ s. four (unsigned s)) c (now (out .entry)) r (now (out .exit)) ⌝ }
+{
+    if !fits {
+        return judge(c, false);
+    }
+    emit_four(c, bits, out)
+}
