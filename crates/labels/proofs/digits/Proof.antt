@@ -1,0 +1,33 @@
+use Rattle.labels.specs.Octet.{first-low, first-high, first-on}
+use Rattle.labels.specs.Place.{inside}
+use native.Mathlib.Omega.{arith}
+use borrow.Author.Needs.{needs}
+use Rattle.labels.proofs.digits.Statement.{statement}
+use Rattle.labels.proofs.digits.Tie as tie
+use Rattle.labels.proofs.digits.Reads as reads
+use Rattle.labels.proofs.digits.Lts as lts
+use Rattle.labels.proofs.byte.Reads as byte-reads
+use Rattle.labels.proofs.second_digit.Reads as second-digit-reads
+
+byte-requires : tie.Need-byte-requires
+byte-requires c κs = search needs
+
+returns : tie.Need-returns
+returns c = search (first-low, needs)
+
+returns-2 : tie.Need-returns-2
+returns-2 c = search (first-high, needs)
+
+add-second-digit : tie.Need-add-second-digit
+add-second-digit c = search needs
+
+second-digit-requires : tie.Need-second-digit-requires
+second-digit-requires c κs = (omega (arith, inside (c .before .before .byte .ensures) (omega arith)), omega arith)
+
+returns-3 : tie.Need-returns-3
+returns-3 c = search (first-on, needs)
+
+pub digits-spec : {M : Type 1} → statement M
+digits-spec =
+    tie.close
+    (tie.spec byte-requires returns returns-2 add-second-digit second-digit-requires returns-3)

@@ -1,0 +1,57 @@
+use Rattle.labels.specs.Octet.{escape-dot, escape-short, escape-backslash, escape-digits}
+use borrow.Author.Needs.{needs}
+use Rattle.labels.proofs.escaped.Statement.{statement}
+use Rattle.labels.proofs.escaped.Tie as tie
+use Rattle.labels.proofs.escaped.Reads as reads
+use Rattle.labels.proofs.escaped.Lts as lts
+use Rattle.labels.proofs.byte.Reads as byte-reads
+use Rattle.labels.proofs.digits.Reads as digits-reads
+
+byte-requires : tie.Need-byte-requires
+byte-requires c κs = search needs
+
+add-t6 : tie.Need-add-t6
+add-t6 c = search needs
+
+returns : tie.Need-returns
+returns c = search (escape-dot, needs)
+
+add-byte : tie.Need-add-byte
+add-byte c = search needs
+
+byte-requires-2 : tie.Need-byte-requires-2
+byte-requires-2 c κs = search needs
+
+add-t9 : tie.Need-add-t9
+add-t9 c = search needs
+
+returns-2 : tie.Need-returns-2
+returns-2 c = search (escape-short, needs)
+
+add-t7 : tie.Need-add-t7
+add-t7 c = search needs
+
+returns-3 : tie.Need-returns-3
+returns-3 c = search (escape-backslash, needs)
+
+digits-requires : tie.Need-digits-requires
+digits-requires c κs = search needs
+
+returns-4 : tie.Need-returns-4
+returns-4 c = search (escape-digits, needs)
+
+pub escaped-spec : {M : Type 1} → statement M
+escaped-spec =
+    tie.close
+    (tie.spec
+    byte-requires
+    add-t6
+    returns
+    add-byte
+    byte-requires-2
+    add-t9
+    returns-2
+    add-t7
+    returns-3
+    digits-requires
+    returns-4)

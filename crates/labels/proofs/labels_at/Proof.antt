@@ -1,0 +1,94 @@
+use Rattle.labels.specs.Name.{Labels, labels-start, labels-none, labels-end, labels-bad, labels-far, labels-more}
+use native.Mathlib.Omega.{arith}
+use Prim.Native.Nat.{_-_}
+use lib.ListN.{length}
+use borrow.Author.Needs.{needs}
+use Rattle.labels.proofs.labels_at.Statement.{statement}
+use Rattle.labels.proofs.labels_at.Tie as tie
+use Rattle.labels.proofs.labels_at.Reads as reads
+use Rattle.labels.proofs.labels_at.Lts as lts
+use Rattle.labels.proofs.byte.Reads as byte-reads
+use Rattle.labels.proofs.grow.Reads as grow-reads
+use Rattle.labels.proofs.label_at.Reads as label-at-reads
+use Rattle.octets.proofs.put.Reads as put-reads
+
+abbrev Inv-loop : tie.InvT-loop
+Inv-loop text start out₀ to x at₀ size₀ out at size = Labels text start out₀ to at size out
+
+abbrev μ-loop : tie.MeasureT-loop
+μ-loop text start out₀ to x at₀ size₀ out at size = length text - at
+
+byte-requires : tie.Need-byte-requires Inv-loop μ-loop
+byte-requires c κs = search needs
+
+returns : tie.Need-returns Inv-loop μ-loop
+returns c = search (labels-none, needs)
+
+loop-holds : tie.Need-loop-holds Inv-loop μ-loop
+loop-holds c = search (labels-start, needs)
+
+byte-requires-2 : tie.Need-byte-requires-2 Inv-loop μ-loop
+byte-requires-2 c κs = search needs
+
+add-put : tie.Need-add-put Inv-loop μ-loop
+add-put c = search needs
+
+put-requires : tie.Need-put-requires Inv-loop μ-loop
+put-requires c κs = search needs
+
+add-t18 : tie.Need-add-t18 Inv-loop μ-loop
+add-t18 c = search needs
+
+add-t19 : tie.Need-add-t19 Inv-loop μ-loop
+add-t19 c = search needs
+
+same-length : tie.Need-same-length Inv-loop μ-loop
+same-length c = search needs
+
+returns-2 : tie.Need-returns-2 Inv-loop μ-loop
+returns-2 c = search (labels-end, needs)
+
+add-label-at : tie.Need-add-label-at Inv-loop μ-loop
+add-label-at c = search needs
+
+label-at-requires : tie.Need-label-at-requires Inv-loop μ-loop
+label-at-requires c κs = search needs
+
+same-length-2 : tie.Need-same-length-2 Inv-loop μ-loop
+same-length-2 c = search needs
+
+returns-3 : tie.Need-returns-3 Inv-loop μ-loop
+returns-3 c = search (labels-bad, needs)
+
+grow-requires : tie.Need-grow-requires Inv-loop μ-loop
+grow-requires c κs = search needs
+
+loop-less : tie.Need-loop-less Inv-loop μ-loop
+loop-less c = omega (arith, labels-far (c .before .before .before .before .before .before .before .before .loop .inv) (c .before .before .before .before .before .before .before .byte2 .ensures) (c .before .before .before .before .before .before .if2 .left) (c .before .before .before .before .label-at .ensures) (c .before .if3 .left))
+
+loop-again : tie.Need-loop-again Inv-loop μ-loop
+loop-again c = search (labels-more, needs)
+
+pub labels-at-spec : {M : Type 1} → statement M
+labels-at-spec =
+    tie.close
+    (tie.spec
+    Inv-loop
+    μ-loop
+    byte-requires
+    returns
+    loop-holds
+    byte-requires-2
+    add-put
+    put-requires
+    add-t18
+    add-t19
+    same-length
+    returns-2
+    add-label-at
+    label-at-requires
+    same-length-2
+    returns-3
+    grow-requires
+    loop-less
+    loop-again)

@@ -1,0 +1,64 @@
+use Rattle.labels.specs.Octet.{letter-plain, letter-other, letter-single, letter-escape}
+use Rattle.labels.specs.Place.{inside}
+use native.Mathlib.Omega.{arith}
+use borrow.Author.Needs.{needs}
+use Rattle.labels.proofs.octet.Statement.{statement}
+use Rattle.labels.proofs.octet.Tie as tie
+use Rattle.labels.proofs.octet.Reads as reads
+use Rattle.labels.proofs.octet.Lts as lts
+use Rattle.labels.proofs.byte.Reads as byte-reads
+use Rattle.labels.proofs.escaped.Reads as escaped-reads
+use Rattle.labels.proofs.is_plain.Reads as is-plain-reads
+
+byte-requires : tie.Need-byte-requires
+byte-requires c κs = search needs
+
+is-plain-requires : tie.Need-is-plain-requires
+is-plain-requires c κs = search needs
+
+add-t7 : tie.Need-add-t7
+add-t7 c = search needs
+
+returns : tie.Need-returns
+returns c = search (letter-plain, needs)
+
+returns-2 : tie.Need-returns-2
+returns-2 c = search (letter-other, needs)
+
+add-byte : tie.Need-add-byte
+add-byte c = search needs
+
+byte-requires-2 : tie.Need-byte-requires-2
+byte-requires-2 c κs = search needs
+
+add-t9 : tie.Need-add-t9
+add-t9 c = search needs
+
+returns-3 : tie.Need-returns-3
+returns-3 c = search (letter-single, needs)
+
+add-escaped : tie.Need-add-escaped
+add-escaped c = search needs
+
+escaped-requires : tie.Need-escaped-requires
+escaped-requires c κs = omega (arith, inside (c .before .byte2 .ensures) (omega arith))
+
+returns-4 : tie.Need-returns-4
+returns-4 c = search (letter-escape, needs)
+
+pub octet-spec : {M : Type 1} → statement M
+octet-spec =
+    tie.close
+    (tie.spec
+    byte-requires
+    is-plain-requires
+    add-t7
+    returns
+    returns-2
+    add-byte
+    byte-requires-2
+    add-t9
+    returns-3
+    add-escaped
+    escaped-requires
+    returns-4)

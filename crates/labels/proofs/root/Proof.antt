@@ -1,0 +1,42 @@
+use mathlib.Core.Path.{refl}
+use Rattle.labels.specs.Name.{root-bad, root-is}
+use borrow.Author.Needs.{needs}
+use Rattle.labels.proofs.root.Statement.{statement}
+use Rattle.labels.proofs.root.Tie as tie
+use Rattle.labels.proofs.root.Reads as reads
+use Rattle.labels.proofs.root.Lts as lts
+use Rattle.tokens.proofs.emit.Reads as emit-reads
+use Rattle.tokens.proofs.literal.Reads as literal-reads
+
+slice-aggregate-literal : tie.Need-slice-aggregate-literal
+slice-aggregate-literal c = search needs
+
+literal-requires : tie.Need-literal-requires
+literal-requires c κs = search needs
+
+returns : tie.Need-returns
+returns c = root-bad (c .before .before .before .before .before .pre .0) (c .before .before .before .before .before .pre .1 .0) (c .before .before .before .before .before .pre .1 .1) refl (c .before .literal .ensures) (c .if1 .taken)
+
+slice-aggregate-emit : tie.Need-slice-aggregate-emit
+slice-aggregate-emit c = search needs
+
+emit-requires : tie.Need-emit-requires
+emit-requires c κs = search needs
+
+same-length : tie.Need-same-length
+same-length c = search needs
+
+returns-2 : tie.Need-returns-2
+returns-2 c = root-is (c .before .before .before .before .before .before .before .before .before .before .pre .0) (c .before .before .before .before .before .before .before .before .before .before .pre .1 .0) (c .before .before .before .before .before .before .before .before .before .before .pre .1 .1) refl (c .before .before .before .before .before .before .literal .ensures) (c .before .before .before .before .before .if1 .left) (c .before .before .emit .ensures)
+
+pub root-spec : {M : Type 1} → statement M
+root-spec =
+    tie.close
+    (tie.spec
+    slice-aggregate-literal
+    literal-requires
+    returns
+    slice-aggregate-emit
+    emit-requires
+    same-length
+    returns-2)

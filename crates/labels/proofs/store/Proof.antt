@@ -1,0 +1,25 @@
+use Rattle.labels.specs.Label.{stored-not, stored}
+use borrow.Author.Needs.{needs}
+use Rattle.labels.proofs.store.Statement.{statement}
+use Rattle.labels.proofs.store.Tie as tie
+use Rattle.labels.proofs.store.Reads as reads
+use Rattle.labels.proofs.store.Lts as lts
+use Rattle.octets.proofs.put.Reads as put-reads
+
+returns : tie.Need-returns
+returns c = search (stored-not, needs)
+
+add-put : tie.Need-add-put
+add-put c = search needs
+
+put-requires : tie.Need-put-requires
+put-requires c κs = search needs
+
+same-length : tie.Need-same-length
+same-length c = search needs
+
+returns-2 : tie.Need-returns-2
+returns-2 c = search (stored, needs)
+
+pub store-spec : {M : Type 1} → statement M
+store-spec = tie.close (tie.spec returns add-put put-requires same-length returns-2)

@@ -1,0 +1,67 @@
+use Rattle.labels.specs.Octet.{third-low, third-high, third-no, third-is, coded-small}
+use native.Mathlib.Omega.{arith}
+use borrow.Author.Needs.{needs}
+use Rattle.labels.proofs.third_digit.Statement.{statement}
+use Rattle.labels.proofs.third_digit.Tie as tie
+use Rattle.labels.proofs.third_digit.Reads as reads
+use Rattle.labels.proofs.third_digit.Lts as lts
+use Rattle.labels.proofs.byte.Reads as byte-reads
+use Rattle.labels.proofs.is_coded.Reads as is-coded-reads
+use Rattle.octets.proofs.wide.Reads as wide-reads
+
+byte-requires : tie.Need-byte-requires
+byte-requires c κs = search needs
+
+returns : tie.Need-returns
+returns c = search (third-low, needs)
+
+returns-2 : tie.Need-returns-2
+returns-2 c = search (third-high, needs)
+
+wide-requires : tie.Need-wide-requires
+wide-requires c κs = search needs
+
+mul-v : tie.Need-mul-v
+mul-v c = search needs
+
+wide-requires-2 : tie.Need-wide-requires-2
+wide-requires-2 c κs = search needs
+
+sub-v : tie.Need-sub-v
+sub-v c = search needs
+
+add-v : tie.Need-add-v
+add-v c = search needs
+
+is-coded-requires : tie.Need-is-coded-requires
+is-coded-requires c κs = search needs
+
+returns-3 : tie.Need-returns-3
+returns-3 c = third-no (c .before .before .before .before .before .before .byte .ensures) _ (c .before .before .before .before .before .if1 .left) (c .before .before .before .before .if2 .left) (omega arith) (c .before .is-coded .ensures) (c .if3 .taken) (search needs)
+
+add-t11 : tie.Need-add-t11
+add-t11 c = search needs
+
+cast-t12 : tie.Need-cast-t12
+cast-t12 c = search (coded-small, needs)
+
+returns-4 : tie.Need-returns-4
+returns-4 c = third-is (c .before .before .before .before .before .before .byte .ensures) _ (c .before .before .before .before .before .if1 .left) (c .before .before .before .before .if2 .left) (omega arith) (c .before .is-coded .ensures) (c .if3 .left)
+
+pub third-digit-spec : {M : Type 1} → statement M
+third-digit-spec =
+    tie.close
+    (tie.spec
+    byte-requires
+    returns
+    returns-2
+    wide-requires
+    mul-v
+    wide-requires-2
+    sub-v
+    add-v
+    is-coded-requires
+    returns-3
+    add-t11
+    cast-t12
+    returns-4)

@@ -1,0 +1,64 @@
+-- What a reader tells of a place in a text. Assumes nothing.
+use mathlib.Core.Path.{_≡_, refl, sym, _∙_}
+use mathlib.Core.Logic.{⊎-elim}
+use mathlib.Core.Bool.{Bool, true, false}
+use mathlib.Core.List.{List, _∷_}
+use Prim.Native.Nat.{ℕ, _+_, _≤_, _<_}
+use native.Mathlib.Omega.{arith}
+use borrow.Author.Tests.{ne-eqb}
+use lib.ListN.{length, drop, getD, drop-of-length-le, List·getD-eq-default}
+use Rattle.octets.specs.Parsed.{Parsed, took, stuck, strip}
+use Rattle.tokens.specs.Cursor.{drop-one, Got, clash}
+use Rattle.tokens.specs.Many.{le-or-lt}
+
+-- the octet at a place, 0 past the end
+pub record Byte (t : List ℕ) (i x : ℕ) : Type 0 where
+  pub is : x ≡ getD t i 0
+
+pub byte-past : (t : List ℕ) (i : ℕ) → length t ≤ i → Byte t i 0
+byte-past t i h = record { is = sym (List·getD-eq-default t 0 h) }
+
+-- an octet other than 0 is in the text
+pub inside : {t : List ℕ} {at x : ℕ} → Byte t at x → 0 < x → at < length t
+inside {t} {at} e h = ⊎-elim (λ p. absurd (omega (arith, e .is, byte-past t at p .is))) (λ q. q) (le-or-lt (length t) at)
+
+pub byte-as : {t : List ℕ} {at x y : ℕ} → Byte t at x → x ≡ y → Byte t at y
+byte-as e d = record { is = sym d ∙ e .is }
+
+-- two octets at one place
+pub one-byte : {t : List ℕ} {at x y : ℕ} → Byte t at x → Byte t at y → x ≡ y
+one-byte e f = e .is ∙ sym (f .is)
+
+-- the text from it on
+pub from-byte : {t : List ℕ} {at x : ℕ} → Byte t at x → at < length t → drop at t ≡ x ∷ drop (at + 1) t
+from-byte {t} {at} e h = rw (e .is) (drop-one t at h)
+
+-- fixed octets do not begin at another octet, nor at the end
+pub no-strip : {t : List ℕ} {at x : ℕ} (y : ℕ) (l : List ℕ) → Byte t at x → (x ≡ y → ⊥) → strip (y ∷ l) (drop at t) ≡ stuck (drop at t)
+no-strip {t} {at} {x} y l e d = ⊎-elim end other (le-or-lt (length t) at)
+  where
+    end : length t ≤ at → strip (y ∷ l) (drop at t) ≡ stuck (drop at t)
+    end p = rw (drop-of-length-le t p)
+
+    other : at < length t → strip (y ∷ l) (drop at t) ≡ stuck (drop at t)
+    other q = rw (from-byte e q, ne-eqb y x (λ k. d (sym k)))
+
+-- a value was found and `n` is the place behind it, or nothing goes on at `n`
+pub data Tells {A : Type 0} (t : List ℕ) (P : A → Type 0) (found : Bool) (n : ℕ) : Parsed A → Type 0 where
+  missing : found ≡ false → Tells t P found n (stuck (drop n t))
+  there : {a : A} → found ≡ true → P a → Tells t P found n (took a (drop n t))
+
+module _ {A : Type 0} {t : List ℕ} {P : A → Type 0} {found : Bool} {n : ℕ} where
+  pub tells-missing : {o : Parsed A} → o ≡ stuck (drop n t) → found ≡ false → Tells t P found n o
+  tells-missing e g = rw e (missing g)
+
+  pub tells-there : {o : Parsed A} {a : A} → o ≡ took a (drop n t) → found ≡ true → P a → Tells t P found n o
+  tells-there e g v = rw e (there g v)
+
+  pub tells-bad : {o : Parsed A} → Tells t P found n o → found ≡ false → o ≡ stuck (drop n t)
+  tells-bad (missing g) e = refl
+  tells-bad (there g v) e = clash e g
+
+  pub tells-got : {o : Parsed A} → Tells t P found n o → found ≡ true → Got o P (drop n t)
+  tells-got (missing g) e = clash g e
+  tells-got (there {a} g v) e = record { value = a; is = refl; holds = v }
