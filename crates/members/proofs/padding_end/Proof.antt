@@ -1,0 +1,55 @@
+-- `members::padding_end` meets its contract: the brace, HEX, and where neither goes on.
+-- Assumes nothing.
+use borrow.Author.Needs.{needs}
+use Rattle.members.specs.Values.{padding-zeros, padding-some, padding-stop}
+use Rattle.members.proofs.padding_end.Statement.{statement}
+use Rattle.members.proofs.padding_end.Tie as tie
+
+slice-aggregate-literal : tie.Need-slice-aggregate-literal
+slice-aggregate-literal c = search needs
+
+literal-requires : tie.Need-literal-requires
+literal-requires c κs = search needs
+
+zeros-requires : tie.Need-zeros-requires
+zeros-requires c κs = search needs
+
+same-length : tie.Need-same-length
+same-length c = search needs
+
+returns : tie.Need-returns
+returns c = padding-zeros (c .before .before .before .before .before .literal .ensures) (c .before .before .before .before .if1 .taken) (c .before .before .zeros .ensures)
+
+padding-hex-requires : tie.Need-padding-hex-requires
+padding-hex-requires c κs = search needs
+
+same-length-2 : tie.Need-same-length-2
+same-length-2 c = search needs
+
+returns-2 : tie.Need-returns-2
+returns-2 c = padding-some (c .before .before .before .before .before .before .literal .ensures) (c .before .before .before .before .before .if1 .left) (c .before .before .before .padding-hex .ensures) (c .if2 .taken)
+
+further-requires : tie.Need-further-requires
+further-requires c κs = search needs
+
+same-length-3 : tie.Need-same-length-3
+same-length-3 c = search needs
+
+returns-3 : tie.Need-returns-3
+returns-3 c = padding-stop (c .before .before .before .before .before .before .before .literal .ensures) (c .before .before .before .before .before .before .if1 .left) (c .before .before .before .before .padding-hex .ensures) (c .before .if2 .left) (c .further .ensures) (search needs)
+
+pub padding-end-spec : {M : Type 1} → statement M
+padding-end-spec =
+    tie.close
+    (tie.spec
+    slice-aggregate-literal
+    literal-requires
+    zeros-requires
+    same-length
+    returns
+    padding-hex-requires
+    same-length-2
+    returns-2
+    further-requires
+    same-length-3
+    returns-3)
