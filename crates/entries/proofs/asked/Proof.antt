@@ -1,0 +1,19 @@
+use borrow.Author.Needs.{needs}
+use Rattle.entries.specs.Sections.{asked-read}
+use Rattle.entries.proofs.asked.Statement.{statement}
+use Rattle.entries.proofs.asked.Tie as tie
+use Rattle.entries.proofs.asked.Reads as reads
+use Rattle.entries.proofs.asked.Lts as lts
+use Rattle.entries.proofs.question.Reads as question-reads
+
+question-requires : tie.Need-question-requires
+question-requires c κs = search needs
+
+same-length : tie.Need-same-length
+same-length c = search needs
+
+returns : tie.Need-returns
+returns c = search (asked-read, needs)
+
+pub asked-spec : {M : Type 1} → statement M
+asked-spec = tie.close (tie.spec question-requires same-length returns)

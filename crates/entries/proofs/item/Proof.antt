@@ -1,0 +1,62 @@
+use borrow.Author.Needs.{needs}
+use Rattle.entries.specs.Items.{item-edns, item-record}
+use Rattle.entries.proofs.item.Statement.{statement}
+use Rattle.entries.proofs.item.Tie as tie
+use Rattle.entries.proofs.item.Reads as reads
+use Rattle.entries.proofs.item.Lts as lts
+use Rattle.entries.proofs.further.Reads as further-reads
+use Rattle.entries.proofs.record.Reads as record-reads
+use Rattle.tokens.proofs.literal.Reads as literal-reads
+
+slice-aggregate-literal : tie.Need-slice-aggregate-literal
+slice-aggregate-literal c = search needs
+
+literal-requires : tie.Need-literal-requires
+literal-requires c κs = search needs
+
+slice-aggregate-literal-2 : tie.Need-slice-aggregate-literal-2
+slice-aggregate-literal-2 c = search needs
+
+literal-requires-2 : tie.Need-literal-requires-2
+literal-requires-2 c κs = search needs
+
+edns-requires : tie.Need-edns-requires
+edns-requires c κs = search needs
+
+further-requires : tie.Need-further-requires
+further-requires c κs = search needs
+
+same-length : tie.Need-same-length
+same-length c = search needs
+
+returns : tie.Need-returns
+returns c = item-edns (c .before .before .before .before .before .before .before .before .literal .ensures) (c .before .before .before .before .before .before .literal2 .ensures) _ (c .before .before .before .before .before .if1 .taken) (c .before .before .before .edns .ensures) (c .further .ensures)
+
+record-requires : tie.Need-record-requires
+record-requires c κs = search needs
+
+further-requires-2 : tie.Need-further-requires-2
+further-requires-2 c κs = search needs
+
+same-length-2 : tie.Need-same-length-2
+same-length-2 c = search needs
+
+returns-2 : tie.Need-returns-2
+returns-2 c = item-record (c .before .before .before .before .before .before .before .before .literal .ensures) (c .before .before .before .before .before .before .literal2 .ensures) _ (c .before .before .before .before .before .if1 .left) (c .before .before .before .«record» .ensures) (c .further2 .ensures)
+
+pub item-spec : {M : Type 1} → statement M
+item-spec =
+    tie.close
+    (tie.spec
+    slice-aggregate-literal
+    literal-requires
+    slice-aggregate-literal-2
+    literal-requires-2
+    edns-requires
+    further-requires
+    same-length
+    returns
+    record-requires
+    further-requires-2
+    same-length-2
+    returns-2)

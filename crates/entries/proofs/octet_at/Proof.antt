@@ -1,0 +1,18 @@
+use borrow.Author.Needs.{needs}
+use Rattle.entries.specs.Sections.{octet-past}
+use Rattle.entries.proofs.octet_at.Statement.{statement}
+use Rattle.entries.proofs.octet_at.Tie as tie
+use Rattle.entries.proofs.octet_at.Reads as reads
+use Rattle.entries.proofs.octet_at.Lts as lts
+
+shared-slice-read-result : tie.Need-shared-slice-read-result
+shared-slice-read-result c = search needs
+
+returns : tie.Need-returns
+returns c = search needs
+
+returns-2 : tie.Need-returns-2
+returns-2 c = search (octet-past, needs)
+
+pub octet-at-spec : {M : Type 1} → statement M
+octet-at-spec = tie.close (tie.spec shared-slice-read-result returns returns-2)

@@ -1,0 +1,93 @@
+use Prim.Native.Nat.{_-_}
+use lib.ListN.{length}
+use mathlib.Core.Path.{_∙_}
+use borrow.Author.Needs.{needs}
+use Rattle.entries.specs.Sections.{Gathered, gathered-start, gathered-more, gathered-less, others-stopped, others-end, others-no}
+use Rattle.entries.proofs.others.Statement.{statement}
+use Rattle.entries.proofs.others.Tie as tie
+use Rattle.entries.proofs.others.Reads as reads
+use Rattle.entries.proofs.others.Lts as lts
+use Rattle.entries.proofs.either.Reads as either-reads
+use Rattle.entries.proofs.next.Reads as next-reads
+use Rattle.entries.proofs.octet_at.Reads as octet-at-reads
+use Rattle.entries.proofs.tally.Reads as tally-reads
+use Rattle.tokens.proofs.came.Reads as came-reads
+
+abbrev Inv-loop : tie.InvT-loop
+Inv-loop text opt seen unseen element rcode out₀ d₀ count₀ opts₀ shown₀ hidden₀ spelled out d count opts shown hidden =
+    Gathered element rcode d₀ opts₀ shown₀ hidden₀ text out₀ d count opts shown hidden out
+
+abbrev μ-loop : tie.MeasureT-loop
+μ-loop text opt seen unseen element rcode out₀ d₀ count₀ opts₀ shown₀ hidden₀ spelled out d count opts shown hidden =
+    length text - d .at
+
+returns : tie.Need-returns Inv-loop μ-loop
+returns c = search (others-stopped, needs)
+
+loop-holds : tie.Need-loop-holds Inv-loop μ-loop
+loop-holds c = search (gathered-start, needs)
+
+octet-at-requires : tie.Need-octet-at-requires Inv-loop μ-loop
+octet-at-requires c κs = search needs
+
+add-came : tie.Need-add-came Inv-loop μ-loop
+add-came c = search needs
+
+came-requires : tie.Need-came-requires Inv-loop μ-loop
+came-requires c κs = search needs
+
+same-length : tie.Need-same-length Inv-loop μ-loop
+same-length c = c .before .before .before .loop .inv .long
+
+returns-2 : tie.Need-returns-2 Inv-loop μ-loop
+returns-2 c = others-end _ (c .before .before .before .loop .inv) (c .before .before .octet-at .ensures) (c .before .if2 .taken) (c .came .ensures)
+
+next-requires : tie.Need-next-requires Inv-loop μ-loop
+next-requires c κs = search needs
+
+tally-requires : tie.Need-tally-requires Inv-loop μ-loop
+tally-requires c κs = search needs
+
+tally-requires-2 : tie.Need-tally-requires-2 Inv-loop μ-loop
+tally-requires-2 c κs = search needs
+
+either-requires : tie.Need-either-requires Inv-loop μ-loop
+either-requires c κs = search needs
+
+either-requires-2 : tie.Need-either-requires-2 Inv-loop μ-loop
+either-requires-2 c κs = search needs
+
+same-length-2 : tie.Need-same-length-2 Inv-loop μ-loop
+same-length-2 c = c .before .before .before .before .before .before .before .out .given ∙ c .before .before .before .before .before .before .before .before .before .before .before .before .loop .inv .long
+
+returns-3 : tie.Need-returns-3 Inv-loop μ-loop
+returns-3 c = others-no _ (c .before .before .before .before .before .before .before .before .before .before .before .before .loop .inv) (c .before .before .before .before .before .before .before .before .next .ensures) (c .before .before .before .before .before .before .before .before .before .before .before .octet-at .ensures) (c .before .before .before .before .before .before .before .before .before .before .if2 .left) (c .before .before .before .before .tally .ensures) (c .before .before .before .tally2 .ensures) (c .before .before .either .ensures) (c .before .either2 .ensures) (c .before .before .before .before .before .before .before .out .given) (c .if3 .taken)
+
+loop-less : tie.Need-loop-less Inv-loop μ-loop
+loop-less c = gathered-less _ (c .before .before .before .before .before .before .before .before .before .before .before .before .loop .inv) (c .before .before .before .before .before .before .before .before .next .ensures) (c .before .before .before .before .before .before .before .before .before .before .before .octet-at .ensures) (c .before .before .before .before .before .before .before .before .before .before .if2 .left) (c .before .before .before .before .tally .ensures) (c .before .before .before .tally2 .ensures) (c .before .before .either .ensures) (c .before .either2 .ensures) (c .before .before .before .before .before .before .before .out .given) (c .if3 .left)
+
+loop-again : tie.Need-loop-again Inv-loop μ-loop
+loop-again c = gathered-more _ (c .before .before .before .before .before .before .before .before .before .before .before .before .loop .inv) (c .before .before .before .before .before .before .before .before .next .ensures) (c .before .before .before .before .before .before .before .before .before .before .before .octet-at .ensures) (c .before .before .before .before .before .before .before .before .before .before .if2 .left) (c .before .before .before .before .tally .ensures) (c .before .before .before .tally2 .ensures) (c .before .before .either .ensures) (c .before .either2 .ensures) (c .before .before .before .before .before .before .before .out .given) (c .if3 .left)
+
+pub others-spec : {M : Type 1} → statement M
+others-spec =
+    tie.close
+    (tie.spec
+    Inv-loop
+    μ-loop
+    returns
+    loop-holds
+    octet-at-requires
+    add-came
+    came-requires
+    same-length
+    returns-2
+    next-requires
+    tally-requires
+    tally-requires-2
+    either-requires
+    either-requires-2
+    same-length-2
+    returns-3
+    loop-less
+    loop-again)

@@ -1,0 +1,28 @@
+use borrow.Author.Needs.{needs}
+use Rattle.entries.specs.Sections.{section-read}
+use Rattle.entries.proofs.read_section.Statement.{statement}
+use Rattle.entries.proofs.read_section.Tie as tie
+use Rattle.entries.proofs.read_section.Reads as reads
+use Rattle.entries.proofs.read_section.Lts as lts
+use Rattle.entries.proofs.inside.Reads as inside-reads
+use Rattle.tokens.proofs.literal.Reads as literal-reads
+
+slice-aggregate-literal : tie.Need-slice-aggregate-literal
+slice-aggregate-literal c = search needs
+
+literal-requires : tie.Need-literal-requires
+literal-requires c κs = search needs
+
+inside-requires : tie.Need-inside-requires
+inside-requires c κs = search needs
+
+same-length : tie.Need-same-length
+same-length c = search needs
+
+returns : tie.Need-returns
+returns c = search (section-read, needs)
+
+pub read-section-spec : {M : Type 1} → statement M
+read-section-spec =
+    tie.close
+    (tie.spec slice-aggregate-literal literal-requires inside-requires same-length returns)

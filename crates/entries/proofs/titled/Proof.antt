@@ -1,0 +1,28 @@
+use borrow.Author.Needs.{needs}
+use Rattle.entries.specs.Sections.{titled-read}
+use Rattle.entries.proofs.titled.Statement.{statement}
+use Rattle.entries.proofs.titled.Tie as tie
+use Rattle.entries.proofs.titled.Reads as reads
+use Rattle.entries.proofs.titled.Lts as lts
+use Rattle.entries.proofs.record.Reads as record-reads
+use Rattle.tokens.proofs.literal.Reads as literal-reads
+
+slice-aggregate-literal : tie.Need-slice-aggregate-literal
+slice-aggregate-literal c = search needs
+
+literal-requires : tie.Need-literal-requires
+literal-requires c κs = search needs
+
+record-requires : tie.Need-record-requires
+record-requires c κs = search needs
+
+same-length : tie.Need-same-length
+same-length c = search needs
+
+returns : tie.Need-returns
+returns c = search (titled-read, needs)
+
+pub titled-spec : {M : Type 1} → statement M
+titled-spec =
+    tie.close
+    (tie.spec slice-aggregate-literal literal-requires record-requires same-length returns)

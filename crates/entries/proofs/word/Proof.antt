@@ -1,0 +1,23 @@
+use borrow.Author.Needs.{needs}
+use Rattle.entries.specs.Reading.{word-read}
+use Rattle.entries.proofs.word.Statement.{statement}
+use Rattle.entries.proofs.word.Tie as tie
+use Rattle.entries.proofs.word.Reads as reads
+use Rattle.entries.proofs.word.Lts as lts
+use Rattle.tokens.proofs.number.Reads as number-reads
+use Rattle.tokens.proofs.put_word.Reads as put-word-reads
+
+number-requires : tie.Need-number-requires
+number-requires c κs = search needs
+
+put-word-requires : tie.Need-put-word-requires
+put-word-requires c κs = search needs
+
+same-length : tie.Need-same-length
+same-length c = search needs
+
+returns : tie.Need-returns
+returns c = search (word-read, needs)
+
+pub word-spec : {M : Type 1} → statement M
+word-spec = tie.close (tie.spec number-requires put-word-requires same-length returns)
