@@ -1,0 +1,23 @@
+use borrow.Author.Needs.{needs}
+use Rattle.reader.specs.Whole.{array-read}
+use Rattle.reader.proofs.array.Statement.{statement}
+use Rattle.reader.proofs.array.Tie as tie
+use Rattle.reader.proofs.array.Reads as reads
+use Rattle.reader.proofs.array.Lts as lts
+use Rattle.entries.proofs.read_section.Reads as read-section-reads
+use Rattle.tokens.proofs.literal.Reads as literal-reads
+
+literal-requires : tie.Need-literal-requires
+literal-requires c κs = search needs
+
+read-section-requires : tie.Need-read-section-requires
+read-section-requires c κs = search needs
+
+same-length : tie.Need-same-length
+same-length c = search needs
+
+returns : tie.Need-returns
+returns c = search (array-read, needs)
+
+pub array-spec : {M : Type 1} → statement M
+array-spec = tie.close (tie.spec literal-requires read-section-requires same-length returns)

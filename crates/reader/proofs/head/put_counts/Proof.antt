@@ -1,0 +1,36 @@
+use borrow.Author.Needs.{needs}
+use Rattle.reader.specs.Head.{put-counts}
+use Rattle.reader.proofs.head.put_counts.Statement.{statement}
+use Rattle.reader.proofs.head.put_counts.Tie as tie
+use Rattle.reader.proofs.head.put_counts.Reads as reads
+use Rattle.reader.proofs.head.put_counts.Lts as lts
+use Rattle.tokens.proofs.put_word.Reads as put-word-reads
+
+put-word-requires : tie.Need-put-word-requires
+put-word-requires c κs = search needs
+
+put-word-requires-2 : tie.Need-put-word-requires-2
+put-word-requires-2 c κs = search needs
+
+put-word-requires-3 : tie.Need-put-word-requires-3
+put-word-requires-3 c κs = search needs
+
+put-word-requires-4 : tie.Need-put-word-requires-4
+put-word-requires-4 c κs = search needs
+
+same-length : tie.Need-same-length
+same-length c = search needs
+
+returns : tie.Need-returns
+returns c = put-counts (c .before .before .before .before .before .before .before .before .before .before .before .before .before .before .put-word .ensures) (c .before .before .before .before .before .before .before .before .before .before .put-word2 .ensures) (c .before .before .before .before .before .before .put-word3 .ensures) (c .before .before .put-word4 .ensures)
+
+pub put-counts-spec : {M : Type 1} → statement M
+put-counts-spec =
+    tie.close
+    (tie.spec
+    put-word-requires
+    put-word-requires-2
+    put-word-requires-3
+    put-word-requires-4
+    same-length
+    returns)
