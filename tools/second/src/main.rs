@@ -9,7 +9,7 @@ use second::random::Random;
 use second::{cases, generate, lines};
 
 const USAGE: &str = "usage: second totext | towire | messages SEED COUNT | texts SEED COUNT \
-                     | cases-totext | cases-towire | case-kinds";
+                     | cases-totext | cases-towire [MOST] | case-kinds";
 
 fn main() -> ExitCode {
     let arguments: Vec<String> = env::args().skip(1).collect();
@@ -45,6 +45,9 @@ fn run(words: &[&str]) -> Option<io::Result<()>> {
         }
         ["cases-totext"] => Some(print_cases(output, &cases::totext())),
         ["cases-towire"] => Some(print_cases(output, &cases::towire())),
+        ["cases-towire", most] => {
+            Some(print_cases(output, &cases::some_towire(most.parse().ok()?)))
+        }
         ["case-kinds"] => Some(print_kinds(output)),
         _ => None,
     }

@@ -89,17 +89,34 @@ fn towire_agrees_on_its_cases() {
     }
 }
 
+/// The refusal numbers among some answers, each once.
+fn numbers(answers: Vec<Vec<u8>>) -> Vec<u32> {
+    let words = answers.iter().map(|answer| String::from_utf8_lossy(answer).into_owned());
+    let mut numbers: Vec<u32> = words
+        .filter_map(|answer| answer.strip_prefix("refused ")?.split(' ').next()?.parse().ok())
+        .collect();
+    numbers.sort_unstable();
+    numbers.dedup();
+    numbers
+}
+
+#[test]
+fn some_cases_keep_every_kind_and_number() {
+    let some = cases::some_towire(400);
+    assert!(some.len() >= 4_000 && some.join(&b'\n').len() < 4_000_000);
+    let groups = cases::towire_groups();
+    assert_eq!(some.len(), groups.iter().map(|group| group.lines.len().min(400)).sum());
+    for group in groups {
+        assert!(some.contains(&group.lines[group.lines.len() - 1]), "{}", group.kind);
+    }
+    assert_eq!(some.last(), cases::towire().last());
+    let answers = some.iter().map(|line| towire_answer(line)).collect();
+    assert_eq!(numbers(answers), [20, 21, 22, 23, 31]);
+    assert_eq!(cases::some_towire(usize::MAX), cases::towire());
+}
+
 #[test]
 fn cases_hold_no_newline_and_meet_every_number() {
-    let numbers = |answers: Vec<Vec<u8>>| {
-        let words = answers.iter().map(|answer| String::from_utf8_lossy(answer).into_owned());
-        let mut numbers: Vec<u32> = words
-            .filter_map(|answer| answer.strip_prefix("refused ")?.split(' ').next()?.parse().ok())
-            .collect();
-        numbers.sort_unstable();
-        numbers.dedup();
-        numbers
-    };
     let (totext, towire) = (cases::totext(), cases::towire());
     assert!(totext.iter().chain(&towire).all(|line| !line.contains(&b'\n')));
     let answers = totext.iter().map(|line| totext_answer(line)).collect();

@@ -33,6 +33,20 @@ pub fn towire() -> Vec<Vec<u8>> {
     all_lines(towire_groups())
 }
 
+/// The cases for `towire` with at most so many lines of each kind.
+pub fn some_towire(most: usize) -> Vec<Vec<u8>> {
+    towire_groups().into_iter().flat_map(|group| spread(group.lines, most)).collect()
+}
+
+/// At most so many of the lines, at even distances, the last one among them.
+fn spread(lines: Vec<Vec<u8>>, most: usize) -> Vec<Vec<u8>> {
+    let count = lines.len();
+    if count <= most {
+        return lines;
+    }
+    (1..=most).map(|part| lines[part * count / most - 1].clone()).collect()
+}
+
 fn all_lines(groups: Vec<Group>) -> Vec<Vec<u8>> {
     groups.into_iter().flat_map(|group| group.lines).collect()
 }

@@ -30,12 +30,19 @@ pub fn valid_text(random: &mut Random) -> Vec<u8> {
 pub fn damaged_text(random: &mut Random) -> Vec<u8> {
     let mut text = if random.one_in(2) { valid_text(random) } else { drafted_text(random) };
     for _ in 0..random.between(1, 2) {
-        match random.below(3) {
-            0 => change_number(&mut text, random),
-            _ => harm(&mut text, random, text_octet),
-        }
+        text = harmed_text(random, text);
     }
     text.truncate(LINE_TEXT);
+    text
+}
+
+/// The text with another number in it, or with an octet changed, put in, or a
+/// part cut off, left out, doubled or swapped.
+pub fn harmed_text(random: &mut Random, mut text: Vec<u8>) -> Vec<u8> {
+    match random.below(3) {
+        0 => change_number(&mut text, random),
+        _ => harm(&mut text, random, text_octet),
+    }
     text
 }
 
