@@ -1,4 +1,4 @@
-//! Both converters over the same messages, in one run.
+//! Both converters over the same messages and their texts, in one run.
 
 use crate::proved;
 use second::generate;
@@ -8,12 +8,28 @@ use std::time::Instant;
 
 type Converter = fn(&[u8], &mut [u8]) -> Result<usize, Refusal>;
 
-/// The seconds that a converter takes for all messages, over one buffer that is never cleared, and the octets of text.
-fn timed(convert: Converter, messages: &[Vec<u8>], buffer: &mut [u8]) -> (f64, usize) {
+/// A conversion by the proved library, and the same by the independent converter.
+struct Pair {
+    ours: Converter,
+    theirs: Converter,
+}
+
+const TO_TEXT: Pair = Pair {
+    ours: proved::to_text,
+    theirs: second::to_text,
+};
+
+const TO_WIRE: Pair = Pair {
+    ours: proved::to_wire,
+    theirs: second::to_wire,
+};
+
+/// The seconds that a converter takes for all inputs, over one buffer that is never cleared, and the octets it writes.
+fn timed(convert: Converter, inputs: &[Vec<u8>], buffer: &mut [u8]) -> (f64, usize) {
     let start = Instant::now();
     let mut octets = 0;
-    for message in messages {
-        if let Ok(length) = convert(message, buffer) {
+    for input in inputs {
+        if let Ok(length) = convert(input, buffer) {
             octets += length;
         }
     }
@@ -21,14 +37,14 @@ fn timed(convert: Converter, messages: &[Vec<u8>], buffer: &mut [u8]) -> (f64, u
 }
 
 /// The best of five turns for each, taken in turn.
-fn best(messages: &[Vec<u8>], buffer: &mut [u8]) -> (f64, f64, usize) {
+fn best(pair: &Pair, inputs: &[Vec<u8>], buffer: &mut [u8]) -> (f64, f64, usize) {
     let mut ours = f64::MAX;
     let mut theirs = f64::MAX;
     let mut octets = 0;
     for _ in 0..5 {
-        let (seconds, written) = timed(proved::to_text, messages, buffer);
+        let (seconds, written) = timed(pair.ours, inputs, buffer);
         ours = ours.min(seconds);
-        let (seconds, again) = timed(second::to_text, messages, buffer);
+        let (seconds, again) = timed(pair.theirs, inputs, buffer);
         theirs = theirs.min(seconds);
         assert_eq!(written, again, "both write the same");
         octets = written;
@@ -36,25 +52,34 @@ fn best(messages: &[Vec<u8>], buffer: &mut [u8]) -> (f64, f64, usize) {
     (ours, theirs, octets)
 }
 
-fn report(title: &str, messages: &[Vec<u8>], buffer: &mut [u8]) {
-    let (ours, theirs, octets) = best(messages, buffer);
-    let input: usize = messages.iter().map(Vec::len).sum();
+fn report(title: &str, things: &str, pair: &Pair, inputs: &[Vec<u8>], buffer: &mut [u8]) {
+    let (ours, theirs, octets) = best(pair, inputs, buffer);
+    let input: usize = inputs.iter().map(Vec::len).sum();
     println!(
-        "{title}: {} messages, {input} octets in, {octets} octets out: proved {ours:.3} s, plain {theirs:.3} s, ratio {:.2}",
-        messages.len(),
+        "{title}: {} {things}, {input} octets in, {octets} octets out: proved {ours:.3} s, plain {theirs:.3} s, ratio {:.2}",
+        inputs.len(),
         ours / theirs
     );
+}
+
+/// The texts of the messages that are accepted.
+fn texts_of(messages: &[Vec<u8>]) -> Vec<Vec<u8>> {
+    messages.iter().filter_map(|message| second::text_of(message).ok()).collect()
 }
 
 pub fn run(seed: u64) {
     let mut random = Random::new(seed);
     let mut buffer = vec![0; 1 << 24];
     let messages: Vec<Vec<u8>> = (0..100_000).map(|_| generate::message(&mut random)).collect();
-    report("accepted and refused", &messages, &mut buffer);
+    report("accepted and refused", "messages", &TO_TEXT, &messages, &mut buffer);
+    report("of the accepted", "texts", &TO_WIRE, &texts_of(&messages), &mut buffer);
     for kilobytes in [1, 10, 60] {
         let messages: Vec<Vec<u8>> = (0..6000 / kilobytes)
             .map(|_| generate::message_of_size(&mut random, kilobytes * 1000))
             .collect();
-        report(&format!("{kilobytes} kB each"), &messages, &mut buffer);
+        report(&format!("{kilobytes} kB each"), "messages", &TO_TEXT, &messages, &mut buffer);
+        report(&format!("of {kilobytes} kB messages"), "texts", &TO_WIRE, &texts_of(&messages), &mut buffer);
     }
+    let texts: Vec<Vec<u8>> = (0..100_000).map(|_| generate::text(&mut random)).collect();
+    report("read and refused", "texts", &TO_WIRE, &texts, &mut buffer);
 }

@@ -3,20 +3,34 @@
 use crate::proved;
 use second::generate;
 use second::random::Random;
+use second::Refusal;
+use std::collections::BTreeMap;
+use std::fmt;
+
+type Converter = fn(&[u8], &mut [u8]) -> Result<usize, Refusal>;
 
 /// Converts with both into buffers that held the same octets; the answers and every octet afterwards must agree.
-fn agree(message: &[u8], before: &[u8]) -> Result<(), String> {
-    let mut ours = before.to_vec();
-    let mut theirs = before.to_vec();
-    let first = proved::to_text(message, &mut ours);
-    let second = second::to_text(message, &mut theirs);
+fn same(ours: Converter, theirs: Converter, input: &[u8], before: &[u8]) -> Result<(), String> {
+    let mut our_buffer = before.to_vec();
+    let mut their_buffer = before.to_vec();
+    let first = ours(input, &mut our_buffer);
+    let second = theirs(input, &mut their_buffer);
     if first != second {
-        return Err(format!("{message:02X?}: {first:?} and {second:?}"));
+        return Err(format!("{first:?} and {second:?}"));
     }
-    if ours != theirs {
-        return Err(format!("{message:02X?}: the buffers differ"));
+    if our_buffer != their_buffer {
+        return Err("the buffers differ".to_string());
     }
     Ok(())
+}
+
+fn agree(message: &[u8], before: &[u8]) -> Result<(), String> {
+    same(proved::to_text, second::to_text, message, before).map_err(|fault| format!("{message:02X?}: {fault}"))
+}
+
+fn agree_on_text(text: &[u8], before: &[u8]) -> Result<(), String> {
+    same(proved::to_wire, second::to_wire, text, before)
+        .map_err(|fault| format!("{} in {} octets: {fault}", String::from_utf8_lossy(text), before.len()))
 }
 
 /// Random messages, valid and damaged, with buffers of random length and random leftovers.
@@ -52,6 +66,149 @@ pub fn exact_rooms(seed: u64, count: usize) -> Result<usize, String> {
         proved::to_text(&message, &mut leftovers).map_err(|refusal| format!("{refusal:?}"))?;
     }
     Ok(compared)
+}
+
+/// Random texts, valid and damaged, with buffers of random length and random leftovers.
+pub fn random_texts(seed: u64, count: usize) -> Result<Tally, String> {
+    let mut random = Random::new(seed);
+    let mut tally = Tally::new();
+    for _ in 0..count {
+        let text = if random.one_in(2) {
+            generate::text(&mut random)
+        } else {
+            generate::damaged_text(&mut random)
+        };
+        let room = if random.one_in(4) {
+            random.below(300)
+        } else {
+            random.below(5_000)
+        };
+        let before = random.octets(room);
+        agree_on_text(&text, &before)?;
+        tally.add(second::to_wire(&text, &mut before.clone()));
+    }
+    Ok(tally)
+}
+
+/// Texts of large messages, as they are and with a harm done to them. The message of some has no room.
+pub fn large_texts(seed: u64, count: usize) -> Result<usize, String> {
+    let mut random = Random::new(seed);
+    let mut compared = 0;
+    for _ in 0..count {
+        let size = random.between(4_000, 60_000);
+        let message = generate::message_of_size(&mut random, size);
+        let Ok(text) = second::text_of(&message) else {
+            continue;
+        };
+        let room = random.between(1_000, 120_000);
+        let before = random.octets(room);
+        agree_on_text(&text, &before)?;
+        agree_on_text(&generate::harmed_text(&mut random, text), &before)?;
+        compared += 2;
+    }
+    Ok(compared)
+}
+
+/// The text with a PADDING of so many octets behind the last option of its last record, if that is an EDNS element.
+fn padded(text: &[u8], length: usize) -> Option<Vec<u8>> {
+    let body = text.strip_suffix(b"}}]}")?;
+    let padding = format!(",\"PADDING\":{{\"LENGTH\":{length}}}}}}}]}}");
+    Some([body, padding.as_bytes()].concat())
+}
+
+/// Texts whose message has about 65,535 octets, most of them padding; and those whose padding alone is about as long.
+pub fn padded_texts(seed: u64, count: usize) -> Result<Tally, String> {
+    let mut random = Random::new(seed);
+    let mut tally = Tally::new();
+    let before = random.octets(second::LARGEST_MESSAGE);
+    for _ in 0..count {
+        let message = generate::valid_message(&mut random);
+        let (Some(form), Ok(text)) = (second::uncompressed(&message), second::text_of(&message)) else {
+            continue;
+        };
+        let others = if random.one_in(4) { 0 } else { form.len() + 4 };
+        let length = second::LARGEST_MESSAGE - others + random.below(5) - 2;
+        let Some(text) = padded(&text, length) else {
+            continue;
+        };
+        let room = second::LARGEST_MESSAGE - random.below(3);
+        agree_on_text(&text, &before[..room])?;
+        tally.add(second::to_wire(&text, &mut before[..room].to_vec()));
+    }
+    Ok(tally)
+}
+
+/// Buffers of the exact message length, one less and one more, full of leftovers of an earlier call.
+pub fn exact_message_rooms(seed: u64, count: usize) -> Result<usize, String> {
+    let mut random = Random::new(seed);
+    let mut leftovers = vec![0xA5; second::LARGEST_MESSAGE + 1];
+    let mut compared = 0;
+    for _ in 0..count {
+        let text = generate::text(&mut random);
+        let Ok(message) = second::message_of(&text) else {
+            continue;
+        };
+        for room in [message.len() - 1, message.len(), message.len() + 1] {
+            agree_on_text(&text, &leftovers[..room])?;
+            compared += 1;
+        }
+        proved::to_wire(&text, &mut leftovers).map_err(|refusal| format!("{refusal:?}"))?;
+    }
+    Ok(compared)
+}
+
+/// There and back with the proved library alone: the text of a message is read as its uncompressed form, and that has the same text.
+pub fn there_and_back(seed: u64, count: usize) -> Result<usize, String> {
+    let mut random = Random::new(seed);
+    let mut text = vec![0; 1 << 20];
+    let mut again = vec![0; 1 << 20];
+    let mut message = vec![0; second::LARGEST_MESSAGE];
+    for _ in 0..count {
+        let given = generate::valid_message(&mut random);
+        let failed = |what: &str| format!("{given:02X?}: {what}");
+        let length = proved::to_text(&given, &mut text).map_err(|_| failed("refused"))?;
+        let size = proved::to_wire(&text[..length], &mut message).map_err(|_| failed("the text is refused"))?;
+        if second::uncompressed(&given).as_deref() != Some(&message[..size]) {
+            return Err(failed("the text is not read as the uncompressed form"));
+        }
+        let second_length = proved::to_text(&message[..size], &mut again).map_err(|_| failed("the form is refused"))?;
+        if text[..length] != again[..second_length] {
+            return Err(failed("the form has another text"));
+        }
+    }
+    Ok(count)
+}
+
+/// How often each answer came.
+pub struct Tally {
+    counts: BTreeMap<u32, usize>,
+}
+
+impl Tally {
+    fn new() -> Tally {
+        Tally {
+            counts: BTreeMap::new(),
+        }
+    }
+
+    fn add(&mut self, answer: Result<usize, Refusal>) {
+        let number = answer.map_or_else(|refusal| refusal.number, |_| 0);
+        *self.counts.entry(number).or_default() += 1;
+    }
+}
+
+impl fmt::Display for Tally {
+    fn fmt(&self, formatter: &mut fmt::Formatter) -> fmt::Result {
+        let total: usize = self.counts.values().sum();
+        write!(formatter, "{total}")?;
+        for (number, count) in &self.counts {
+            match number {
+                0 => write!(formatter, ", {count} read")?,
+                _ => write!(formatter, ", {count} refused by {number}")?,
+            }
+        }
+        Ok(())
+    }
 }
 
 /// All names of one or two labels of up to `longest` octets over a small alphabet, as the question of a message: two texts are equal exactly when
