@@ -1,12 +1,14 @@
 -- What the exported functions return and leave. Assumes nothing.
-use mathlib.Core.Path.{_≡_, refl, sym, _∙_, ap}
+use mathlib.Core.Path.{_≡_, _∙_, ap}
 use mathlib.Core.List.{List}
 use Prim.Native.Nat.{ℕ}
-use Rattle.octets.specs.Answer.{Answer, success, refusal}
+use Rattle.octets.specs.Answer.{Answer, success, refusal, Left}
 use Rattle.json.specs.Converted.{toText}
-use Rattle.json.specs.Promise.{answerOf, Converted}
-use Rattle.json.specs.declared.Answer.{Answer as Given}
-use Rattle.json.specs.declared.Answer.the-variants.{Text, Refused}
+use Rattle.json.specs.Promise as json
+use Rattle.json.specs.declared.Answer as json-declared
+use Rattle.strict.specs.Reading.{toWire}
+use Rattle.reader.specs.Promise as reader
+use Rattle.reader.specs.declared.Answer as reader-declared
 
 -- an answer as C has it: 0 and the length, or the refusal's number and its place
 abbrev pub numberOf : Answer → ℕ
@@ -17,12 +19,28 @@ abbrev pub valueOf : Answer → ℕ
 valueOf (success length) = length
 valueOf (refusal number place) = place
 
--- from the message and the buffer `before` the function returned the number, and left the buffer and the value
-pub record ToText (message before after : List ℕ) (number value : ℕ) : Type 0 where
-  pub returns : number ≡ numberOf (toText message before .answer)
-  pub tells : value ≡ valueOf (toText message before .answer)
-  pub leaves : after ≡ toText message before .buffer
+-- of what a call answers and leaves by its definition, the function returned the number, and left the buffer and the value
+pub record Told (left : Left) (after : List ℕ) (number value : ℕ) : Type 0 where
+  pub returns : number ≡ numberOf (left .answer)
+  pub tells : value ≡ valueOf (left .answer)
+  pub leaves : after ≡ left .buffer
 
-pub told : {message before after : List ℕ} {number value : ℕ} (given : Given) → Converted message before given after → number ≡ numberOf (answerOf given)
-    → value ≡ valueOf (answerOf given) → ToText message before after number value
-told given c n v = record { returns = n ∙ ap numberOf (c .answers); tells = v ∙ ap valueOf (c .answers); leaves = c .leaves }
+-- from the message and the buffer `before`
+abbrev pub ToText : List ℕ → List ℕ → List ℕ → ℕ → ℕ → Type 0
+ToText message before after number value = Told (toText message before) after number value
+
+-- from the text and the buffer `before`
+abbrev pub ToWire : List ℕ → List ℕ → List ℕ → ℕ → ℕ → Type 0
+ToWire text before after number value = Told (toWire text before) after number value
+
+told : {left : Left} {after : List ℕ} {number value : ℕ} (given : Answer) → given ≡ left .answer → after ≡ left .buffer → number ≡ numberOf given → value ≡ valueOf given → Told left after number value
+told given e f n v = record { returns = n ∙ ap numberOf e; tells = v ∙ ap valueOf e; leaves = f }
+
+module _ {input before after : List ℕ} {number value : ℕ} where
+  pub told-text : (given : json-declared.Answer) → json.Converted input before given after → number ≡ numberOf (json.answerOf given)
+      → value ≡ valueOf (json.answerOf given) → Told (toText input before) after number value
+  told-text given c n v = told (json.answerOf given) (c .answers) (c .leaves) n v
+
+  pub told-wire : (given : reader-declared.Answer) → reader.Taken input before given after → number ≡ numberOf (reader.answerOf given)
+      → value ≡ valueOf (reader.answerOf given) → Told (toWire input before) after number value
+  told-wire given c n v = told (reader.answerOf given) (c .answers) (c .leaves) n v

@@ -1,27 +1,47 @@
 // The two conversions as functions for programs in C.
-use json::Answer;
 use json::convert;
+use reader::read;
 ghost use mathlib.Core.Path.{_≡_};
-ghost use Rattle.json.specs.Promise.{answerOf};
-ghost use Rattle.velvetshelf.specs.Told.{numberOf, valueOf, ToText};
+ghost use Rattle.json.specs.Promise as json;
+ghost use Rattle.reader.specs.Promise as reader;
+ghost use Rattle.velvetshelf.specs.Told.{numberOf, valueOf, ToText, ToWire};
 
 // 0 for success, else the refusal's number.
-fn number_of(answer: Answer) -> u32
-    ensures { λ r. ⌜ r ≡ numberOf (answerOf answer) ⌝ }
+fn number_of(answer: json::Answer) -> u32
+    ensures { λ r. ⌜ r ≡ numberOf (json.answerOf answer) ⌝ }
 {
     match answer {
-        Answer::Text(_) => 0,
-        Answer::Refused(number, _) => number,
+        json::Answer::Text(_) => 0,
+        json::Answer::Refused(number, _) => number,
     }
 }
 
 // The length, or the refusal's place.
-fn value_of(answer: Answer) -> u64
-    ensures { λ r. ⌜ r ≡ valueOf (answerOf answer) ⌝ }
+fn value_of(answer: json::Answer) -> u64
+    ensures { λ r. ⌜ r ≡ valueOf (json.answerOf answer) ⌝ }
 {
     match answer {
-        Answer::Text(length) => length as u64,
-        Answer::Refused(_, place) => place as u64,
+        json::Answer::Text(length) => length as u64,
+        json::Answer::Refused(_, place) => place as u64,
+    }
+}
+
+// The same of the reader's answer.
+fn number_of_read(answer: reader::Answer) -> u32
+    ensures { λ r. ⌜ r ≡ numberOf (reader.answerOf answer) ⌝ }
+{
+    match answer {
+        reader::Answer::Message(_) => 0,
+        reader::Answer::Refused(number) => number,
+    }
+}
+
+fn value_of_read(answer: reader::Answer) -> u64
+    ensures { λ r. ⌜ r ≡ valueOf (reader.answerOf answer) ⌝ }
+{
+    match answer {
+        reader::Answer::Message(length) => length as u64,
+        reader::Answer::Refused(_) => 0,
     }
 }
 
@@ -33,4 +53,14 @@ pub extern "C" fn velvetshelf_to_text(message: &[u8], text: &mut [u8], value: &m
     let answer = convert(message, text);
     *value = value_of(answer);
     number_of(answer)
+}
+
+// Converts the text to its message: 0, and the message's length in `value`; or the refusal's number, and its place, which is 0, in `value`.
+#[no_mangle]
+pub extern "C" fn velvetshelf_to_wire(text: &[u8], message: &mut [u8], value: &mut u64) -> u32
+    ensures { λ r. ⌜ ToWire (now (text .entry)) (now (message .entry)) (now (message .exit)) r (now (value .exit)) ⌝ }
+{
+    let answer = read(text, message);
+    *value = value_of_read(answer);
+    number_of_read(answer)
 }
