@@ -5,61 +5,23 @@ use mathlib.Core.Option.{Option, none, some}
 use mathlib.Core.List.{List, [], _∷_, _++_, append-assoc}
 use Prim.Native.Nat.{ℕ, _-_, _≤_, _<_}
 use native.Mathlib.Omega.{arith}
-use borrow.Author.Tests.{lt-ltb, le-ltb, leb-true, leb-false}
-use lib.Dec.{leb, ltb}
+use borrow.Author.Tests.{lt-ltb, le-ltb}
+use lib.Dec.{ltb}
 use lib.ListN.{length, take, drop, take-append-drop}
-use lib.Seq.{take-all, take-append-seam, drop-append-le, length-take-le}
+use lib.Seq.{take-append-seam, drop-append-le, length-take-le}
 use Rattle.octets.specs.Lists.{Octets}
 use Rattle.octets.specs.Overlay.{overlay-first, Wrote}
-use Rattle.octets.specs.Answer.{Output, output, refused, Answer, success, refusal, Left, overwritten, delivered}
+use Rattle.octets.specs.Answer.{Answer, overwritten}
 use Rattle.json.specs.Converted.{converted, toText}
 use Rattle.json.specs.Promise.{answerOf, Converted}
 use Rattle.json.specs.declared.Answer as declared
 use Rattle.json.specs.declared.Answer.the-variants.{Text, Refused}
-use Rattle.lines.specs.Lines.{hexValue, joined, unhexed, refusalLine, shown, messageLine, textLine, printed, outputOf}
+use Rattle.lines.specs.Lines.{hexValue, joined, unhexed, refusalLine, shown, asText, messageLine, textLine}
 use Rattle.lines.specs.Hex.{Digit, digit, hexValue-digit, hexAnswer, hexLeft, Unhexed}
-use Rattle.lines.specs.Reading.{keptOutput, kept-output}
 use Rattle.lines.specs.Places.{place-within}
+use Rattle.lines.specs.Calls.{Told, told, callLine, told-line}
 use Rattle.lines.specs.declared.Hex.{Hex}
 use Rattle.lines.specs.declared.Hex.the-variants as line
-use Rattle.lines.specs.declared.Program.{Program}
-use Rattle.lines.specs.declared.Program.the-variants.{ToText}
-
--- ---- what a program answers to a line, and how many octets of a line it keeps
-abbrev pub answerTo : Program → List ℕ → List ℕ
-answerTo ToText = textLine
-
-abbrev pub keptOf : Program → ℕ
-keptOf ToText = 8193
-
--- the octets behind those don't matter
-textLine-kept : (s : List ℕ) → textLine (take 8193 s) ≡ textLine s
-unfolding textLine
-textLine-kept s = go (leb (length s) 8193) refl
-  where
-    over : (l : List ℕ) → 8192 < length l → textLine l ≡ refusalLine 31 0
-    over l h = rw (lt-ltb 8192 (length l) h)
-
-    go : (b : Bool) → leb (length s) 8193 ≡ b → textLine (take 8193 s) ≡ textLine s
-    go true e = rw (take-all 8193 s (leb-true _ _ e))
-    go false e =
-        let h : 8193 < length s = leb-false (length s) 8193 e in
-        let n : length (take 8193 s) ≡ 8193 = length-take-le 8193 s (omega arith) in
-        over (take 8193 s) (omega arith) ∙ sym (over s (omega arith))
-
--- so taking the input octet by octet, with no more of a line kept than that, prints what the program is to print
-pub right-output : (program : Program) (input : List ℕ) → keptOutput (keptOf program) (answerTo program) [] input ≡ outputOf (answerTo program) input
-right-output ToText input = kept-output 8193 textLine textLine-kept (omega arith) input
-
--- ---- a text that was written from the first octet on
-pub stands : {b b′ xs : List ℕ} {r : ℕ} → Wrote b 0 xs b′ r → r ≤ length b → take r b′ ≡ xs
-stands {b} {b′} {xs} {r} w h =
-    let n : r ≡ length xs = omega (arith, w .place) in
-    rw (w .text, n, overlay-first b xs (omega arith)) (take-append-seam xs (drop (length xs) b))
-
--- the answer of a program, so written
-pub answered : (program : Program) (s : List ℕ) {b b′ : List ℕ} {r : ℕ} → Wrote b 0 (printed textLine s) b′ r → r ≤ length b → take r b′ ≡ printed (answerTo program) s
-answered ToText s w h = stands w h
 
 -- ---- a line that was read
 -- its octets
@@ -101,38 +63,13 @@ pub octets-read : {s m m′ : List ℕ} {a : Hex} {n : ℕ} → Unhexed s m a m�
 octets-read {s} {n = n} u e = let z : n - 0 ≡ n = omega arith in rw z (subst AllOctets (read-octets u e) (unhexed-octets s))
 
 -- ---- the converter's answer
--- what it says of the text that is shown, of the buffer before and after
-abbrev Told : Answer → List ℕ → List ℕ → List ℕ → Type 0
-Told (success n) x b b′ = (n ≡ length x) × (n ≤ length b) × (b′ ≡ overwritten x b)
-Told (refusal k p) x b b′ = (x ≡ refusalLine k p) × (b′ ≡ b)
-
-told : (o : Output) (b : List ℕ) → Told (delivered 10 o b .answer) (shown (length b) 10 o) b (delivered 10 o b .buffer)
-unfolding delivered shown
-told (output l) b = go (leb (length l) (length b)) refl
-  where
-    left : Bool → Left
-    left t = cond t (record { answer = success (length l); buffer = overwritten l b }) (record { answer = refusal 10 0; buffer = b })
-
-    go : (t : Bool) → leb (length l) (length b) ≡ t → Told (left t .answer) (cond t l (refusalLine 10 0)) b (left t .buffer)
-    go true e = (refl, leb-true _ _ e, refl)
-    go false e = (refl, refl)
-told (refused k p) b = (refl, refl)
-
-told-as : (s b : List ℕ) {a : Answer} {b′ : List ℕ} → a ≡ toText s b .answer → b′ ≡ toText s b .buffer → Told a (shown (length b) 10 (converted s)) b b′
+told-as : (s b : List ℕ) {a : Answer} {b′ : List ℕ} → a ≡ toText s b .answer → b′ ≡ toText s b .buffer → Told asText a (shown asText (length b) 10 (converted s)) b b′
 unfolding toText
-told-as s b {a} {b′} e f = rw (e, f) (told (converted s) b)
+told-as s b {a} {b′} e f = rw (e, f) (told asText 10 (converted s) b)
 
 -- what `totext` prints for a message is what a call reports and leaves, whatever its buffer of that length held
-abbrev pub callLine : Answer → List ℕ → List ℕ
-callLine (success n) b = take n b
-callLine (refusal k p) b = refusalLine k p
-
-told-line : (a : Answer) (x b b′ : List ℕ) → Told a x b b′ → callLine a b′ ≡ x
-told-line (success n) x b b′ t = rw (t .2, t .0) (take-append-seam x (drop (length x) b))
-told-line (refusal k p) x b b′ t = sym (t .0)
-
-pub call-line : (s b : List ℕ) → callLine (toText s b .answer) (toText s b .buffer) ≡ shown (length b) 10 (converted s)
-call-line s b = told-line (toText s b .answer) _ b (toText s b .buffer) (told-as s b refl refl)
+pub call-line : (s b : List ℕ) → callLine asText (toText s b .answer) (toText s b .buffer) ≡ shown asText (length b) 10 (converted s)
+call-line s b = told-line asText (toText s b .answer) _ b (toText s b .buffer) (told-as s b refl refl)
 
 -- ---- the ways to an answer
 -- a message: its text
@@ -140,25 +77,28 @@ module _ (s b : List ℕ) (k : length b ≡ 65537) where
   room : length (take 65536 b) ≡ 65536
   room = length-take-le 65536 b (omega arith)
 
-  same-room : shown 65536 10 (converted s) ≡ shown (length (take 65536 b)) 10 (converted s)
-  same-room = ap (λ n. shown n 10 (converted s)) (sym room)
+  same-room : shown asText 65536 10 (converted s) ≡ shown asText (length (take 65536 b)) 10 (converted s)
+  same-room = ap (λ n. shown asText n 10 (converted s)) (sym room)
+
+  written : {size : ℕ} {t : List ℕ} (x : List ℕ) → size ≡ length x → size ≤ length (take 65536 b) → t ≡ overwritten x (take 65536 b) → Wrote b 0 x (t ++ drop 65536 b) size
+  written x n h g =
+      let l = room in
+      let d : drop (length x) (take 65536 b) ++ drop 65536 b ≡ drop (length x) b =
+      sym (drop-append-le (length x) (take 65536 b) (drop 65536 b) (omega arith)) ∙ ap (drop (length x)) (take-append-drop 65536 b) in
+      record { place = omega arith; text = rw (g, append-assoc, d) (sym (overlay-first b x (omega arith))) }
 
   module _ {size : ℕ} {a : declared.Answer} {t : List ℕ} (p : Converted s (take 65536 b) a t) (e : a ≡ Text size) where
-    pub text-answer : Wrote b 0 (shown 65536 10 (converted s)) (t ++ drop 65536 b) size
+    pub text-answer : Wrote b 0 (shown asText 65536 10 (converted s)) (t ++ drop 65536 b) size
     text-answer =
-        let q = told-as s (take 65536 b) (sym (ap answerOf e) ∙ p .answers) (p .leaves) in
-        let x = shown (length (take 65536 b)) 10 (converted s) in
-        let l = room in
-        let d : drop (length x) (take 65536 b) ++ drop 65536 b ≡ drop (length x) b =
-        sym (drop-append-le (length x) (take 65536 b) (drop 65536 b) (omega arith)) ∙ ap (drop (length x)) (take-append-drop 65536 b) in
-        rw same-room (record { place = omega arith; text = rw (q .2, append-assoc, d) (sym (overlay-first b x (omega arith))) })
+        let (x, q, n, h, g) = told-as s (take 65536 b) (sym (ap answerOf e) ∙ p .answers) (p .leaves) in
+        rw (same-room, q) (written x n h g)
 
     pub text-within : size ≤ 65536
-    text-within = let q = told-as s (take 65536 b) (sym (ap answerOf e) ∙ p .answers) (p .leaves) in omega (arith, room)
+    text-within = let (x, q, n, h, g) = told-as s (take 65536 b) (sym (ap answerOf e) ∙ p .answers) (p .leaves) in omega (arith, room)
 
   -- or its refusal
   module _ {number place : ℕ} {a : declared.Answer} {t : List ℕ} (p : Converted s (take 65536 b) a t) (e : a ≡ Refused number place) where
-    pub refused-answer : {b′ : List ℕ} {r : ℕ} → Wrote (t ++ drop 65536 b) 0 (refusalLine number place) b′ r → Wrote b 0 (shown 65536 10 (converted s)) b′ r
+    pub refused-answer : {b′ : List ℕ} {r : ℕ} → Wrote (t ++ drop 65536 b) 0 (refusalLine number place) b′ r → Wrote b 0 (shown asText 65536 10 (converted s)) b′ r
     refused-answer w =
         let q = told-as s (take 65536 b) (sym (ap answerOf e) ∙ p .answers) (p .leaves) in
         let same : t ++ drop 65536 b ≡ b = rw (q .1) (take-append-drop 65536 b) in
@@ -201,6 +141,6 @@ module _ (s : List ℕ) where
         go none e = w
 
     -- a message
-    pub read-answer : {a : Hex} {n : ℕ} → Unhexed s m a m′ → a ≡ line.Octets n → {b b′ : List ℕ} {r : ℕ} → Wrote b 0 (shown 65536 10 (converted (take (n - 0) m′))) b′ r → Wrote b 0 (textLine s) b′ r
+    pub read-answer : {a : Hex} {n : ℕ} → Unhexed s m a m′ → a ≡ line.Octets n → {b b′ : List ℕ} {r : ℕ} → Wrote b 0 (shown asText 65536 10 (converted (take (n - 0) m′))) b′ r → Wrote b 0 (textLine s) b′ r
     unfolding textLine
     read-answer {n = n} u e w = let z : n - 0 ≡ n = omega arith in rw (le-ltb 8192 (length s) h, read-octets u e) (rw z at w)

@@ -2,6 +2,10 @@
 pub mod Lines
 pub mod Hex
 pub mod Reading
+pub mod Programs
 pub mod Places
+pub mod Calls
 pub mod Answering
+pub mod Wire
 pub mod Samples
+pub mod WireSamples

@@ -7,9 +7,10 @@ use lib.Dec.{leb, ltb, eqb}
 use lib.ListN.{length}
 use Rattle.octets.specs.Lists.{ascii, none?, each}
 use Rattle.octets.specs.Decimal.{digit?, decimal}
-use Rattle.octets.specs.Hexadecimal.{capital?}
+use Rattle.octets.specs.Hexadecimal.{capital?, hexOctet}
 use Rattle.octets.specs.Answer.{Output, output, refused}
 use Rattle.json.specs.Converted.{converted}
+use Rattle.strict.specs.Reading.{reading}
 
 -- ---- hexadecimal
 -- a digit from a to f
@@ -38,19 +39,34 @@ unhexed (c ∷ d ∷ line) = joined (hexValue c) (hexValue d) (unhexed line)
 unfoldable pub refusalLine : ℕ → ℕ → List ℕ
 refusalLine number place = ascii "refused " ++ decimal number ++ ascii " at " ++ decimal place
 
--- what a conversion gives in a buffer of so many octets: its output, or a refusal; without room it is the refusal of this number at 0
-unfoldable pub shown : ℕ → ℕ → Output → List ℕ
-shown room noRoom (output text) = cond (leb (length text) room) text (refusalLine noRoom 0)
-shown room noRoom (refused number place) = refusalLine number place
+-- how an output is printed: a text as it is, a message in hexadecimal, in capitals
+abbrev pub asText : List ℕ → List ℕ
+asText text = text
+
+abbrev pub asHex : List ℕ → List ℕ
+asHex message = each hexOctet message
+
+-- what a conversion gives in a buffer of so many octets: its output, printed so, or a refusal; without room it is the refusal of this number at 0
+unfoldable pub shown : (List ℕ → List ℕ) → ℕ → ℕ → Output → List ℕ
+shown spelled room noRoom (output octets) = cond (leb (length octets) room) (spelled octets) (refusalLine noRoom 0)
+shown spelled room noRoom (refused number place) = refusalLine number place
+
+-- a line over so many octets is 31
+abbrev pub limited : ℕ → (List ℕ → List ℕ) → List ℕ → List ℕ
+limited most answer line = cond (ltb most (length line)) (refusalLine 31 0) (answer line)
 
 -- the answer of `totext` to the octets of a line: its text buffer has 65,536 octets
 abbrev pub messageLine : Option (List ℕ) → List ℕ
-messageLine (some message) = shown 65536 10 (converted message)
+messageLine (some message) = shown asText 65536 10 (converted message)
 messageLine none = refusalLine 30 0
 
 -- the answer of `totext` to a line: over 8,192 characters 31, else not hexadecimal 30
 unfoldable pub textLine : List ℕ → List ℕ
-textLine line = cond (ltb 8192 (length line)) (refusalLine 31 0) (messageLine (unhexed line))
+textLine = limited 8192 (λ line. messageLine (unhexed line))
+
+-- the answer of `towire` to a line: over 65,536 octets 31; its message buffer has 4,096 octets
+unfoldable pub wireLine : List ℕ → List ℕ
+wireLine = limited 65536 (λ line. shown asHex 4096 23 (reading line))
 
 -- ---- the lines of an input
 -- 10 ends a line; a last line without it counts if it isn't empty

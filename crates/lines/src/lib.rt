@@ -5,6 +5,7 @@ use libc::STDOUT_FILENO;
 use octets::put;
 use octets::put_all;
 use octets::put_decimal;
+use octets::put_hex;
 ghost use mathlib.Core.Path.{_≡_};
 ghost use mathlib.Core.Bool.{true};
 ghost use mathlib.Core.List.{[], _∷_, _++_};
@@ -13,14 +14,18 @@ ghost use lib.ListN.{length, take};
 ghost use Rattle.octets.specs.Lists.{Octets};
 ghost use Rattle.octets.specs.Overlay.{Wrote};
 ghost use Rattle.json.specs.Converted.{converted};
-ghost use Rattle.lines.specs.Lines.{hexValue, unhexed, refusalLine, shown, textLine, printed};
+ghost use Rattle.strict.specs.Reading.{reading, toWire};
+ghost use Rattle.lines.specs.Lines.{hexValue, unhexed, refusalLine, shown, asText, asHex, textLine, wireLine, printed};
 ghost use Rattle.lines.specs.Hex.{valueOr16, hex?, octetsOr, Unhexed, Within};
 ghost use Rattle.lines.specs.Reading.{soFar, Stepped};
-ghost use Rattle.lines.specs.Answering.{messageLeft, answerTo, keptOf};
+ghost use Rattle.lines.specs.Programs.{answerTo, keptOf};
+ghost use Rattle.lines.specs.Answering.{messageLeft};
+ghost use Rattle.lines.specs.Wire.{wireLeft};
 
 // The line programs.
 enum Program {
     ToText,
+    ToWire,
 }
 
 // The octets of a line in hexadecimal, by their count, or that it is no such line.
@@ -114,7 +119,7 @@ pub fn put_refusal(out: &mut [u8], at: usize, number: u32, place: u32) -> usize
 // Writes the text of a message or its refusal.
 fn put_message(message: &[u8], text: &mut [u8]) -> usize
     requires { ⌜ Octets (now message) × (length (now message) ≤ 4096) × (length (now text) ≡ 65537) ⌝ }
-    ensures { λ r. ⌜ Wrote (now (text .entry)) 0 (shown 65536 10 (converted (now (message .entry)))) (now (text .exit)) r ⌝ }
+    ensures { λ r. ⌜ Wrote (now (text .entry)) 0 (shown asText 65536 10 (converted (now (message .entry)))) (now (text .exit)) r ⌝ }
     ensures { λ r. ⌜ r ≤ 65536 ⌝ }
 {
     match json::convert(message, &mut text[0..65536]) {
@@ -150,6 +155,43 @@ pub fn text_line(line: &[u8], message: &mut [u8], text: &mut [u8]) -> usize
     put(text, n, b'\n')
 }
 
+// Writes the message of a text in hexadecimal, or its refusal.
+fn put_wire(line: &[u8], message: &mut [u8], text: &mut [u8]) -> usize
+    requires { ⌜ (length (now message) ≡ 4096) × (length (now text) ≡ 65537) ⌝ }
+    ensures { λ r. ⌜ Wrote (now (text .entry)) 0 (shown asHex 4096 23 (reading (now (line .entry)))) (now (text .exit)) r ⌝ }
+    ensures { λ r. ⌜ r ≤ 8192 ⌝ }
+    ensures { λ r. ⌜ now (message .exit) ≡ toWire (now (line .entry)) (now (message .entry)) .buffer ⌝ }
+{
+    match reader::read(line, message) {
+        reader::Answer::Message(n) => put_hex(text, 0, &message[0..n]),
+        reader::Answer::Refused(number) => put_refusal(text, 0, number, 0),
+    }
+}
+
+// Writes the answer of `towire` to a line.
+fn put_reading(line: &[u8], message: &mut [u8], text: &mut [u8]) -> usize
+    requires { ⌜ (length (now message) ≡ 4096) × (length (now text) ≡ 65537) ⌝ }
+    ensures { λ r. ⌜ Wrote (now (text .entry)) 0 (wireLine (now (line .entry))) (now (text .exit)) r ⌝ }
+    ensures { λ r. ⌜ r ≤ 8192 ⌝ }
+    ensures { λ r. ⌜ now (message .exit) ≡ wireLeft (now (line .entry)) (now (message .entry)) ⌝ }
+{
+    if line.len() <= 65536 {
+        return put_wire(line, message, text);
+    }
+    put_refusal(text, 0, 31, 0)
+}
+
+// Writes the answer of `towire` to a line, and the end of the line behind it.
+pub fn wire_line(line: &[u8], message: &mut [u8], text: &mut [u8]) -> usize
+    requires { ⌜ (length (now message) ≡ 4096) × (length (now text) ≡ 65537) ⌝ }
+    ensures { λ r. ⌜ Wrote (now (text .entry)) 0 (printed wireLine (now (line .entry))) (now (text .exit)) r ⌝ }
+    ensures { λ r. ⌜ r ≤ 8193 ⌝ }
+    ensures { λ r. ⌜ now (message .exit) ≡ wireLeft (now (line .entry)) (now (message .entry)) ⌝ }
+{
+    let n = put_reading(line, message, text);
+    put(text, n, b'\n')
+}
+
 // The answer of a program to a line: the first octets of `text`.
 fn answer_line(program: Program, line: &[u8], message: &mut [u8], text: &mut [u8]) -> usize
     requires { ⌜ (length (now message) ≡ 4096) × (length (now text) ≡ 65537) ⌝ }
@@ -158,6 +200,7 @@ fn answer_line(program: Program, line: &[u8], message: &mut [u8], text: &mut [u8
 {
     match program {
         Program::ToText => text_line(line, message, text),
+        Program::ToWire => wire_line(line, message, text),
     }
 }
 
@@ -297,4 +340,10 @@ fn answer_input(program: Program, line: &mut [u8])
 pub fn totext() {
     let mut line = [0; 8193];
     answer_input(Program::ToText, &mut line);
+}
+
+// The program `towire`, with such a buffer.
+pub fn towire() {
+    let mut line = [0; 65537];
+    answer_input(Program::ToWire, &mut line);
 }

@@ -1,0 +1,73 @@
+-- `lines::put_wire` meets its contract, by the reader's answer. Assumes nothing.
+use borrow.Author.Needs.{needs}
+use native.Mathlib.Omega.{arith}
+use Rattle.lines.specs.Wire.{message-within, message-answer, refused-answer}
+use Rattle.lines.proofs.put_wire.Statement.{statement}
+use Rattle.lines.proofs.put_wire.Tie as tie
+
+read-requires : tie.Need-read-requires
+read-requires c κs = search needs
+
+enum-known-n : tie.Need-enum-known-n
+enum-known-n c = search needs
+
+sub-put-hex : tie.Need-sub-put-hex
+sub-put-hex c = search needs
+
+part-put-hex-start : tie.Need-part-put-hex-start
+part-put-hex-start c = search needs
+
+part-put-hex-end : tie.Need-part-put-hex-end
+part-put-hex-end c = omega (arith, message-within (c .before .before .before .before .before .before .before .before .before .before .before .before .pre .0) (c .before .before .before .before .before .before .before .read .ensures) (c .before .before .before .n .given .1))
+
+put-hex-requires : tie.Need-put-hex-requires
+put-hex-requires c κs = omega (arith, message-within (c .before .before .before .before .before .before .before .before .before .before .before .before .before .pre .0) (c .before .before .before .before .before .before .before .before .read .ensures) (c .before .before .before .before .n .given .1))
+
+enum-known-number : tie.Need-enum-known-number
+enum-known-number c = search needs
+
+put-refusal-requires : tie.Need-put-refusal-requires
+put-refusal-requires c κs = search needs
+
+same-length : tie.Need-same-length
+same-length c = search needs
+
+same-length-2 : tie.Need-same-length-2
+same-length-2 c = search needs
+
+returns : tie.Need-returns
+returns c = (
+  message-answer (c .before .before .before .before .before .before .before .before .before .before .before .before .before .before .before .before .pre .0) (c .before .before .before .before .before .before .before .before .before .before .before .read .ensures) (c .before .before .before .before .before .before .before .n .given .1) (c .before .before .put-hex .ensures .0),
+  (omega (arith, message-within (c .before .before .before .before .before .before .before .before .before .before .before .before .before .before .before .before .pre .0) (c .before .before .before .before .before .before .before .before .before .before .before .read .ensures) (c .before .before .before .before .before .before .before .n .given .1)), c .before .before .before .before .before .before .before .before .before .before .before .read .ensures .leaves),
+)
+
+same-length-3 : tie.Need-same-length-3
+same-length-3 c = search needs
+
+same-length-4 : tie.Need-same-length-4
+same-length-4 c = search needs
+
+returns-2 : tie.Need-returns-2
+returns-2 c = (
+  refused-answer (c .before .before .before .before .before .before .before .before .before .before .before .before .before .before .pre .0) (c .before .before .before .before .before .before .before .before .before .read .ensures) (c .before .before .before .before .before .number .given .1) (c .before .before .put-refusal .ensures .0),
+  (search needs, c .before .before .before .before .before .before .before .before .before .read .ensures .leaves),
+)
+
+pub put-wire-spec : {M : Type 1} → statement M
+put-wire-spec =
+    tie.close
+    (tie.spec
+    read-requires
+    enum-known-n
+    sub-put-hex
+    part-put-hex-start
+    part-put-hex-end
+    put-hex-requires
+    enum-known-number
+    put-refusal-requires
+    same-length
+    same-length-2
+    returns
+    same-length-3
+    same-length-4
+    returns-2)

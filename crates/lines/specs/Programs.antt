@@ -1,0 +1,62 @@
+-- What each program answers to a line, and how much of a line it keeps. Assumes nothing.
+use mathlib.Core.Path.{_≡_, refl, sym, _∙_}
+use mathlib.Core.Bool.{Bool, true, false}
+use mathlib.Core.List.{List, []}
+use Prim.Native.Nat.{ℕ, _+_, _≤_, _<_}
+use native.Mathlib.Omega.{arith}
+use borrow.Author.Tests.{lt-ltb, leb-true, leb-false}
+use lib.Dec.{leb}
+use lib.ListN.{length, take, drop}
+use lib.Seq.{take-all, take-append-seam, length-take-le}
+use Rattle.octets.specs.Overlay.{overlay-first, Wrote}
+use Rattle.strict.specs.Reading.{reading}
+use Rattle.lines.specs.Lines.{unhexed, refusalLine, asHex, shown, limited, messageLine, textLine, wireLine, printed, outputOf}
+use Rattle.lines.specs.Reading.{keptOutput, kept-output}
+use Rattle.lines.specs.declared.Program.{Program}
+use Rattle.lines.specs.declared.Program.the-variants.{ToText, ToWire}
+
+abbrev pub answerTo : Program → List ℕ → List ℕ
+answerTo ToText = textLine
+answerTo ToWire = wireLine
+
+-- one octet more than the longest line
+abbrev pub keptOf : Program → ℕ
+keptOf ToText = 8193
+keptOf ToWire = 65537
+
+-- the octets behind those don't matter
+limited-kept : (most : ℕ) (answer : List ℕ → List ℕ) (s : List ℕ) → limited most answer (take (most + 1) s) ≡ limited most answer s
+limited-kept most answer s = go (leb (length s) (most + 1)) refl
+  where
+    over : (l : List ℕ) → most < length l → limited most answer l ≡ refusalLine 31 0
+    over l h = rw (lt-ltb most (length l) h)
+
+    go : (b : Bool) → leb (length s) (most + 1) ≡ b → limited most answer (take (most + 1) s) ≡ limited most answer s
+    go true e = rw (take-all (most + 1) s (leb-true _ _ e))
+    go false e =
+        let h : most + 1 < length s = leb-false (length s) (most + 1) e in
+        let n : length (take (most + 1) s) ≡ most + 1 = length-take-le (most + 1) s (omega arith) in
+        over (take (most + 1) s) (omega arith) ∙ sym (over s (omega arith))
+
+answer-kept : (program : Program) (s : List ℕ) → answerTo program (take (keptOf program) s) ≡ answerTo program s
+unfolding textLine wireLine
+answer-kept ToText s = limited-kept 8192 (λ line. messageLine (unhexed line)) s
+answer-kept ToWire s = limited-kept 65536 (λ line. shown asHex 4096 23 (reading line)) s
+
+keeps-some : (program : Program) → 0 < keptOf program
+keeps-some ToText = omega arith
+keeps-some ToWire = omega arith
+
+-- so taking the input octet by octet, with no more of a line kept than that, prints what the program is to print
+pub right-output : (program : Program) (input : List ℕ) → keptOutput (keptOf program) (answerTo program) [] input ≡ outputOf (answerTo program) input
+right-output program input = kept-output (keptOf program) (answerTo program) (answer-kept program) (keeps-some program) input
+
+-- ---- an answer that was written from the first octet on
+stands : {b b′ xs : List ℕ} {r : ℕ} → Wrote b 0 xs b′ r → r ≤ length b → take r b′ ≡ xs
+stands {b} {b′} {xs} {r} w h =
+    let n : r ≡ length xs = omega (arith, w .place) in
+    rw (w .text, n, overlay-first b xs (omega arith)) (take-append-seam xs (drop (length xs) b))
+
+pub answered : (program : Program) {given : Program} (s : List ℕ) {b b′ : List ℕ} {r : ℕ} → given ≡ program
+    → Wrote b 0 (printed (answerTo program) s) b′ r → r ≤ length b → take r b′ ≡ printed (answerTo given) s
+answered program s e w h = rw e (stands w h)

@@ -1,0 +1,70 @@
+-- The answer to a line of `towire`, by the ways through the code. Assumes nothing.
+use mathlib.Core.Path.{_≡_, refl, sym, ap, _∙_}
+use mathlib.Core.Bool.{cond}
+use mathlib.Core.List.{List}
+use Prim.Native.Nat.{ℕ, _-_, _≤_, _<_}
+use native.Mathlib.Omega.{arith}
+use borrow.Author.Tests.{lt-ltb, le-ltb}
+use lib.Dec.{ltb}
+use lib.ListN.{length, take}
+use Rattle.octets.specs.Overlay.{Wrote}
+use Rattle.octets.specs.Answer.{Answer, success}
+use Rattle.strict.specs.Reading.{reading, toWire}
+use Rattle.reader.specs.Promise.{answerOf, Taken}
+use Rattle.reader.specs.declared.Answer as declared
+use Rattle.reader.specs.declared.Answer.the-variants.{Message, Refused}
+use Rattle.lines.specs.Lines.{refusalLine, shown, asHex, wireLine}
+use Rattle.lines.specs.Calls.{Told, told, callLine, told-line}
+
+-- ---- the reader's answer
+told-as : (s m : List ℕ) {a : Answer} {m′ : List ℕ} → a ≡ toWire s m .answer → m′ ≡ toWire s m .buffer → Told asHex a (shown asHex (length m) 23 (reading s)) m m′
+unfolding toWire
+told-as s m {a} {m′} e f = rw (e, f) (told asHex 23 (reading s) m)
+
+-- what `towire` prints for a text is what a call reports and leaves, whatever its buffer of that length held
+pub call-line : (s m : List ℕ) → callLine asHex (toWire s m .answer) (toWire s m .buffer) ≡ shown asHex (length m) 23 (reading s)
+call-line s m = told-line asHex (toWire s m .answer) _ m (toWire s m .buffer) (told-as s m refl refl)
+
+-- ---- the ways to an answer
+module _ {s m m′ : List ℕ} {a : declared.Answer} (k : length m ≡ 4096) (p : Taken s m a m′) where
+  told-here : {given : Answer} → answerOf a ≡ given → Told asHex given (shown asHex 4096 23 (reading s)) m m′
+  told-here e = rw (sym k) (told-as s m (sym e ∙ p .answers) (p .leaves))
+
+  -- a message: its octets in hexadecimal
+  module _ {n : ℕ} (e : a ≡ Message n) where
+    pub message-within : n ≤ 4096
+    message-within = let (l, q, f, h, g) = told-here (ap answerOf e) in omega arith
+
+    pub message-answer : {b b′ : List ℕ} {r : ℕ} → Wrote b 0 (asHex (take (n - 0) m′)) b′ r → Wrote b 0 (shown asHex 4096 23 (reading s)) b′ r
+    message-answer w =
+        let z : n - 0 ≡ n = omega arith in
+        rw (sym (told-line asHex (success n) _ m m′ (told-here (ap answerOf e)))) (rw z at w)
+
+  -- or the refusal
+  pub refused-answer : {number : ℕ} → a ≡ Refused number → {b b′ : List ℕ} {r : ℕ} → Wrote b 0 (refusalLine number 0) b′ r → Wrote b 0 (shown asHex 4096 23 (reading s)) b′ r
+  refused-answer {number} e w = rw (told-here (ap answerOf e) .0) w
+
+-- what is left in the message buffer
+unfoldable pub wireLeft : List ℕ → List ℕ → List ℕ
+wireLeft s m = cond (ltb 65536 (length s)) m (toWire s m .buffer)
+
+module _ (s : List ℕ) where
+  -- a line that is too long
+  module _ (h : 65536 < length s) where
+    pub long-answer : {b b′ : List ℕ} {r : ℕ} → Wrote b 0 (refusalLine 31 0) b′ r → Wrote b 0 (wireLine s) b′ r
+    unfolding wireLine
+    long-answer w = rw (lt-ltb 65536 (length s) h) w
+
+    pub long-left : (m : List ℕ) → m ≡ wireLeft s m
+    unfolding wireLeft
+    long-left m = rw (lt-ltb 65536 (length s) h)
+
+  -- any other
+  module _ (h : length s ≤ 65536) where
+    pub read-answer : {b b′ : List ℕ} {r : ℕ} → Wrote b 0 (shown asHex 4096 23 (reading s)) b′ r → Wrote b 0 (wireLine s) b′ r
+    unfolding wireLine
+    read-answer w = rw (le-ltb 65536 (length s) h) w
+
+    pub read-left : (m : List ℕ) {m′ : List ℕ} → m′ ≡ toWire s m .buffer → m′ ≡ wireLeft s m
+    unfolding wireLeft
+    read-left m e = rw (le-ltb 65536 (length s) h) e
