@@ -1,5 +1,6 @@
 -- `lines::put_reading` meets its contract: a line within the limit, or one that is too long. Assumes nothing.
 use borrow.Author.Needs.{needs}
+use native.Mathlib.Omega.{arith}
 use Rattle.lines.specs.Wire.{long-answer, long-left, read-answer, read-left}
 use Rattle.lines.proofs.put_reading.Statement.{statement}
 use Rattle.lines.proofs.put_reading.Tie as tie
@@ -15,8 +16,8 @@ same-length-2 c = search needs
 
 returns : tie.Need-returns
 returns c = (
-  read-answer _ (c .before .before .before .before .before .before .before .if1 .taken) (c .before .before .before .before .put-wire .ensures .0),
-  (search needs, read-left _ (c .before .before .before .before .before .before .before .if1 .taken) _ (c .before .before .before .before .put-wire .ensures .1 .1)),
+  read-answer _ (omega (arith, c .before .before .before .before .before .before .before .if1 .taken)) (c .before .before .before .before .put-wire .ensures .0),
+  (search needs, read-left _ (omega (arith, c .before .before .before .before .before .before .before .if1 .taken)) _ (c .before .before .before .before .put-wire .ensures .1 .1)),
 )
 
 put-refusal-requires : tie.Need-put-refusal-requires
@@ -26,7 +27,7 @@ same-length-3 : tie.Need-same-length-3
 same-length-3 c = search needs
 
 returns-2 : tie.Need-returns-2
-returns-2 c = (long-answer _ (c .before .before .before .before .if1 .left) (c .before .before .put-refusal .ensures .0), (search needs, long-left _ (c .before .before .before .before .if1 .left) _))
+returns-2 c = (long-answer _ (omega (arith, c .before .before .before .before .if1 .left)) (c .before .before .put-refusal .ensures .0), (search needs, long-left _ (omega (arith, c .before .before .before .before .if1 .left)) _))
 
 pub put-reading-spec : {M : Type 1} → statement M
 put-reading-spec =
