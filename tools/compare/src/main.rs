@@ -7,43 +7,16 @@ mod proved;
 mod worlds;
 
 fn check(seed: u64, count: usize) -> Result<(), String> {
-    println!(
-        "random messages: {} agree",
-        checks::random_messages(seed, count)?
-    );
-    println!(
-        "exact rooms: {} agree",
-        checks::exact_rooms(seed, count / 20)?
-    );
-    println!(
-        "look-alike names: {} texts, all different",
-        checks::look_alikes(3)?
-    );
-    println!(
-        "tails of small messages: {} cuts agree",
-        worlds::every_tail()?
-    );
-    println!(
-        "pointer targets in short messages: {} agree",
-        worlds::every_target()?
-    );
+    println!("random messages: {} agree", checks::random_messages(seed, count)?);
+    println!("exact rooms: {} agree", checks::exact_rooms(seed, count / 20)?);
+    println!("look-alike names: {} texts, all different", checks::look_alikes(3)?);
+    println!("tails of small messages: {} cuts agree", worlds::every_tail()?);
+    println!("pointer targets in short messages: {} agree", worlds::every_target()?);
     println!("random texts: {} agree", checks::random_texts(seed, count)?);
-    println!(
-        "texts of large messages: {} agree",
-        checks::large_texts(seed, count / 200)?
-    );
-    println!(
-        "texts padded to the limits: {} agree",
-        checks::padded_texts(seed, count / 20)?
-    );
-    println!(
-        "exact rooms of messages: {} agree",
-        checks::exact_message_rooms(seed, count / 20)?
-    );
-    println!(
-        "there and back: {} messages",
-        checks::there_and_back(seed, count / 4)?
-    );
+    println!("texts of large messages: {} agree", checks::large_texts(seed, count / 200)?);
+    println!("texts padded to the limits: {} agree", checks::padded_texts(seed, count / 20)?);
+    println!("exact rooms of messages: {} agree", checks::exact_message_rooms(seed, count / 20)?);
+    println!("there and back: {} messages", checks::there_and_back(seed, count / 4)?);
     Ok(())
 }
 

@@ -85,9 +85,7 @@ pub fn every_target() -> Result<usize, String> {
                 proved::to_text(&pool[..length], &mut ours)
             });
             if answers[0] != answers[1] {
-                return Err(format!(
-                    "{message:02X?}: {answers:?} with different leftovers"
-                ));
+                return Err(format!("{message:02X?}: {answers:?} with different leftovers"));
             }
             compared += 1;
         }
