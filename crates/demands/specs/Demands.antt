@@ -7,12 +7,12 @@ use lib.Dec.{T}
 use lib.ListN.{length, drop}
 use Rattle.octets.specs.Lists.{All}
 use Rattle.octets.specs.Codec.{streams, prefix-free}
-use Rattle.octets.specs.Answer.{Answer, success, refusal, reported, written, delivered-room, delivered-none, delivered-same, delivered-stays}
+use Rattle.octets.specs.Answer.{Answer, success, refusal, reported, delivered-room, delivered-none, delivered-same, delivered-stays}
 use Rattle.records.specs.Message.{Message, form, valid?}
 use Rattle.records.specs.Decode.{Decoded, accepted, refused, decode}
 use Rattle.records.specs.MessageLaws.{decode-valid, forms-equal}
 use Rattle.json.specs.Text.{text}
-use Rattle.json.specs.Converted.{outputOf, converted, toText}
+use Rattle.json.specs.Converted.{converted, toText}
 use Rattle.strict.specs.ReadingLaws.{Whole, text-splits, text-filled}
 use Rattle.demands.specs.Calls.{Call, Made, leftBy, Fits, Room, textOf, stream, addForm, formsOf}
 

@@ -1,7 +1,6 @@
 -- The marked examples of document 01, one row each, and one theorem over the table. Assumes nothing.
 use mathlib.Core.Path.{_≡_, refl}
 use mathlib.Core.List.{List, [], _∷_, map}
-use Prim.Native.Nat.{ℕ}
 use Prim.Native.String.{String}
 use Rattle.octets.specs.Lists.{hexed, lookup, key?, textOf, each}
 use Rattle.octets.specs.Decimal.{decimal}

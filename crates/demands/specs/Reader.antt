@@ -3,12 +3,11 @@
 use mathlib.Core.Path.{_≡_, refl, sym, _∙_, ap, subst}
 use mathlib.Core.Bool.{Bool, true, false, cond}
 use mathlib.Core.Option.{none, some}
-use mathlib.Core.List.{List, [], _∷_, _++_}
+use mathlib.Core.List.{List, [], _++_}
 use Prim.Native.Nat.{ℕ, _≤_, _<_}
 use borrow.Author.Tests.{leb-true}
-use lib.Dec.{T, leb}
+use lib.Dec.{leb}
 use lib.ListN.{length, drop}
-use Rattle.octets.specs.Lists.{Octets}
 use Rattle.octets.specs.Parsed.{took, stuck}
 use Rattle.octets.specs.Answer.{Output, output, refused, Answer, success, refusal, Left, reported, written, delivered, delivered-room, delivered-none, delivered-same, delivered-stays}
 use Rattle.records.specs.Message.{Message, form}

@@ -5,7 +5,7 @@ use mathlib.Core.List.{List}
 use Prim.Native.Nat.{ℕ, _+_, _≤_, _<_}
 use lib.ListN.{length, getD, drop, drop-of-length-le}
 use Rattle.octets.specs.Lists.{all}
-use Rattle.names.specs.NameLaws.{drop-one}
+use Rattle.octets.specs.Fields.{drop-one}
 
 -- v is the whole answer, by the octets from `i` on
 pub record Rest (p : ℕ → Bool) (s : List ℕ) (v : Bool) (i : ℕ) : Type 0 where

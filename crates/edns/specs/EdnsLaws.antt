@@ -11,9 +11,9 @@ use lib.ListN.{length, getD, take, drop, length-append, length-drop, take-append
 use lib.Seq.{drop-drop, take-append-seam, drop-append-seam, length-take-le}
 use Rattle.octets.specs.Lists.{all, All, none?, octet?, Octets, word?, long?, lookup, key?, each}
 use Rattle.octets.specs.Bits.{is-true, both, and-left, and-right, All-append, octets-in, octets-test}
-use Rattle.octets.specs.Fields.{two, twoAt, two-back, getD-octet, twoAt-word, two-octets}
+use Rattle.octets.specs.Fields.{two, twoAt, two-back, getD-octet, twoAt-word, two-octets, drop-one}
 use Rattle.names.specs.Name.{nameForm, name?}
-use Rattle.names.specs.NameLaws.{drop-octets, take-octets, drop-one}
+use Rattle.names.specs.NameLaws.{drop-octets, take-octets}
 use Rattle.names.specs.Walk.{part}
 use Rattle.records.specs.Layout.{layoutOf, layouts, laid, laid?, rdataAt, fits?}
 use Rattle.records.specs.Message.{Record, bit?, record?}

@@ -1,15 +1,15 @@
 -- Elements of the additional section: an ordinary record, or an EDNS element. Assumes nothing.
-use mathlib.Core.Path.{_≡_, refl, sym, _∙_, ap, subst}
+use mathlib.Core.Path.{_≡_, refl, sym, _∙_, subst}
 use mathlib.Core.Logic.{_⊎_, inl, inr}
-use mathlib.Core.Bool.{Bool, true, false, not, cond, _&&_}
-use mathlib.Core.List.{List, [], _∷_, _++_}
-use Prim.Native.Nat.{ℕ, _+_, _≤_, _<_}
+use mathlib.Core.Bool.{Bool, true, false, not, cond}
+use mathlib.Core.List.{List}
+use Prim.Native.Nat.{ℕ, _≤_, _<_}
 use native.Mathlib.Omega.{arith}
 use borrow.Author.Tests.{lt-ltb, le-ltb}
 use lib.Dec.{T, ltb, ltb→lt, nltb→le}
 use lib.ListN.{length, drop}
 use Rattle.octets.specs.Lists.{ascii}
-use Rattle.octets.specs.Parsed.{Parsed, took, stuck, and-then, or-else, strip, strip-sound, held}
+use Rattle.octets.specs.Parsed.{Parsed, took, and-then, strip-sound, held}
 use Rattle.octets.specs.Codec.{apart-texts}
 use Rattle.edns.specs.Edns.{EdnsItem}
 use Rattle.json.specs.Document.{RecordItem, Item, ordinary, edns}
@@ -18,10 +18,10 @@ use Rattle.strict.specs.Parser.{entry, ednsElement, itemCodec}
 use Rattle.strict.specs.Meaning.{itemAdditional, item?}
 use Rattle.json.specs.View.{additional?, opt-entry?, recordOf}
 use Rattle.tokens.specs.declared.Cursor.{Cursor}
-use Rattle.tokens.specs.Cursor.{Safe, Keeps, Passed, Stopped}
+use Rattle.tokens.specs.Cursor.{Safe, Passed, Stopped}
 use Rattle.tokens.specs.Step.{Found, found-as, found-map, found-lit, found-stuck, found-first, found-second, found-neither, choice, Put, put-from, put-as, Step}
 use Rattle.tokens.specs.Leaf.{found-same, passed-took}
-use Rattle.entries.specs.Meant.{recordMeant?, recordOctets, itemMeant?, itemOctets, itemOpt?, itemShown?, hides?, itemHides?}
+use Rattle.entries.specs.Meant.{recordMeant?, recordOctets, itemMeant?, itemOctets, itemOpt?, itemShown?, itemHides?}
 use Rattle.entries.specs.Reading.{recordRest, entry-parse, Facts, RecordFacts, RecordRead}
 use Rattle.members.specs.Element.{ednsRest, edns-parse, element?, elementForm}
 use Rattle.entries.specs.declared.Entry.{Entry}

@@ -3,18 +3,17 @@ use mathlib.Core.Path.{_≡_, refl, sym, _∙_, ap, subst}
 use mathlib.Core.Bool.{Bool, true, false, not, cond, _&&_, _||_}
 use mathlib.Core.List.{List, [], _∷_, _++_, map, append-assoc}
 use Prim.Native.Nat.{ℕ, _+_, _*_}
-use lib.Dec.{T, eqb, eqb→eq, eqb-refl}
+use lib.Dec.{T, eqb, eqb→eq}
 use lib.ListN.{length, length-map}
 use Rattle.octets.specs.Lists.{all, All, count, each, word?}
 use Rattle.octets.specs.Bits.{both, and-left, and-right}
 use Rattle.octets.specs.Fields.{two}
-use Rattle.records.specs.Message.{Header, Question, Record, bit?, four-bits?, header?, question?, record?, section?, flagsHigh, flagsLow, questionForm, recordForm, headerForm, form}
+use Rattle.records.specs.Message.{Header, bit?, four-bits?, header?, question?, record?, section?, questionForm, recordForm, headerForm, form, opt?}
 use Rattle.options.specs.Options.{absent?}
 use Rattle.edns.specs.Edns.{ednsOf}
-use Rattle.json.specs.View.{Additional, opt?, additional?, opt-entry?, settled?, additionals?, view?, recordOf, messageOf}
-use Rattle.json.specs.View as view
+use Rattle.json.specs.View.{additional?, opt-entry?, settled?, additionals?, view?, recordOf, messageOf}
 use Rattle.json.specs.Document.{RecordItem, Item, ordinary, edns, Document}
-use Rattle.strict.specs.Meaning.{itemRecord, itemEdns, itemAdditional, documentView, recordItem?, item?, ednsItem?, counts?, agrees?, meaning}
+use Rattle.strict.specs.Meaning.{itemRecord, itemAdditional, documentView, recordItem?, item?, counts?, agrees?}
 use Rattle.strict.specs.Parser.{Head, headOf}
 
 -- ---- entries

@@ -3,38 +3,37 @@ use mathlib.Core.Path.{_≡_, refl, sym, _∙_, ap, subst}
 use mathlib.Core.Bool.{Bool, true, false, not, cond, _&&_}
 use mathlib.Core.Option.{Option, none, some}
 use mathlib.Core.List.{List, [], _∷_, _++_, append-assoc}
-use Prim.Native.Nat.{ℕ, _+_, _-_, _*_, _/_, _%_, _≤_, _<_, min}
+use Prim.Native.Nat.{ℕ, _+_, _-_, _/_, _%_, _≤_, _<_}
 use native.Mathlib.Omega.{arith}
-use borrow.Author.Tests.{lt-ltb, le-ltb, le-leb, lt-leb, eq-eqb, ne-eqb, eqb-false}
-use lib.Dec.{T, leb, ltb, eqb, ltb→lt, lt→ltb, nltb→le, eqb→eq}
+use borrow.Author.Tests.{lt-ltb, le-ltb, le-leb, eq-eqb, ne-eqb, eqb-false}
+use lib.Dec.{T, ltb, eqb, ltb→lt, lt→ltb, nltb→le, eqb→eq}
 use lib.ListN.{length, take, drop}
 use Rattle.octets.specs.Lists.{ascii, all, none?, Octets, octet?, word?, long?, paired, lookup}
-use Rattle.octets.specs.Bits.{is-true, is-false, and-left, and-right, octets-test}
+use Rattle.octets.specs.Bits.{is-true, and-left, and-right, octets-test}
 use Rattle.octets.specs.Fields.{two, four}
-use Rattle.octets.specs.Parsed.{Parsed, took, stuck, and-then, or-else, strip, took≢stuck}
+use Rattle.octets.specs.Parsed.{Parsed, took, stuck, and-then, strip, took≢stuck}
 use Rattle.octets.specs.Codec.{Codec, exact, _▷_, _⊗_, _◁_}
 use Rattle.octets.specs.Decimal.{natural, number, till}
 use Rattle.octets.specs.Hexadecimal.{hex}
 use Rattle.octets.specs.Overlay.{Wrote, nothing}
 use Rattle.names.specs.Name.{Name, name?, nameForm}
 use Rattle.records.specs.Layout.{layouts, layoutOf, rdataAt, fits?}
-use Rattle.records.specs.Message.{Question, record?, question?, questionForm, recordForm}
+use Rattle.records.specs.Message.{record?, question?, questionForm, recordForm, opt?}
 use Rattle.spelling.specs.Spelling.{Signed}
 use Rattle.options.specs.Options.{absent?}
 use Rattle.edns.specs.Edns.{ednsOf}
 use Rattle.edns.specs.Element.{showsEdns, present?, shows-edns}
-use Rattle.json.specs.View.{opt?}
-use Rattle.json.specs.Document.{RecordItem, Item}
+use Rattle.json.specs.Document.{RecordItem}
 use Rattle.strict.specs.Grammar.{SignedNumber}
 use Rattle.strict.specs.Spelt.{name, signedNumber}
 use Rattle.strict.specs.Parser.{question, entry}
-use Rattle.strict.specs.Meaning.{itemRecord, recordItem?, ttl?, unsigned}
+use Rattle.strict.specs.Meaning.{itemRecord, ttl?, unsigned}
 use Rattle.strict.specs.MeaningLaws.{unsigned-back}
 use Rattle.tokens.specs.declared.Cursor.{Cursor}
 use Rattle.tokens.specs.declared.Amount.{Amount}
 use Rattle.tokens.specs.declared.Span.{Span}
 use Rattle.tokens.specs.declared.Ttl.{Ttl}
-use Rattle.tokens.specs.Cursor.{left-of, rest, Safe, Keeps, keeps-then, Passed, Reads, stopped, taken}
+use Rattle.tokens.specs.Cursor.{left-of, Keeps, Passed, Reads, stopped, taken}
 use Rattle.tokens.specs.Step.{Found, found-as, found-lit, found-map, found-behind, found-pair, found-at, Put, put-then, put-from, put-to, put-as, put-emit, Step, step-lit, step-pair, step-behind, step-on, Judged, Emits, emits, emits-over, Over}
 use Rattle.digits.specs.Digits.{Hexes, hexes, paired-hexes, paired-half}
 use Rattle.tokens.specs.Number.{capped, NumberRead}

@@ -1,6 +1,6 @@
 -- Arrays of entries: how a loop reads them, and what it tells of them. Assumes nothing.
 use mathlib.Core.Path.{_≡_, refl, sym, _∙_, ap, subst}
-use mathlib.Core.Logic.{_⊎_, ⊎-elim}
+use mathlib.Core.Logic.{⊎-elim}
 use mathlib.Core.Bool.{Bool, true, false, not, cond, _&&_, _||_}
 use mathlib.Core.List.{List, [], _∷_, _++_, nil≢cons, head-eq-of-cons-eq}
 use Prim.Native.Nat.{ℕ, _+_, _-_, _≤_, _<_, min}
@@ -8,25 +8,25 @@ use native.Mathlib.Omega.{arith}
 use borrow.Author.Tests.{not-true, not-false, le-leb}
 use lib.Dec.{T, eqb, eqb→eq, eqb-refl}
 use lib.ListN.{length, drop, getD, length-append, length-drop, drop-of-length-le, List·getD-eq-default}
-use Rattle.octets.specs.Lists.{ascii, all, count, each, listed}
+use Rattle.octets.specs.Lists.{ascii, all, count, each}
 use Rattle.octets.specs.Bits.{and-left}
-use Rattle.octets.specs.Parsed.{Parsed, took, stuck, and-then, otherwise, strip, strip-sound, is-stuck}
-use Rattle.octets.specs.Codec.{Any, Codec, Avoids, fronts, exact, array, repeated, _▷_}
+use Rattle.octets.specs.Parsed.{Parsed, took, and-then, otherwise, strip, strip-sound, is-stuck}
+use Rattle.octets.specs.Codec.{Any, Codec, Avoids, fronts, exact, _▷_}
 use Rattle.octets.specs.Overlay.{nothing, each-append, each-single}
-use Rattle.records.specs.Message.{Question, question?, questionForm}
-use Rattle.json.specs.View.{opt?}
+use Rattle.octets.specs.Fields.{drop-one}
+use Rattle.records.specs.Message.{Question, question?, questionForm, opt?}
 use Rattle.json.specs.Document.{RecordItem, Item, questionText, recordText, itemText}
 use Rattle.strict.specs.Grammar.{QuestionIn, RecordIn, ItemIn}
-use Rattle.strict.specs.Parser.{question, entry, itemCodec, question-avoids, entry-avoids, item-avoids}
+use Rattle.strict.specs.Parser.{question, entry, itemCodec}
 use Rattle.strict.specs.Meaning.{itemRecord}
 use Rattle.tokens.specs.declared.Cursor.{Cursor}
-use Rattle.tokens.specs.Cursor.{drop-one, Safe, Keeps, Passed, Came, went-keeps, Reads, reads-got, reads-bad, reads-took, reads-stop, Got}
+use Rattle.tokens.specs.Cursor.{Safe, Keeps, Passed, Came, went-keeps, reads-got, reads-bad, reads-took, reads-stop, Got}
 use Rattle.tokens.specs.Step.{Found, found-as, found-lit, found-map, found-pair, found-stuck, found-there, moves, Put, put-from, put-to, put-then, put-as, Step}
 use Rattle.tokens.specs.Leaf.{found-same, found-took}
 use Rattle.tokens.specs.Many.{le-or-lt, run-of, Going, going-start, going-more, going-end, going-stop, shorter}
 use Rattle.entries.specs.Meant.{any, recordMeant?, recordOctets, hides?, itemMeant?, itemOctets, itemOpt?, itemShown?, itemHides?}
-use Rattle.entries.specs.Reading.{entry-parse, Facts, RecordFacts, RecordRead}
-use Rattle.entries.specs.Items.{ItemFacts, ItemRead}
+use Rattle.entries.specs.Reading.{entry-parse, Facts, RecordRead}
+use Rattle.entries.specs.Items.{ItemRead}
 use Rattle.entries.specs.declared.Entry.{Entry}
 use Rattle.entries.specs.declared.Section.{Section}
 use Rattle.entries.specs.declared.Element.{Element}

@@ -1,36 +1,34 @@
 -- The ways of the writers of records: as they are, or as an EDNS element. Assumes nothing.
 use mathlib.Core.Path.{_≡_, refl, sym, ap, _∙_, subst}
-use mathlib.Core.Bool.{Bool, true, false, not, _&&_, cond}
+use mathlib.Core.Bool.{Bool, true, false, not, _&&_, cond, false≢true}
 use mathlib.Core.Option.{Option, none, some}
 use mathlib.Core.List.{List, [], _∷_, _++_}
-use Prim.Native.Nat.{ℕ, _+_, _-_, _≤_}
+use Prim.Native.Nat.{ℕ, _+_, _-_}
 use native.Mathlib.Omega.{arith}
 use borrow.Author.Tests.{ne-eqb, eq-eqb, eqb-true}
-use lib.Dec.{T, eqb}
+use lib.Dec.{eqb}
 use lib.ListN.{length, take, length-append}
 use Rattle.octets.specs.Lists.{ascii, none?, lookup}
 use Rattle.octets.specs.Overlay.{Wrote, then}
 use Rattle.octets.specs.Hexadecimal.{hexText}
-use Rattle.names.specs.Name.{Name, nameForm, Fault}
+use Rattle.names.specs.Name.{Name, nameForm}
 use Rattle.names.specs.Walk.{part}
-use Rattle.names.specs.NameLaws.{Sized}
+use Rattle.names.specs.NameLaws.{Sized, form-some}
 use Rattle.names.specs.declared.Fault.{Fault as FaultRead}
 use Rattle.records.specs.Layout.{laid, misfit, layouts, layoutOf, rdataAt}
 use Rattle.records.specs.Layout as layout
-use Rattle.records.specs.Message.{Record}
-use Rattle.records.specs.Read.{Entry, entry, bad}
+use Rattle.records.specs.Message.{Record, opt?}
+use Rattle.records.specs.Read.{Entry, entry}
 use Rattle.records.specs.RecordLaws.{laid-octets, misfit≢laid, filled}
 use Rattle.records.specs.Parts.{HeadOf, headAt, withRdata, with-rdata, record-head, head-next}
 use Rattle.records.specs.Answer.{padded, headRead, recordRead}
-use Rattle.records.specs.Putting.{form-part}
+use Rattle.records.specs.Told.{form-part, headed}
 use Rattle.records.specs.declared.Head.{Head}
-use Rattle.records.specs.declared.Record.{Record as RecordAnswer}
 use Rattle.records.specs.declared.Record.the-variants as record′
 use Rattle.records.specs.declared.RecordRead.{RecordRead}
 use Rattle.spelling.specs.Spelling.{signed, signedText}
 use Rattle.edns.specs.Edns.{Edns, ednsOf}
 use Rattle.edns.specs.Element.{showsEdns, elementText, shows-edns, element-text}
-use Rattle.json.specs.View.{opt?}
 use Rattle.json.specs.ViewLaws.{entryOf}
 use Rattle.json.specs.Document.{recordText, itemText}
 use Rattle.json.specs.Text.{recordItem, item}
@@ -109,12 +107,8 @@ unfolding nameForm
 root-form [] = refl
 root-form (l ∷ n) = ne-eqb _ 1 λ e. some-octet n e
   where
-    long : (n : Name) → 1 ≤ length (nameForm n)
-    long [] = omega arith
-    long (l ∷ n) = omega arith
-
     some-octet : (n : Name) → length (length l ∷ (l ++ nameForm n)) ≡ 1 → ⊥
-    some-octet n e = let a = length-append l (nameForm n) in let b = long n in let c : length (length l ∷ (l ++ nameForm n)) ≡ 1 + length (l ++ nameForm n) = omega arith in omega arith
+    some-octet n e = let a = length-append l (nameForm n) in let b = form-some n in let c : length (length l ∷ (l ++ nameForm n)) ≡ 1 + length (l ++ nameForm n) = omega arith in omega arith
 
 -- the record of a head, where RDATA is read
 module _ (s : List ℕ) (k : HeadOf) (lone : Bool) where
@@ -149,9 +143,6 @@ module _ (s : List ℕ) (k : HeadOf) (lone : Bool) where
   as-element (misfit fault) p g q = absurd (misfit≢laid g)
 
 -- ---- what the test tells
-false≢true : false ≡ true → ⊥
-false≢true e = subst T (sym e) tt
-
 both-true : (a b : Bool) → (a && b) ≡ true → (a ≡ true) × (b ≡ true)
 both-true true b e = (refl, e)
 both-true false b e = absurd (false≢true e)
@@ -195,19 +186,6 @@ shows-lone s h true e k c p = rw (eq-eqb (h .kind) 41 k, ← c) p
 shows-lone s h false e k c p = absurd (false≢true (sym e))
 
 -- ---- records
--- what the code's answer says of the definition's
-abbrev Heading : RecordAnswer → List ℕ → Entry HeadOf → Type 0
-Heading (record′.Read h) l e = (k : HeadOf) × (next : ℕ) × (e ≡ entry k next) × (h ≡ headRead k) × (l ≡ padded (nameForm (k .name)))
-Heading (record′.Faulty f) l e = (fault : Fault) × (e ≡ bad fault)
-
-heading : (e : Entry HeadOf) → Heading (recordRead e .answer) (recordRead e .name) e
-unfolding recordRead
-heading (entry k next) = (k, next, refl, refl, refl)
-heading (bad fault) = (fault, refl)
-
-headed : (e : Entry HeadOf) {r : RecordRead} {y : RecordAnswer} → r ≡ recordRead e → r .answer ≡ y → Heading y (r .name) e
-headed e {r} {y} p q = subst (λ (z : RecordAnswer). Heading z (r .name) e) q (subst (λ (z : RecordRead). Heading (z .answer) (z .name) e) (sym p) (heading e))
-
 -- the record's text by its head and RDATA
 record-text : (lone : Bool) (s : List ℕ) (at : ℕ) (k : HeadOf) (next : ℕ) → headAt s at ≡ entry k next
     → recordTextAt lone s at ≡ texts (entryText (rcodeOf s) lone) (filled (withRdata k) (k .rdata + k .length) (rdataAt true s (k .type) (k .rdata) (k .length)))
@@ -219,7 +197,7 @@ record-text lone s at k next e =
 module _ (s : List ℕ) (at : ℕ) (lone : Bool) {r : RecordRead} (e : r ≡ recordRead (headAt s at)) where
   pub record-fails : {f : FaultRead} {b b′ : List ℕ} {to : ℕ} → r .answer ≡ record′.Faulty f → Does (recordTextAt lone s at) b to b′ Faulty
   unfolding recordTextAt
-  record-fails p = let (fault, u) = headed (headAt s at) e p in rw (record-head s at, u) fails
+  record-fails p = let (fault, u, v) = headed (headAt s at) e p in rw (record-head s at, u) fails
 
   module _ {h : Head} (p : r .answer ≡ record′.Read h) where
     pub record-element : {t : Bool} {rcode : ℕ} {b b′ : List ℕ} {to n : ℕ} → t ≡ shows? s h lone → t ≡ true → rcode ≡ rcodeOf s

@@ -6,7 +6,7 @@ use mathlib.Core.List.{List, map}
 use Prim.Native.Nat.{ℕ}
 use lib.Dec.{eqb}
 use Rattle.octets.specs.Lists.{all, count}
-use Rattle.records.specs.Message.{Header, Question, Record, Message, header?, question?, record?, section?}
+use Rattle.records.specs.Message.{Header, Question, Record, Message, header?, question?, record?, section?, opt?}
 use Rattle.edns.specs.Edns.{Edns, ednsOf, ednsRecord, edns?}
 use Rattle.options.specs.Options.{absent?}
 
@@ -22,9 +22,6 @@ pub record View : Type 0 where
   pub answers : List Record
   pub authority : List Record
   pub additional : List Additional
-
-abbrev pub opt? : Record → Bool
-opt? r = eqb (r .type) 41
 
 -- the element, if there is one, else the record
 abbrev pub element : Record → Option Edns → Additional

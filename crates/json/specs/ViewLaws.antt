@@ -12,11 +12,11 @@ use Rattle.octets.specs.Lists.{all, All, count, word?, each}
 use Rattle.octets.specs.Bits.{both, and-left, and-right, all→All}
 use Rattle.octets.specs.Fields.{two, four}
 use Rattle.names.specs.Name.{nameForm}
-use Rattle.records.specs.Message.{Header, Question, Record, Message, headerForm, questionForm, recordForm, form, header?, question?, record?, section?, valid?}
+use Rattle.records.specs.Message.{Header, Question, Record, Message, headerForm, questionForm, recordForm, form, header?, question?, record?, section?, valid?, opt?}
 use Rattle.options.specs.Options.{EdnsOption, absent?}
 use Rattle.edns.specs.Edns.{optionForm, Edns, ednsOf, ednsRecord, small?, small-option?}
 use Rattle.edns.specs.EdnsLaws.{option-long, edns-back, edns-record, edns-valid}
-use Rattle.json.specs.View.{Additional, ordinary, edns, View, opt?, recognised, additionalOf, viewOf, recordOf, messageOf, additional?, opt-entry?, settled?, additionals?, view?}
+use Rattle.json.specs.View.{Additional, ordinary, edns, View, recognised, additionalOf, viewOf, recordOf, messageOf, additional?, opt-entry?, settled?, additionals?, view?}
 use Rattle.json.specs.Limits.{small-rdata?, small-options?, within?}
 
 -- the record of a valid entry is valid

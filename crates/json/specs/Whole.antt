@@ -7,12 +7,11 @@ use lib.Dec.{eqb}
 use lib.ListN.{length}
 use Rattle.octets.specs.Lists.{ascii, ended, listed, count}
 use Rattle.octets.specs.Fields.{twoAt}
-use Rattle.names.specs.Name.{Fault}
-use Rattle.records.specs.Message.{Question, Record, Message}
+use Rattle.records.specs.Message.{Question, Record, Message, opt?}
 use Rattle.records.specs.Read.{Entry, entry, bad, Reached, reached, stopped, Section, questionAt, recordAt, sectionAt, sectionFrom}
 use Rattle.records.specs.Decode.{headerOf, sectionsOf, messageOf, decode, accepted}
-use Rattle.records.specs.MessageLaws.{section-step, section-stop, from-reached, section-count, from-count, decode-back}
-use Rattle.json.specs.View.{Additional, opt?, additionalOf, viewOf}
+use Rattle.records.specs.MessageLaws.{section-step, section-stop, from-reached, section-count, from-count, decode-back, stopped≢reached}
+use Rattle.json.specs.View.{Additional, additionalOf, viewOf}
 use Rattle.json.specs.ViewLaws.{entryOf, map-long, additional-map}
 use Rattle.json.specs.Document.{Document, questionText, recordText, itemText, documentText}
 use Rattle.json.specs.Text.{recordItem, item, documentOf, viewText, text}
@@ -22,13 +21,6 @@ use Rattle.json.specs.declared.Element.{Element}
 use Rattle.json.specs.declared.Element.the-variants as element
 
 -- ---- sections
-abbrev Came : Reached → Type 0
-Came (reached at) = Unit {0}
-Came (stopped at fault) = ⊥
-
-stopped≢reached : {i : ℕ} {fault : Fault} {j : ℕ} → stopped i fault ≡ reached j → ⊥
-stopped≢reached e = subst Came (sym e) tt
-
 abbrev offset : Reached → ℕ
 offset (reached at) = at
 offset (stopped at fault) = at

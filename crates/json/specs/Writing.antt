@@ -7,13 +7,14 @@ use Prim.Native.Nat.{ℕ, _+_, _-_, _*_, _≤_, _<_}
 use native.Mathlib.Omega.{arith}
 use borrow.Author.Tests.{ne-eqb}
 use lib.Dec.{ltb}
-use lib.ListN.{length, take, drop, replicate, length-append, length-take}
-use lib.Seq.{drop-drop, take-append-seam, drop-append-seam}
+use lib.ListN.{length, take, drop, length-take}
+use lib.Seq.{take-append-seam, drop-append-seam}
 use Rattle.octets.specs.Lists.{ascii, each, ended}
 use Rattle.octets.specs.Fields.{twoAt, fourAt}
 use Rattle.octets.specs.Overlay.{Wrote, then}
 use Rattle.octets.specs.Decimal.{decimal}
 use Rattle.octets.specs.Hexadecimal.{hexOctet, hexText}
+use Rattle.records.specs.Told.{form-part, asked, tells, pieces-next}
 use Rattle.names.specs.Name.{Name, nameForm, cut, Fault}
 use Rattle.names.specs.Walk.{part, message, Named, named, faulty, nameAt}
 use Rattle.names.specs.NameLaws.{Sized, read-sized, named-name, faulty≢named}
@@ -23,14 +24,11 @@ use Rattle.records.specs.Layout as layout
 use Rattle.records.specs.Message.{Question}
 use Rattle.records.specs.Read.{Entry, entry, bad, with-name, unfit, questionAt}
 use Rattle.records.specs.RecordLaws.{bad≢entry, entry-value}
-use Rattle.records.specs.Parts.{fitted, begun, begunAt, question-begun, HeadOf, headAt, headed, layoutIn, rdata-pieces, StepOf, stepAt, follow, pieces-step, part-to, name-to, done, stops}
-use Rattle.records.specs.Answer.{padded, askedOf, questionRead, plainly, stepRead}
-use Rattle.records.specs.Putting.{form-part}
+use Rattle.records.specs.Parts.{fitted, begun, begunAt, question-begun, HeadOf, headAt, headed, layoutIn, rdata-pieces, stepAt}
+use Rattle.records.specs.Answer.{padded, askedOf, questionRead, stepRead}
 use Rattle.records.specs.declared.Asked.{Asked}
-use Rattle.records.specs.declared.Question.{Question as QuestionAnswer}
 use Rattle.records.specs.declared.Question.the-variants as question
 use Rattle.records.specs.declared.QuestionRead.{QuestionRead}
-use Rattle.records.specs.declared.Step.{Step}
 use Rattle.records.specs.declared.Step.the-variants as step
 use Rattle.records.specs.declared.Stepped.{Stepped}
 use Rattle.spelling.specs.Spelling.{labelText, nameText, signed, signedText}
@@ -108,25 +106,6 @@ head-sized s at h next e = begun-entry (λ (h : HeadOf). h .name) s (2 ∷ 2 ∷
     same n i a j p = room n (ltb (length s) (i + 10 + twoAt s (i + 8))) (record { kind = cut; octet = i + 10 }) (record { name = n; type = twoAt s i; class = twoAt s (i + 2); ttl = fourAt s (i + 4); rdata = i + 10; length = twoAt s (i + 8) }) (i + 10 + twoAt s (i + 8)) a j refl p
 
 -- ---- questions
--- what the code's answer says of the definition's
-abbrev Asking : QuestionAnswer → List ℕ → Entry Question → Type 0
-Asking (question.Read a) l e = (q : Question) × (next : ℕ) × (e ≡ entry q next) × (a ≡ askedOf q next) × (l ≡ padded (nameForm (q .name)))
-Asking (question.Faulty f) l e = (fault : Fault) × (e ≡ bad fault)
-
-asking : (e : Entry Question) → Asking (questionRead e .answer) (questionRead e .name) e
-unfolding questionRead
-asking (entry q next) = (q, next, refl, refl, refl)
-asking (bad fault) = (fault, refl)
-
-asked : (e : Entry Question) {r : QuestionRead} {y : QuestionAnswer} → r ≡ questionRead e → r .answer ≡ y → Asking y (r .name) e
-asked e {r} {y} p q = subst (λ (z : QuestionAnswer). Asking z (r .name) e) q (subst (λ (z : QuestionRead). Asking (z .answer) (z .name) e) (sym p) (asking e))
-
--- an array has room for the form in its first octets
-form-room : (l o : List ℕ) (size : ℕ) → size ≡ length l → o ≡ padded l → size ≤ length o
-form-room l o size e p =
-    let q : length o ≡ length l + length (replicate {A = ℕ} (255 - length l) 0) = ap length p ∙ length-append l (replicate (255 - length l) 0) in
-    omega arith
-
 -- the texts that a question and a record begin with
 front : (t u v : List ℕ) → ascii "{\"NAME\":\"" ++ t ++ ascii ",\"TYPE\":" ++ u ++ ascii ",\"CLASS\":" ++ v ≡ ascii "{\"NAME\":\"" ++ t ++ (ascii ",\"TYPE\":" ++ u) ++ (ascii ",\"CLASS\":" ++ v)
 front t u v = simp append-assoc
@@ -145,7 +124,7 @@ question-parts q h = ap (λ (t : List ℕ). t ++ ascii "}") (front-text (q .name
 module _ (s : List ℕ) (at : ℕ) {r : QuestionRead} (e : r ≡ questionRead (questionAt s at)) where
   pub question-fails : {f : FaultRead} {b b′ : List ℕ} {to : ℕ} → r .answer ≡ question.Faulty f → Does (questionTextAt s at) b to b′ Faulty
   unfolding questionTextAt
-  question-fails p = let (fault, u) = asked (questionAt s at) e p in rw u fails
+  question-fails p = let (fault, u, v) = asked (questionAt s at) e p in rw u fails
 
   module _ {a : Asked} (p : r .answer ≡ question.Read a) where
     pub question-does : {b b₁ b₂ : List ℕ} {to n₁ n₂ : ℕ} → Wrote b to (startText (take (a .size - 0) (r .name)) (a .kind) (a .class)) b₁ n₁ → Wrote b₁ n₁ (125 ∷ []) b₂ n₂
@@ -189,32 +168,8 @@ unfolding rdataText
 rest-first s kind start size b to =
     record { goes = λ b′ r d. subst (λ (w : layout.Laid). Does (hexed (start + size) w) b to b′ r) (sym (rdata-pieces true s kind start size)) d }
 
--- what the code's step says of the definition's
-abbrev Tells : Step → List ℕ → StepOf → Type 0
-Tells (step.Part next) o x = x ≡ part-to next
-Tells (step.Name size next) o x = (n : Name) × (x ≡ name-to n next) × (size ≡ length (nameForm n)) × (o ≡ padded (nameForm n))
-Tells step.Done o x = x ≡ done
-Tells (step.Misfit f) o x = (fault : Fault) × (x ≡ stops fault)
-
-told : (x : StepOf) → Tells (stepRead x .step) (stepRead x .octets) x
-unfolding stepRead plainly
-told (part-to next) = refl
-told (name-to n next) = (n, refl, refl, refl)
-told done = refl
-told (stops fault) = (fault, refl)
-
-tells : (x : StepOf) {r : Stepped} {y : Step} → r ≡ stepRead x → r .step ≡ y → Tells y (r .octets) x
-tells x {r} {y} e q = subst (λ (z : Step). Tells z (r .octets) x) q (subst (λ (z : Stepped). Tells (z .step) (z .octets) x) (sym e) (told x))
-
 module _ {s : List ℕ} {l : List Piece} {start end at i : ℕ} {whole : Entry (List ℕ)} {b₀ b : List ℕ} {to next : ℕ} {r : Stepped}
     (w : Rest s l start end at i whole b₀ to b next) (e : r ≡ stepRead (stepAt (drop i l) s start end at)) where
-  -- one piece, then those behind it
-  one : (x : StepOf) → stepAt (drop i l) s start end at ≡ x → pieces true (drop i l) s start end at ≡ follow s at (λ (n : ℕ). pieces true (drop (i + 1) l) s start end n) x
-  one x q =
-      pieces-step (drop i l) s start end at
-      ∙ ap (λ (m : List Piece). follow s at (pieces true m s start end) (stepAt (drop i l) s start end at)) (drop-drop 1 i l)
-      ∙ ap (follow s at (λ (n : ℕ). pieces true (drop (i + 1) l) s start end n)) q
-
   behind : (xs : List ℕ) (n : ℕ) {b₁ : List ℕ} {n₁ : ℕ} → pieces true (drop i l) s start end at ≡ before xs (pieces true (drop (i + 1) l) s start end n)
       → Wrote b next (each hexOctet xs) b₁ n₁ → Rest s l start end n (i + 1) whole b₀ to b₁ n₁
   behind xs n q p =
@@ -226,26 +181,23 @@ module _ {s : List ℕ} {l : List Piece} {start end at i : ℕ} {whole : Entry (
   -- octets as they are
   pub rest-part : {n : ℕ} {b₁ : List ℕ} {n₁ : ℕ} → r .step ≡ step.Part n → Wrote b next (each hexOctet (take (n - at) (drop at s))) b₁ n₁
       → Rest s l start end n (i + 1) whole b₀ to b₁ n₁
-  rest-part {n} q p = behind (part s at (n - at)) n (one (part-to n) (tells _ e q)) p
+  rest-part {n} q p = behind (part s at (n - at)) n (pieces-next s l start end at i (tells _ e q)) p
 
   -- a name
   pub rest-name : {size n : ℕ} {b₁ : List ℕ} {n₁ : ℕ} → r .step ≡ step.Name size n → Wrote b next (each hexOctet (take (size - 0) (r .octets))) b₁ n₁
       → Rest s l start end n (i + 1) whole b₀ to b₁ n₁
   rest-name {size} {n} {b₁} {n₁} q p =
       let (m, x, y, z) = tells _ e q in
-      behind (nameForm m) n (one (name-to m n) x) (subst (λ (xs : List ℕ). Wrote b next (each hexOctet xs) b₁ n₁) (form-part (nameForm m) (r .octets) size y z) p)
-
-  pub name-room : {size n : ℕ} → r .step ≡ step.Name size n → size ≤ length (r .octets)
-  name-room {size} q = let (m, x, y, z) = tells _ e q in form-room (nameForm m) (r .octets) size y z
+      behind (nameForm m) n (pieces-next s l start end at i x) (subst (λ (xs : List ℕ). Wrote b next (each hexOctet xs) b₁ n₁) (form-part (nameForm m) (r .octets) size y z) p)
 
   -- the end
   pub rest-done : {b₁ : List ℕ} {n₁ : ℕ} → r .step ≡ step.Done → Wrote b next (34 ∷ []) b₁ n₁ → Does whole b₀ to b₁ (To end n₁)
   unfolding hexText
   rest-done {b₁} {n₁} q p =
-      w .goes b₁ (To end n₁) (subst (λ (x : layout.Laid). Does (hexed end x) b next b₁ (To end n₁)) (sym (one done (tells _ e q))) (wrote p))
+      w .goes b₁ (To end n₁) (subst (λ (x : layout.Laid). Does (hexed end x) b next b₁ (To end n₁)) (sym (pieces-next s l start end at i (tells _ e q))) (wrote p))
 
   -- a fault
   pub rest-misfit : {f : FaultRead} → r .step ≡ step.Misfit f → Does whole b₀ to b Faulty
   rest-misfit q =
-      let (fault, x) = tells _ e q in
-      w .goes b Faulty (subst (λ (z : layout.Laid). Does (hexed end z) b next b Faulty) (sym (one (stops fault) x)) fails)
+      let (fault, x, y) = tells _ e q in
+      w .goes b Faulty (subst (λ (z : layout.Laid). Does (hexed end z) b next b Faulty) (sym (pieces-next s l start end at i x)) fails)

@@ -8,7 +8,8 @@ use native.Mathlib.Omega.{arith}
 use borrow.Author.Tests.{ne-eqb}
 use lib.ListN.{length, drop, getD, drop-of-length-le, List·getD-eq-default}
 use Rattle.octets.specs.Parsed.{Parsed, took, stuck, strip}
-use Rattle.tokens.specs.Cursor.{drop-one, Got, clash}
+use Rattle.octets.specs.Fields.{drop-one}
+use Rattle.tokens.specs.Cursor.{Got, clash}
 use Rattle.tokens.specs.Many.{le-or-lt}
 
 -- the octet at a place, 0 past the end

@@ -2,14 +2,15 @@
 use mathlib.Core.Path.{_≡_, refl, sym, _∙_, ap}
 use mathlib.Core.Bool.{Bool, true, false, not}
 use mathlib.Core.List.{List, [], _∷_, _++_, append-assoc, append-nil}
-use Prim.Native.Nat.{ℕ, _+_, _-_, _≤_, _<_}
+use Prim.Native.Nat.{ℕ, _+_, _≤_, _<_}
 use native.Mathlib.Omega.{arith}
 use borrow.Author.Tests.{eq-eqb, not-true, not-false}
 use lib.ListN.{length, drop, getD, length-append, length-drop}
 use Rattle.octets.specs.Parsed.{Parsed, took, stuck, and-then, otherwise, strip, is-stuck, strip-sound}
 use Rattle.octets.specs.Codec.{Avoids, Codec, exact, _▷_}
+use Rattle.octets.specs.Fields.{drop-one}
 use Rattle.tokens.specs.declared.Cursor.{Cursor}
-use Rattle.tokens.specs.Cursor.{left-of, drop-one, Safe, Keeps, Came, went-keeps, keeps-same, Passed, reads-took, reads-stop, reads-got, reads-bad, Got}
+use Rattle.tokens.specs.Cursor.{left-of, Safe, Keeps, Came, went-keeps, keeps-same, Passed, reads-took, reads-stop, reads-got, reads-bad, Got}
 use Rattle.tokens.specs.Step.{Found, Moves, moves, moves-then, found-there}
 use Rattle.labels.specs.Place.{Byte, inside, no-strip}
 use Rattle.tokens.specs.Many.{run-of, going-start, going-end, going-more, going-stop}

@@ -11,7 +11,7 @@ use lib.ListN.{length, getD, take, drop, length-append, length-drop, take-append
 use lib.Seq.{drop-drop, drop-cons, length-take-le}
 use Rattle.octets.specs.Lists.{all, All, octet?, Octets}
 use Rattle.octets.specs.Bits.{both, and-left, and-right, All-append, octets-in, octets-test}
-use Rattle.octets.specs.Fields.{drop-past, take-here, getD-here}
+use Rattle.octets.specs.Fields.{drop-past, take-here, getD-here, drop-one}
 use Rattle.names.specs.Name.{Name, nameForm, label?, name?, reserved, target, long, Fault}
 use Rattle.names.specs.Walk.{part, Limit, message, endOf, past, Named, named, faulty, labelled, resumed, targetAt, allowed?, walk, nameFrom}
 
@@ -317,10 +317,6 @@ read-valid s limit run at n next o h e =
 abbrev Whole : List ℕ → Limit → ℕ → ℕ → ℕ → Name → ℕ → Type 0
 Whole s limit run total at n next =
     endOf s limit ≤ length s → run ≡ 0 → (drop at s ≡ nameForm n ++ drop next s) × (next ≡ at + length (nameForm n))
-
--- the octet at a place and the octets behind it
-pub drop-one : (s : List ℕ) (at : ℕ) → at < length s → drop at s ≡ getD s at 0 ∷ drop (at + 1) s
-drop-one s at h = drop-cons s at 0 h ∙ ap (λ (i : ℕ). getD s at 0 ∷ drop i s) (sym (add-one at))
 
 -- a part of a text and what stands behind it
 pub drop-part : (s : List ℕ) (at n : ℕ) → drop at s ≡ part s at n ++ drop (at + n) s

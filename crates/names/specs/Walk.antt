@@ -1,10 +1,10 @@
 -- Reading a name from a message, with pointers. Assumes nothing.
 use mathlib.Core.Bool.{Bool, _&&_, cond}
-use mathlib.Core.List.{List, [], _∷_, _++_}
+use mathlib.Core.List.{List, [], _∷_}
 use Prim.Native.Nat.{ℕ, zero, suc, _+_, _-_, _*_}
 use lib.Dec.{leb, ltb, eqb}
 use lib.ListN.{length, getD, take, drop}
-use Rattle.names.specs.Name.{Name, Kind, cut, reserved, target, long, short, Fault}
+use Rattle.names.specs.Name.{Name, cut, reserved, target, long, short, Fault}
 
 -- n octets from an offset on
 abbrev pub part : List ℕ → ℕ → ℕ → List ℕ

@@ -1,7 +1,7 @@
 -- Facts on Boolean tests, and on facts of every element of a list.
 -- Assumes nothing.
 use mathlib.Core.Path.{_≡_, refl}
-use mathlib.Core.Logic.{_↔_, _≢_}
+use mathlib.Core.Logic.{_≢_}
 use mathlib.Core.Bool.{Bool, true, false, not, _&&_}
 use mathlib.Core.List.{List, [], _∷_, _++_}
 use Prim.Native.Nat.{ℕ}
@@ -60,9 +60,6 @@ module _ {A : Type 0} where
   pub All-right : (P : A → Type 0) (l m : List A) → All P (l ++ m) → All P m
   All-right P [] m h = h
   All-right P (x ∷ l) m h = All-right P l m (h .1)
-
-  pub All-both : (P : A → Type 0) (l m : List A) → All P (l ++ m) ↔ (All P l × All P m)
-  All-both P l m = (λ h. (All-left P l m h, All-right P l m h), λ h. All-append P l m (h .0) (h .1))
 
 -- octets by test and by bound
 pub octets-in : (l : List ℕ) → T (all octet? l) → Octets l

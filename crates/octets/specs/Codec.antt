@@ -70,10 +70,6 @@ module _ {A : Type 0} {I : A → Type 0} {f : A → List ℕ} {F : List ℕ → 
       let z : _≡_ {A = Parsed A} (took a r) (took b s) = sym (p .back a r h m) ∙ ap (p .parse) e ∙ p .back b s k n in
       (took-value z, took-rest z)
 
-  -- different values have different texts
-  pub injective : F [] → (a b : A) → I a → I b → f a ≡ f b → a ≡ b
-  injective m a b h k e = unique a b [] [] h k m m (ap (λ t. t ++ []) e) .0
-
   -- a text and nothing behind it
   abbrev pub whole : List ℕ → Parsed A
   whole t = and-then (p .parse t) λ a r. cond (none? r) (took a []) (stuck r)
@@ -96,10 +92,6 @@ module _ {A : Type 0} {I : A → Type 0} {f : A → List ℕ} {F : List ℕ → 
 -- ---- texts that split in one way only: a text and what stands behind it tell what was written
 abbrev pub Splits : {A : Type 0} → (A → Type 0) → (A → List ℕ) → Type 0
 Splits {A} I f = (a b : A) (r s : List ℕ) → I a → I b → f a ++ r ≡ f b ++ s → (a ≡ b) × (r ≡ s)
-
--- a codec's texts that end by themselves are such
-pub codec-splits : {A : Type 0} {I : A → Type 0} {f : A → List ℕ} → Codec I f Any → Splits I f
-codec-splits p a b r s h k e = unique p a b r s h k tt tt e
 
 module _ {A : Type 0} (I : A → Type 0) (f : A → List ℕ) (splits : Splits I f) where
   -- no text is a proper beginning of another

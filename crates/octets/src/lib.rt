@@ -9,6 +9,12 @@ ghost use Rattle.octets.specs.Hexadecimal.{hexDigit, hexOctet};
 ghost use Rattle.octets.specs.Overlay.{Wrote};
 ghost use Rattle.octets.specs.Lists.{each};
 
+// What a conversion answers: the length of its output, or the refusal's number and place.
+pub enum Outcome {
+    Length(usize),
+    Refused(u32, usize),
+}
+
 // The octet as a place or a length.
 pub fn wide(x: u8) -> usize
     ensures { λ r. ⌜ (r ≡ x) × (r < 256) ⌝ }

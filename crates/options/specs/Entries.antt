@@ -1,13 +1,13 @@
 -- Lists of numbers, entry by entry: a number for each octet, or for each two octets. Assumes nothing.
 use mathlib.Core.Path.{_≡_, refl}
-use mathlib.Core.List.{List, [], _∷_, _++_}
-use Prim.Native.Nat.{ℕ, suc, _+_, _-_, _*_, _^_, _≤_, _<_}
+use mathlib.Core.List.{List, [], _∷_}
+use Prim.Native.Nat.{ℕ, suc, _+_, _^_, _≤_, _<_}
 use native.Mathlib.Numerals.{add-one}
 use native.Mathlib.Omega.{arith}
 use lib.ListN.{length, getD, drop, length-drop, drop-of-length-le}
 use lib.Seq.{drop-cons}
 use Rattle.octets.specs.Lists.{ascii, ended, listed}
-use Rattle.octets.specs.Fields.{twoAt}
+use Rattle.octets.specs.Fields.{twoAt, drop-one}
 use Rattle.octets.specs.Decimal.{decimal}
 use Rattle.octets.specs.Overlay.{Wrote, then}
 use Rattle.octets.specs.Writing.{decimal-short}
@@ -43,18 +43,14 @@ pub entry-width : (k : ℕ) {n m : ℕ} {b b′ : List ℕ} {at r : ℕ} → Wro
 entry-width k {n} w h = omega (arith, decimal-short k n h, w .place)
 
 -- ---- a number for each octet
--- the octets from a place on are the octet there and those behind it
-octet-here : (s : List ℕ) (i : ℕ) → i < length s → drop i s ≡ getD s i 0 ∷ drop (i + 1) s
-octet-here s i h = rw add-one (drop-cons s i 0 h)
-
 -- an entry in the loop, the end, and the empty list
 module _ (s : List ℕ) {b₀ b b₁ : List ℕ} {at to r i n : ℕ} where
   pub octet-next : i < length s → n ≡ getD s i 0 → Left (drop 1 s) (drop i s) b₀ at b to → Wrote b to (44 ∷ decimal n) b₁ r → Left (drop 1 s) (drop (i + 1) s) b₀ at b₁ r
-  octet-next h e o w = list-next (rw e (octet-here s i h)) o w
+  octet-next h e o w = list-next (rw e (drop-one s i h)) o w
 
   pub octet-last : {b₋ : List ℕ} {r₋ : ℕ} → (length s ≡ 0 → ⊥) → n ≡ getD s 0 0 → length s ≤ i → Wrote b₋ r₋ (91 ∷ decimal n) b₀ at → Left (drop 1 s) (drop i s) b₀ at b to → Wrote b to (93 ∷ []) b₁ r
       → Wrote b₋ r₋ (listed decimal s) b₁ r
-  octet-last h e k v o w = list-last {all = s} (rw e (octet-here s 0 (omega arith))) (drop-of-length-le s k) v o w
+  octet-last h e k v o w = list-last {all = s} (rw e (drop-one s 0 (omega arith))) (drop-of-length-le s k) v o w
 
 pub octet-none : (s : List ℕ) {b b′ : List ℕ} {at r : ℕ} → length s ≡ 0 → Wrote b at (ascii "[]") b′ r → Wrote b at (listed decimal s) b′ r
 octet-none [] e w = w
@@ -64,7 +60,7 @@ octet-none (x ∷ s) e w = absurd (omega arith)
 -- the numbers from a place on are the number there and those behind it
 word-here : (s : List ℕ) (i : ℕ) → i + 1 < length s → words (drop i s) ≡ twoAt s i ∷ words (drop (i + 2) s)
 unfolding words
-word-here s i h = rw (octet-here s i (omega arith), octet-here s (i + 1) h, two)
+word-here s i h = rw (drop-one s i (omega arith), drop-one s (i + 1) h, two)
   where
     two : i + 1 + 1 ≡ i + 2
     two = omega arith

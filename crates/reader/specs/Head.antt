@@ -1,23 +1,22 @@
 -- The head of a text: how its numbers are read, judged and written. Assumes nothing.
-use mathlib.Core.Path.{_≡_, refl, sym, _∙_, ap, subst}
+use mathlib.Core.Path.{_≡_, refl, sym, _∙_, subst}
 use mathlib.Core.Bool.{Bool, true, false, not, _&&_}
-use mathlib.Core.List.{List, [], _∷_, _++_, append-assoc}
-use Prim.Native.Nat.{ℕ, _+_, _*_, _%_, _≤_, _<_, min}
+use mathlib.Core.List.{List, [], _∷_, _++_}
+use Prim.Native.Nat.{ℕ, _+_, _*_, _%_, _≤_}
 use native.Mathlib.Omega.{arith}
 use borrow.Author.Tests.{lt-ltb, le-ltb}
 use lib.Dec.{T, ltb, ltb→lt, nltb→le}
-use lib.ListN.{length}
 use Rattle.octets.specs.Lists.{word?}
 use Rattle.octets.specs.Fields.{two}
 use Rattle.octets.specs.Bits.{and-left, and-right}
-use Rattle.octets.specs.Parsed.{Parsed, took, stuck, and-then, strip}
+use Rattle.octets.specs.Parsed.{Parsed, took, and-then, strip}
 use Rattle.octets.specs.Lists.{ascii}
 use Rattle.octets.specs.Codec.{_⊗_}
 use Rattle.octets.specs.Decimal.{natural, number, till}
 use Rattle.records.specs.Message.{bit?, four-bits?}
 use Rattle.tokens.specs.declared.Cursor.{Cursor}
 use Rattle.tokens.specs.declared.Amount.{Amount}
-use Rattle.tokens.specs.Cursor.{Safe, Keeps, keeps-then, Passed}
+use Rattle.tokens.specs.Cursor.{Keeps, keeps-then, Passed}
 use Rattle.tokens.specs.Step.{Found, found-as, found-lit, found-map, found-behind, found-pair, found-at, Put, put-then, put-from, put-as, Judged, Emits}
 use Rattle.tokens.specs.Number.{capped, NumberRead}
 use Rattle.tokens.specs.Fields.{Done}

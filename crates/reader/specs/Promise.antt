@@ -1,32 +1,32 @@
 -- What the strict reader promises, and how it follows from a run that judges and a run that writes. Assumes nothing.
 use mathlib.Core.Path.{_≡_, refl, sym, _∙_, ap, subst}
-use mathlib.Core.Bool.{Bool, true, false, not, cond, _&&_}
-use mathlib.Core.Option.{Option, none, some}
+use mathlib.Core.Bool.{Bool, true, false, not, _&&_}
+use mathlib.Core.Option.{none, some}
 use mathlib.Core.List.{List, [], _∷_, _++_}
-use Prim.Native.Nat.{ℕ, _+_, _≤_, _<_}
+use Prim.Native.Nat.{ℕ, _≤_, _<_}
 use native.Mathlib.Nat.{zero-add}
 use native.Mathlib.Omega.{arith}
-use borrow.Author.Tests.{le-leb, lt-leb, leb-true, leb-false, not-true, not-false}
-use lib.Dec.{T, T-not, leb, leb→le, le→leb}
+use borrow.Author.Tests.{le-leb, not-true, not-false}
+use lib.Dec.{T, leb}
 use lib.ListN.{length, drop, drop-of-length-le}
-use Rattle.octets.specs.Lists.{none?}
-use Rattle.octets.specs.Bits.{is-true, is-false, and-left, and-right}
-use Rattle.octets.specs.Parsed.{Parsed, took, stuck, took-value, took≢stuck}
-use Rattle.octets.specs.Overlay.{Wrote, overlay, overlay-first}
-use Rattle.octets.specs.Answer.{output, success, refusal, delivered, overwritten, delivered-none}
+use Rattle.octets.specs.Bits.{is-true, and-left, and-right}
+use Rattle.octets.specs.Parsed.{took, took-value, took≢stuck}
+use Rattle.octets.specs.Overlay.{overlay, overlay-first}
+use Rattle.octets.specs.Answer.{output, success, refusal, delivered, delivered-none}
 use Rattle.octets.specs.Answer as answer
+use Rattle.octets.specs.Fields.{drop-one}
 use Rattle.records.specs.Message.{form}
-use Rattle.json.specs.View.{View, messageOf, view?}
+use Rattle.json.specs.View.{messageOf}
 use Rattle.json.specs.ViewLaws.{small-form, within-small}
 use Rattle.json.specs.Limits.{within?}
 use Rattle.json.specs.Document.{Document}
-use Rattle.strict.specs.Meaning.{documentView, counts?, agrees?, meaning}
+use Rattle.strict.specs.Meaning.{documentView, counts?, meaning}
 use Rattle.strict.specs.Parser.{document, parse}
-use Rattle.strict.specs.Reading.{sized, meant, parsed, reading, toWire}
+use Rattle.strict.specs.Reading.{meant, reading, toWire}
 use Rattle.tokens.specs.declared.Cursor.{Cursor}
-use Rattle.tokens.specs.Cursor.{Reads, reads-bad, reads-got, Got, drop-one}
-use Rattle.tokens.specs.Step.{Found, found-there, Put, Step}
-use Rattle.entries.specs.Meant.{documentMeant?, documentOctets, document-meant, document-octets, headMeant?, sectionsMeant?, settledItems?}
+use Rattle.tokens.specs.Cursor.{Reads, reads-bad, reads-got, Got}
+use Rattle.tokens.specs.Step.{found-there, Put, Step}
+use Rattle.entries.specs.Meant.{documentMeant?, documentOctets, document-meant, document-octets, headMeant?, sectionsMeant?}
 use Rattle.reader.specs.Whole.{start}
 use Rattle.reader.specs.declared.Answer.{Answer}
 use Rattle.reader.specs.declared.Answer.the-variants.{Message, Refused}

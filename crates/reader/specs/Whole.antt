@@ -1,32 +1,32 @@
 -- The whole text: head, four arrays, and what is judged over all of them. Assumes nothing.
 use mathlib.Core.Path.{_≡_, refl, sym, _∙_, ap, ap₂, subst}
-use mathlib.Core.Bool.{Bool, true, false, not, cond, _&&_, _||_}
-use mathlib.Core.List.{List, [], _∷_, _++_}
-use Prim.Native.Nat.{ℕ, _+_, _≤_, _<_, min}
+use mathlib.Core.Bool.{Bool, true, false, _&&_}
+use mathlib.Core.List.{List, _++_}
+use Prim.Native.Nat.{ℕ}
 use native.Mathlib.Omega.{arith}
 use borrow.Author.Tests.{eq-eqb, ne-eqb, eqb-false}
 use lib.Dec.{T, eqb, ltb→lt, eqb→eq}
 use lib.ListN.{length, drop}
 use Rattle.octets.specs.Lists.{ascii, all, count, each, word?}
-use Rattle.octets.specs.Bits.{is-true, and-left, and-right}
-use Rattle.octets.specs.Parsed.{Parsed, took, stuck, and-then, strip}
+use Rattle.octets.specs.Bits.{and-left, and-right}
+use Rattle.octets.specs.Parsed.{Parsed, took, and-then, strip}
 use Rattle.records.specs.Message.{Question, header?, question?, questionForm}
 use Rattle.json.specs.Document.{RecordItem, Item, Document}
-use Rattle.strict.specs.Parser.{Head, headOf, head, document}
+use Rattle.strict.specs.Parser.{Head, document}
 use Rattle.strict.specs.Meaning.{counts?}
 use Rattle.tokens.specs.declared.Cursor.{Cursor}
-use Rattle.tokens.specs.Cursor.{Safe, Keeps, Passed}
+use Rattle.tokens.specs.Cursor.{Passed}
 use Rattle.tokens.specs.Step.{then-then, Found, found-as, found-lit, found-map, found-behind, found-pair, found-at, Put, put-then, put-from, put-to, put-as, Step, Judged}
 use Rattle.tokens.specs.Leaf.{found-same}
 use Rattle.tokens.specs.Number.{capped}
 use Rattle.entries.specs.declared.Element.{Element}
 use Rattle.entries.specs.declared.Element.the-variants.{Question as Questions, Record as Records, Additional as Additionals}
 use Rattle.entries.specs.declared.Section.{Section}
-use Rattle.entries.specs.Meant.{any, settledBy, headMeant?, headOctets, recordMeant?, recordOctets, itemMeant?, itemOctets, itemOpt?, itemShown?, itemHides?, sectionsMeant?, settledItems?, documentMeant?, documentOctets, head-numbers}
+use Rattle.entries.specs.Meant.{settledBy, headMeant?, headOctets, recordMeant?, recordOctets, itemMeant?, itemOctets, itemOpt?, settledItems?, documentMeant?, documentOctets, head-numbers}
 use Rattle.entries.specs.Sections.{Thing, limited, arrayParse, SectionFacts, SectionRead}
 use Rattle.reader.specs.declared.head.Counts.{Counts}
 use Rattle.reader.specs.declared.head.Header.{Header}
-use Rattle.reader.specs.Head.{Counted, Told, HeadRead}
+use Rattle.reader.specs.Head.{Told, HeadRead}
 
 -- where a reading starts
 abbrev pub start : Cursor

@@ -1,13 +1,13 @@
 -- The reading of a whole message: what it holds, or document 01's refusal. Assumes nothing.
-use mathlib.Core.Bool.{Bool, cond}
-use mathlib.Core.List.{List, [], _∷_, _++_}
+use mathlib.Core.Bool.{cond}
+use mathlib.Core.List.{List}
 use Prim.Native.Nat.{ℕ, _/_, _%_}
 use lib.Dec.{ltb, eqb}
 use lib.ListN.{length, getD}
 use Rattle.octets.specs.Fields.{twoAt}
-use Rattle.names.specs.Name.{number, Fault}
+use Rattle.names.specs.Name.{number}
 use Rattle.records.specs.Message.{Header, Question, Record, Message, form}
-use Rattle.records.specs.Read.{Section, Reached, reached, stopped, questionAt, recordAt, sectionAt, sectionFrom}
+use Rattle.records.specs.Read.{Section, reached, stopped, questionAt, recordAt, sectionAt, sectionFrom}
 
 -- header flags, high bit first: QR, Opcode (4), AA, TC, RD; RA, Z, AD, CD, RCODE (4)
 unfoldable pub headerOf : List ℕ → Header

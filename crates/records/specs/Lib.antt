@@ -10,5 +10,6 @@ pub mod Parts
 pub mod Answer
 pub mod Reading
 pub mod Pieces
+pub mod Told
 pub mod Putting
 pub mod Uncompressed

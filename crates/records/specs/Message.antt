@@ -2,7 +2,7 @@
 use mathlib.Core.Bool.{Bool, _&&_}
 use mathlib.Core.List.{List, [], _∷_, _++_}
 use Prim.Native.Nat.{ℕ, _+_, _*_}
-use lib.Dec.{ltb}
+use lib.Dec.{ltb, eqb}
 use lib.ListN.{length}
 use Rattle.octets.specs.Lists.{each, all, octet?, word?, long?}
 use Rattle.octets.specs.Fields.{two, four}
@@ -34,6 +34,10 @@ pub record Record : Type 0 where
   pub class : ℕ
   pub ttl : ℕ
   pub rdata : List ℕ
+
+-- a record of TYPE 41
+abbrev pub opt? : Record → Bool
+opt? r = eqb (r .type) 41
 
 pub record Message : Type 0 where
   pub header : Header

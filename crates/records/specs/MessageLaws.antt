@@ -31,7 +31,7 @@ Came (reached at) = Unit {0}
 Came (stopped at fault) = ⊥
 
 -- to stop at a fault is not to reach an offset
-stopped≢reached : {i : ℕ} {fault : Fault} {j : ℕ} → stopped i fault ≡ reached j → ⊥
+pub stopped≢reached : {i : ℕ} {fault : Fault} {j : ℕ} → stopped i fault ≡ reached j → ⊥
 stopped≢reached e = subst Came (sym e) tt
 
 module _ {A : Type 0} (read : List ℕ → ℕ → Entry A) (s : List ℕ) where
@@ -101,20 +101,6 @@ module _ {A : Type 0} (read : List ℕ → ℕ → Entry A) (s : List ℕ) where
   unfolding sectionFrom
   from-count n (reached at) i e = section-count n at i e
   from-count n (stopped at fault) i e = absurd (stopped≢reached e)
-
-  -- where it ends: not before its start and within the message, if each entry does
-  pub section-within : ((at : ℕ) (a : A) (next : ℕ) → read s at ≡ entry a next → (at < next) × (next ≤ length s))
-      → (n at i : ℕ) → at ≤ length s → sectionAt read s n at .end ≡ reached i → (at ≤ i) × (i ≤ length s)
-  unfolding sectionAt
-  section-within f zero at i h e = let same : at ≡ i = ap reachedOf e in (omega arith, omega arith)
-  section-within f (suc n) at i h e = go (read s at) refl (section-within f n)
-    where
-      go : (w : Entry A) → read s at ≡ w → ((j k : ℕ) → j ≤ length s → sectionAt read s n j .end ≡ reached k → (j ≤ k) × (k ≤ length s)) → (at ≤ i) × (i ≤ length s)
-      go (entry a next) p g =
-          let (b, c) = f at a next p in
-          let (d, k) = g next i c (rw (section-step n at a next p) at e) in
-          (omega arith, k)
-      go (bad fault) p g = absurd (stopped≢reached (rw (section-stop n at fault p) at e))
 
 -- ---- the header
 -- the bounds of a header's fields

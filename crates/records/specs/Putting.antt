@@ -6,11 +6,11 @@ use Prim.Native.Nat.{ℕ, zero, suc, _+_, _-_, _*_, _≤_, _<_}
 use native.Mathlib.Omega.{arith}
 use borrow.Author.Tests.{ne-eqb}
 use lib.Dec.{eqb}
-use lib.ListN.{length, take, drop, replicate, length-append, length-take}
-use lib.Seq.{drop-drop, take-append-seam}
+use lib.ListN.{length, take, drop, length-append, length-take}
 use Rattle.octets.specs.Fields.{two, four, twoAt}
 use Rattle.octets.specs.Overlay.{Wrote, then, nothing}
 use Rattle.octets.specs.Overlay as overlay
+use Rattle.records.specs.Told.{form-part, form-room, asked, headed, tells, pieces-next}
 use Rattle.names.specs.Name.{Name, nameForm, Fault}
 use Rattle.names.specs.Walk.{part}
 use Rattle.names.specs.Answer.{faultOf}
@@ -20,8 +20,8 @@ use Rattle.records.specs.Layout as layout
 use Rattle.records.specs.Message.{Question, Record, questionForm, recordForm}
 use Rattle.records.specs.Read.{Entry, entry, bad, questionAt, recordAt}
 use Rattle.records.specs.RecordLaws.{Fills, pieces-fill, filled}
-use Rattle.records.specs.Parts.{HeadOf, headAt, withRdata, with-rdata, record-head, head-next, layoutIn, rdata-pieces, StepOf, stepAt, follow, pieces-step, part-to, name-to, done, stops}
-use Rattle.records.specs.Answer.{padded, askedOf, questionRead, Asks, headRead, recordRead, Heads, plainly, stepRead}
+use Rattle.records.specs.Parts.{HeadOf, headAt, withRdata, with-rdata, record-head, head-next, layoutIn, rdata-pieces, stepAt}
+use Rattle.records.specs.Answer.{padded, askedOf, questionRead, Asks, headRead, recordRead, Heads, stepRead}
 use Rattle.records.specs.Pieces.{breadth, layout-small}
 use Rattle.records.specs.declared.Asked.{Asked}
 use Rattle.records.specs.declared.Question.{Question as QuestionAnswer}
@@ -37,7 +37,6 @@ use Rattle.records.specs.declared.Gone.{Gone}
 use Rattle.records.specs.declared.Gone.the-variants as gone
 use Rattle.records.specs.declared.Came.{Came}
 use Rattle.records.specs.declared.Came.the-variants as came
-use Rattle.records.specs.declared.Step.{Step}
 use Rattle.records.specs.declared.Step.the-variants as step
 use Rattle.records.specs.declared.Stepped.{Stepped}
 
@@ -64,31 +63,6 @@ pub record Rest (w whole : layout.Laid) (b₀ : List ℕ) (to : ℕ) (b : List �
 pub rest-start : (w : layout.Laid) (b : List ℕ) (to : ℕ) → Rest w w b to b to
 rest-start w b to = record { goes = λ b′ r d. d }
 
--- what the code's step says of the definition's
-abbrev Tells : Step → List ℕ → StepOf → Type 0
-Tells (step.Part next) o x = x ≡ part-to next
-Tells (step.Name size next) o x = (n : Name) × (x ≡ name-to n next) × (size ≡ length (nameForm n)) × (o ≡ padded (nameForm n))
-Tells step.Done o x = x ≡ done
-Tells (step.Misfit f) o x = (fault : Fault) × (x ≡ stops fault) × (f ≡ faultOf fault)
-
-told : (x : StepOf) → Tells (stepRead x .step) (stepRead x .octets) x
-unfolding stepRead plainly
-told (part-to next) = refl
-told (name-to n next) = (n, refl, refl, refl)
-told done = refl
-told (stops fault) = (fault, refl, refl)
-
-tells : (x : StepOf) {r : Stepped} {y : Step} → r ≡ stepRead x → r .step ≡ y → Tells y (r .octets) x
-tells x {r} {y} e q = subst (λ (z : Step). Tells z (r .octets) x) q (subst (λ (z : Stepped). Tells (z .step) (z .octets) x) (sym e) (told x))
-
--- a form in the first octets of an array
-pub form-part : (l o : List ℕ) (size : ℕ) → size ≡ length l → o ≡ padded l → take (size - 0) o ≡ l
-form-part l o size e p = let z : size - 0 ≡ length l = omega arith in rw (z, p) (take-append-seam l (replicate (255 - length l) 0))
-
--- the array has room for it
-form-room : (l o : List ℕ) (size : ℕ) → size ≡ length l → o ≡ padded l → size ≤ length o
-form-room l o size e p = let q : length o ≡ length l + length (replicate {A = ℕ} (255 - length l) 0) = ap length p ∙ length-append l (replicate (255 - length l) 0) in omega arith
-
 -- what is laid from the i-th piece on
 abbrev pub restAt : List ℕ → List Piece → ℕ → ℕ → ℕ → ℕ → layout.Laid
 restAt s l start end at i = pieces true (drop i l) s start end at
@@ -101,10 +75,6 @@ rest-first s kind start size b to =
 
 module _ (s : List ℕ) (l : List Piece) (start end at i : ℕ) {whole : layout.Laid} {b₀ b : List ℕ} {to next : ℕ} {r : Stepped}
     (w : Rest (restAt s l start end at i) whole b₀ to b next) (e : r ≡ stepRead (stepAt (drop i l) s start end at)) where
-  -- one piece, then those behind it
-  one : restAt s l start end at i ≡ follow s at (λ (n : ℕ). restAt s l start end n (i + 1)) (stepAt (drop i l) s start end at)
-  one = pieces-step (drop i l) s start end at ∙ ap (λ (m : List Piece). follow s at (pieces true m s start end) (stepAt (drop i l) s start end at)) (drop-drop 1 i l)
-
   -- a piece was written
   behind : (xs : List ℕ) (n : ℕ) {b₁ : List ℕ} {n₁ : ℕ} → restAt s l start end at i ≡ before xs (restAt s l start end n (i + 1))
       → Wrote b next xs b₁ n₁ → Rest (restAt s l start end n (i + 1)) whole b₀ to b₁ n₁
@@ -113,24 +83,21 @@ module _ (s : List ℕ) (l : List Piece) (start end at i : ℕ) {whole : layout.
   -- octets as they are
   pub rest-part : {n : ℕ} {b₁ : List ℕ} {n₁ : ℕ} → r .step ≡ step.Part n → Wrote b next (part s at (n - at)) b₁ n₁
       → Rest (restAt s l start end n (i + 1)) whole b₀ to b₁ n₁
-  rest-part {n} q p = behind (part s at (n - at)) n (one ∙ ap (follow s at (λ (k : ℕ). restAt s l start end k (i + 1))) (tells _ e q)) p
+  rest-part {n} q p = behind (part s at (n - at)) n (pieces-next s l start end at i (tells _ e q)) p
 
   -- a name
   pub rest-name : {size n : ℕ} {b₁ : List ℕ} {n₁ : ℕ} → r .step ≡ step.Name size n → Wrote b next (take (size - 0) (r .octets)) b₁ n₁
       → Rest (restAt s l start end n (i + 1)) whole b₀ to b₁ n₁
   rest-name {size} {n} {b₁} {n₁} q p =
       let (m, x, y, z) = tells _ e q in
-      behind (nameForm m) n (one ∙ ap (follow s at (λ (k : ℕ). restAt s l start end k (i + 1))) x)
+      behind (nameForm m) n (pieces-next s l start end at i x)
       (subst (λ (xs : List ℕ). Wrote b next xs b₁ n₁) (form-part (nameForm m) (r .octets) size y z) p)
-
-  pub name-room : {size n : ℕ} → r .step ≡ step.Name size n → size ≤ length (r .octets)
-  name-room {size} q = let (m, x, y, z) = tells _ e q in form-room (nameForm m) (r .octets) size y z
 
   -- the end
   pub rest-done : r .step ≡ step.Done → Lays whole b₀ to b (laying.To next)
   rest-done q =
       w .goes b (laying.To next)
-      (subst (λ (x : layout.Laid). Lays x b next b (laying.To next)) (sym (one ∙ ap (follow s at (λ (k : ℕ). restAt s l start end k (i + 1))) (tells _ e q))) (lays (nothing b next)))
+      (subst (λ (x : layout.Laid). Lays x b next b (laying.To next)) (sym (pieces-next s l start end at i (tells _ e q))) (lays (nothing b next)))
 
   -- a fault
   pub rest-misfit : {f : FaultRead} → r .step ≡ step.Misfit f → Lays whole b₀ to b (laying.Misfit f)
@@ -138,7 +105,7 @@ module _ (s : List ℕ) (l : List Piece) (start end at i : ℕ) {whole : layout.
       let (fault, x, y) = tells _ e q in
       w .goes b (laying.Misfit f)
       (subst (λ (g : FaultRead). Lays (restAt s l start end at i) b next b (laying.Misfit g)) (sym y)
-      (subst (λ (z : layout.Laid). Lays z b next b (laying.Misfit (faultOf fault))) (sym (one ∙ ap (follow s at (λ (k : ℕ). restAt s l start end k (i + 1))) x)) misses))
+      (subst (λ (z : layout.Laid). Lays z b next b (laying.Misfit (faultOf fault))) (sym (pieces-next s l start end at i x)) misses))
 
 -- ---- the length of RDATA's form
 fills-breadth : (l : List Piece) (d : List ℕ) → Fills l d → length d ≤ breadth l
@@ -202,19 +169,6 @@ Goes (gone.To next to kind) end = (next ≤ end) × (to ≤ 255 * next)
 Goes (gone.Faulty fault) end = Unit {0}
 
 -- ---- questions
--- what the code's answer says of the definition's
-abbrev Asking : QuestionAnswer → List ℕ → Entry Question → Type 0
-Asking (question.Read a) l e = (q : Question) × (next : ℕ) × (e ≡ entry q next) × (a ≡ askedOf q next) × (l ≡ padded (nameForm (q .name)))
-Asking (question.Faulty f) l e = (fault : Fault) × (e ≡ bad fault) × (f ≡ faultOf fault)
-
-asking : (e : Entry Question) → Asking (questionRead e .answer) (questionRead e .name) e
-unfolding questionRead
-asking (entry q next) = (q, next, refl, refl, refl)
-asking (bad fault) = (fault, refl, refl)
-
-asked : (e : Entry Question) {r : QuestionRead} {y : QuestionAnswer} → r ≡ questionRead e → r .answer ≡ y → Asking y (r .name) e
-asked e {r} {y} p q = subst (λ (z : QuestionAnswer). Asking z (r .name) e) q (subst (λ (z : QuestionRead). Asking (z .answer) (z .name) e) (sym p) (asking e))
-
 module _ (s : List ℕ) (at : ℕ) {r : QuestionRead} (e : r ≡ questionRead (questionAt s at)) where
   pub question-faults : {f : FaultRead} {b b′ : List ℕ} {to : ℕ} → r .answer ≡ question.Faulty f → Puts (partAt false s at) b to b′ (gone.Faulty f)
   unfolding partAt
@@ -235,18 +189,6 @@ module _ (s : List ℕ) (at : ℕ) {r : QuestionRead} (e : r ≡ questionRead (q
           (sym v) (λ w. puts (rw (form-part (nameForm (q .name)) (r .name) (length (nameForm (q .name))) refl l) at w)))
 
 -- ---- records
-abbrev Heading : RecordAnswer → List ℕ → Entry HeadOf → Type 0
-Heading (record′.Read h) l e = (k : HeadOf) × (next : ℕ) × (e ≡ entry k next) × (h ≡ headRead k) × (l ≡ padded (nameForm (k .name)))
-Heading (record′.Faulty f) l e = (fault : Fault) × (e ≡ bad fault) × (f ≡ faultOf fault)
-
-heading : (e : Entry HeadOf) → Heading (recordRead e .answer) (recordRead e .name) e
-unfolding recordRead
-heading (entry k next) = (k, next, refl, refl, refl)
-heading (bad fault) = (fault, refl, refl)
-
-headed : (e : Entry HeadOf) {r : RecordRead} {y : RecordAnswer} → r ≡ recordRead e → r .answer ≡ y → Heading y (r .name) e
-headed e {r} {y} p q = subst (λ (z : RecordAnswer). Heading z (r .name) e) q (subst (λ (z : RecordRead). Heading (z .answer) (z .name) e) (sym p) (heading e))
-
 -- the record by its head and RDATA
 record-part : (s : List ℕ) (at : ℕ) (k : HeadOf) (next : ℕ) → headAt s at ≡ entry k next
     → partAt true s at ≡ mapped recordPart (filled (withRdata k) (k .rdata + k .length) (rdataAt true s (k .type) (k .rdata) (k .length)))

@@ -12,7 +12,7 @@ use lib.ListN.{length, drop, length-append}
 use lib.Seq.{drop-length}
 use Rattle.octets.specs.Lists.{all, octet?, Octets, word?, long?}
 use Rattle.octets.specs.Bits.{both, and-left, and-right, All-append, octets-in, octets-test}
-use Rattle.octets.specs.Fields.{two, four, twoAt, fourAt, drop-past, take-here, two-at, four-at, room-here, twoAt-word, fourAt-long}
+use Rattle.octets.specs.Fields.{two, four, twoAt, fourAt, drop-past, take-here, two-at, four-at, room-here, twoAt-word, fourAt-long, empty}
 use Rattle.names.specs.Name.{Name, nameForm, name?, short, surplus, Fault}
 use Rattle.names.specs.Walk.{part, message, rdata, Named, named, faulty, nameFrom, nameAt}
 use Rattle.names.specs.NameLaws.{Sized, form-some, read-back, read-back-sized, read-sized, read-valid, read-form, part-octets, part-long, drop-part}
@@ -191,18 +191,13 @@ rdata-listed : (jumps : Bool) (s : List ℕ) (type at size : ℕ) (layout : List
 unfolding rdataAt
 rdata-listed jumps s type at size layout h e = rw (ne-eqb size 0 h, e, rdataAt)
 
--- a list of length 0 is empty
-nothing : (d : List ℕ) → length d ≡ 0 → d ≡ []
-nothing [] e = refl
-nothing (x ∷ d) e = absurd (omega arith)
-
 -- RDATA that fits, read in place, is itself
 pub rdata-back : (jumps : Bool) (s r : List ℕ) (type at : ℕ) (d : List ℕ) → T (fits? type d) → drop at s ≡ d ++ r → rdataAt jumps s type at (length d) ≡ laid d
 unfolding fits?
 rdata-back jumps s r type at d h e = go (eqb (length d) 0) refl (layoutOf type) refl
   where
     go : (b : Bool) → eqb (length d) 0 ≡ b → (o : Option (List Piece)) → layoutOf type ≡ o → rdataAt jumps s type at (length d) ≡ laid d
-    go true p o q = let z = eqb-true (length d) 0 p in rdata-empty jumps s type at (length d) z ∙ ap laid (sym (nothing d z))
+    go true p o q = let z = eqb-true (length d) 0 p in rdata-empty jumps s type at (length d) z ∙ ap laid (sym (empty d z))
     go false p none q = rdata-free jumps s type at (length d) (eqb-false (length d) 0 p) q ∙ ap laid (take-here s d r at e)
     go false p (some layout) q =
         let z = eqb-false (length d) 0 p in

@@ -9,29 +9,25 @@ use lib.Dec.{leb, ltb, eqb}
 use lib.ListN.{length, getD, take}
 use lib.Seq.{take-suc}
 use Rattle.octets.specs.Lists.{each, count}
-use Rattle.octets.specs.Fields.{two, twoAt}
+use Rattle.octets.specs.Fields.{two, twoAt, two-same, empty}
 use Rattle.octets.specs.Overlay.{Wrote, overlay-first}
 use Rattle.octets.specs.Answer.{overwritten}
 use Rattle.names.specs.Name.{Fault, number}
 use Rattle.names.specs.Answer.{faultOf, numberOf, number-same}
 use Rattle.names.specs.declared.Fault.{Fault as FaultRead}
-use Rattle.records.specs.Message.{Record, questionForm, recordForm, headerForm, form}
+use Rattle.records.specs.Message.{questionForm, recordForm, headerForm, form, opt?}
 use Rattle.records.specs.Read.{Entry, entry, bad, questionAt, recordAt, Reached, reached, stopped, sectionAt, sectionFrom}
 use Rattle.records.specs.Decode.{headerOf, zOf, sectionsOf, messageOf, Decoded, accepted, refused, decode}
 use Rattle.records.specs.MessageLaws.{section-step, section-stop, section-count, from-count, from-reached}
 use Rattle.records.specs.Putting.{Part, mapped, questionPart, recordPart, partAt, Run, ran, halted, after, turned, sectionRun, Runs, runs, halts, joined, chained, messageRun}
 use Rattle.records.specs.declared.Came.{Came}
 use Rattle.records.specs.declared.Came.the-variants as came
-use Rattle.records.specs.declared.Outcome.the-variants as outcome
+use Rattle.octets.specs.declared.Outcome.the-variants as outcome
 use Rattle.records.specs.declared.Scan.{Scan}
 
 -- ---- what is promised
--- a TYPE 41 record
-abbrev pub opt? : Record → Bool
-opt? r = eqb (r .type) 41
-
 abbrev pub scanOf : Decoded → Scan
-scanOf (accepted m) = record { outcome = outcome.Whole (length (form m)); opts = count opt? (m .additional) }
+scanOf (accepted m) = record { outcome = outcome.Length (length (form m)); opts = count opt? (m .additional) }
 scanOf (refused k place) = record { outcome = outcome.Refused k place; opts = 0 }
 
 -- an accepted message's form is written if it fits; else nothing changes
@@ -126,12 +122,6 @@ module _ (s : List ℕ) where
       ∙ ap (joined (each recordForm (n .entries))) (from-run (twoAt s 10) (n .end)))))
 
 -- ---- the header's octets
-two-same : (a b : ℕ) → a < 256 → b < 256 → two (a * 256 + b) ≡ a ∷ b ∷ []
-two-same a b h k =
-    let p : (a * 256 + b) / 256 % 256 ≡ a = omega arith in
-    let q : (a * 256 + b) % 256 ≡ b = omega arith in
-    ap₂ (λ (x y : ℕ). x ∷ y ∷ []) p q
-
 first-twelve : (s : List ℕ) → 12 ≤ length s
     → take 12 s ≡ getD s 0 0 ∷ getD s 1 0 ∷ getD s 2 0 ∷ getD s 3 0 ∷ getD s 4 0 ∷ getD s 5 0 ∷ getD s 6 0 ∷ getD s 7 0 ∷ getD s 8 0 ∷ getD s 9 0 ∷ getD s 10 0 ∷ getD s 11 0 ∷ []
 first-twelve s h =
@@ -282,10 +272,6 @@ module _ (s : List ℕ) (small : length s ≤ 65535) (room : 12 ≤ length s) (c
           }
 
 -- ---- the call's ways
-empty : (e : List ℕ) → length e ≡ 0 → e ≡ []
-empty [] h = refl
-empty (x ∷ e) h = absurd (omega arith)
-
 -- a refusal
 refusing : {s b b′ : List ℕ} {r : Scan} (k place : ℕ) → decode s ≡ refused k place → r ≡ scanOf (refused k place) → b′ ≡ b → Uncompressed s b r b′
 refusing {b = b} k place d p q = record { answers = p ∙ ap scanOf (sym d); leaves = q ∙ ap (λ (x : Decoded). leftOf x b) (sym d) }
@@ -349,7 +335,7 @@ module _ (s b e : List ℕ) (o : (j : ℕ) → getD s j 0 < 256) (small : length
       module _ (k : size ≤ 65535) where
         -- the message is accepted
         accepts : (l : List ℕ) (n : ℕ) → messageRun s ≡ ran l at n → m ≡ 0 + n → size ≡ 0 + length l → (b′ : List ℕ)
-            → b′ ≡ cond (leb (length l) (length b)) (overwritten l b) b → Uncompressed s b (record { outcome = outcome.Whole size; opts = m }) b′
+            → b′ ≡ cond (leb (length l) (length b)) (overwritten l b) b → Uncompressed s b (record { outcome = outcome.Length size; opts = m }) b′
         accepts l n u v w b′ f =
             let y = decode-ran s small room clear o l at n u in
             let i : length l ≤ 65535 = omega arith in
@@ -357,12 +343,12 @@ module _ (s b e : List ℕ) (o : (j : ℕ) → getD s j 0 < 256) (small : length
             let j : size ≡ length l = omega arith in
             let g : decode s ≡ accepted (messageOf s) = y .gives ∙ rw (le-ltb at (length s) h, le-ltb 65535 (length l) i) in
             record {
-              answers = ap₂ (λ (a c : ℕ). record { outcome = outcome.Whole a; opts = c }) (j ∙ ap length (sym (y .same))) (c ∙ sym (y .opts)) ∙ ap scanOf (sym g);
+              answers = ap₂ (λ (a c : ℕ). record { outcome = outcome.Length a; opts = c }) (j ∙ ap length (sym (y .same))) (c ∙ sym (y .opts)) ∙ ap scanOf (sym g);
               leaves = f ∙ ap (λ (t : List ℕ). cond (leb (length t) (length b)) (overwritten t b) b) (sym (y .same)) ∙ ap (λ (t : Decoded). leftOf t b) (sym g);
             }
 
         -- it does not fit the buffer
-        pub no-room : length (e ++ b) < size → Uncompressed s b (record { outcome = outcome.Whole size; opts = m }) (e ++ b)
+        pub no-room : length (e ++ b) < size → Uncompressed s b (record { outcome = outcome.Length size; opts = m }) (e ++ b)
         no-room i =
             let (l, n, u, v, w) = told-ran (rw q at d) in
             let j : length (e ++ b) ≡ length b = ap length same-buffer in
@@ -370,7 +356,7 @@ module _ (s b e : List ℕ) (o : (j : ℕ) → getD s j 0 < 256) (small : length
 
         -- it fits, and is written by the second run
         pub with-room : {b′ : List ℕ} {y : Came} → size ≤ length (e ++ b) → Runs 0 (messageRun s) (e ++ b) 0 b′ y
-            → Uncompressed s b (record { outcome = outcome.Whole size; opts = m }) b′
+            → Uncompressed s b (record { outcome = outcome.Length size; opts = m }) b′
         with-room {b′} i c =
             let (l, n, u, v, w) = told-ran (rw q at d) in
             let (r, t) = told-again l at n (rw same-buffer at c) u in

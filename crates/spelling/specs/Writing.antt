@@ -8,10 +8,10 @@ use borrow.Author.Tests.{eq-eqb, ne-eqb, lt-ltb, le-ltb}
 use lib.Dec.{eqb}
 use lib.ListN.{length, getD, take, drop, length-drop, drop-of-length-le}
 use lib.Seq.{drop-drop, take-all}
-use Rattle.names.specs.NameLaws.{drop-one}
 use Rattle.octets.specs.Lists.{ascii, each, ended}
 use Rattle.octets.specs.Decimal.{decimal}
 use Rattle.octets.specs.Overlay.{Wrote, then, nothing, each-ended, each-end}
+use Rattle.octets.specs.Fields.{drop-one}
 use Rattle.spelling.specs.Spelling.{plain?, three-digits, spelled, labelText, signed, signedText, stringOctet, stringText}
 use Rattle.spelling.specs.Width.{width, spelled-width}
 use Rattle.spelling.specs.Form.{labels, formText, within-label, form-labels}

@@ -1,13 +1,12 @@
 -- What is in the grammar: the documents that can be spelled. Assumes nothing.
-use mathlib.Core.Bool.{Bool, not}
 use mathlib.Core.Option.{Option, none, some}
-use mathlib.Core.List.{List, [], _∷_, _++_}
+use mathlib.Core.List.{List}
 use Prim.Native.Nat.{ℕ, _<_}
 use lib.Dec.{T}
 use Rattle.octets.specs.Lists.{All, Octets, key?}
 use Rattle.octets.specs.Codec.{OneOrMore}
 use Rattle.names.specs.Name.{Name}
-use Rattle.records.specs.Message.{Header, Question}
+use Rattle.records.specs.Message.{Question}
 use Rattle.spelling.specs.Spelling.{Signed, plus, minus, printable?}
 use Rattle.options.specs.Options.{Form, hexObject, octetList, expiry, hexList, word, padding, wordList, extendedError, unlisted, Value, formOf, members, Member, known, other}
 use Rattle.edns.specs.Edns.{rcodes, EdnsItem, flags}

@@ -12,7 +12,7 @@ use lib.ListN.{length, take, drop, replicate, length-append, length-drop, length
 use lib.Seq.{length-take-le, take-at, drop-at}
 use Rattle.octets.specs.Lists.{all, All, octet?, Octets, word?, lookup, key?, each}
 use Rattle.octets.specs.Bits.{is-true, is-false, both, and-left, and-right, all→All, All→all, All-map, All-append, octets-in, octets-test}
-use Rattle.octets.specs.Fields.{two, four, twoAt, fourAt, two-back, four-at, two-octets, four-octets, twoAt-word, fourAt-long}
+use Rattle.octets.specs.Fields.{two, four, twoAt, fourAt, two-back, four-at, two-octets, four-octets, twoAt-word, fourAt-long, two-same}
 use Rattle.names.specs.NameLaws.{drop-octets, take-octets}
 use Rattle.spelling.specs.Spelling.{printable?}
 use Rattle.options.specs.Options.{Form, hexObject, octetList, expiry, hexList, word, padding, wordList, extendedError, unlisted, Value, Row, rows, members, row-form, formOf, zero?, words, present, shape, EdnsOption, Member, known, other, chosen, memberOf, absent?}
@@ -21,13 +21,6 @@ use Rattle.strict.specs.Grammar.{Number, StringIn, Maybe, ValueIn, Membe
 use Rattle.edns.specs.Edns.{option?}
 
 -- ---- numbers in octets
--- two octets, and the number that they hold
-two-same : (x y : ℕ) → x < 256 → y < 256 → two (x * 256 + y) ≡ x ∷ y ∷ []
-two-same x y h k =
-    let p : (x * 256 + y) / 256 % 256 ≡ x = omega arith in
-    let q : (x * 256 + y) % 256 ≡ y = omega arith in
-    λ i. p i ∷ q i ∷ []
-
 -- the two octets at the front, and those behind
 front-two : (l : List ℕ) → 2 ≤ length l → Octets l → two (twoAt l 0) ++ drop 2 l ≡ l
 front-two [] h o = absurd (omega arith)

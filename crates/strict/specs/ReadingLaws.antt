@@ -22,12 +22,11 @@ use Rattle.json.specs.Limits.{within?}
 use Rattle.json.specs.Document.{Document, documentText}
 use Rattle.json.specs.Text.{documentOf, viewText, text}
 use Rattle.json.specs.Converted.{converted}
-use Rattle.strict.specs.Grammar.{DocumentIn}
 use Rattle.strict.specs.Meaning.{meaning}
 use Rattle.strict.specs.MeaningLaws.{view-in, meaning-document, document-meaning}
 use Rattle.strict.specs.Parser.{parse, parse-exact, parse-ends, document-unique, document-filled}
 use Rattle.strict.specs.Visible.{visible}
-use Rattle.strict.specs.Reading.{sized, meant, parsed, reading}
+use Rattle.strict.specs.Reading.{meant, parsed, reading}
 
 -- ---- a text and its meaning
 -- the text means the view: it is within the grammar, and its document has this meaning

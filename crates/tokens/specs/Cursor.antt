@@ -1,15 +1,16 @@
 -- Where the reader is in a text, and what a reader shows of its way from one place to the next. Assumes nothing.
-use mathlib.Core.Path.{_≡_, refl, sym, _∙_, ap, subst}
+use mathlib.Core.Path.{_≡_, refl, sym, _∙_, subst}
 use mathlib.Core.Bool.{Bool, true, false, not}
-use mathlib.Core.List.{List, [], _∷_, _++_}
-use Prim.Native.Nat.{ℕ, zero, suc, _+_, _-_, _≤_, _<_}
+use mathlib.Core.List.{List, _∷_}
+use Prim.Native.Nat.{ℕ, _+_, _≤_, _<_}
 use native.Mathlib.Numerals.{add-one}
 use native.Mathlib.Omega.{arith}
 use borrow.Author.Tests.{eq-eqb, ne-eqb, not-true, not-false}
-use lib.Dec.{T, eqb}
+use lib.Dec.{T}
 use lib.ListN.{length, drop, getD, drop-of-length-le}
 use lib.Seq.{drop-cons}
 use Rattle.octets.specs.Parsed.{Parsed, took, stuck, and-then, strip}
+use Rattle.octets.specs.Fields.{drop-one}
 use Rattle.tokens.specs.declared.Cursor.{Cursor}
 
 -- what is left to read; where the reader has stopped, the text from there on
@@ -19,9 +20,6 @@ left-of false w = stuck w
 
 abbrev pub rest : List ℕ → Cursor → Parsed (Unit {0})
 rest t c = left-of (c .spelled) (drop (c .at) t)
-
-pub drop-one : (t : List ℕ) (at : ℕ) → at < length t → drop at t ≡ getD t at 0 ∷ drop (at + 1) t
-drop-one t at h = rw (add-one, drop-cons t at 0)
 
 -- the reader is in the text, and the message so far is within its limit
 pub record Safe (t : List ℕ) (c : Cursor) : Type 0 where

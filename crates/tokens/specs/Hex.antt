@@ -15,9 +15,10 @@ use Rattle.octets.specs.Codec.{Avoids}
 use Rattle.octets.specs.Overlay.{each-append, each-single}
 use Rattle.octets.specs.Decimal.{digit?, digit-in}
 use Rattle.octets.specs.Hexadecimal.{hexDigit, hexDigit-in, hexOctet, capital?, unhex, unhex-back, octetCodec, hexOctet-avoids, hex}
+use Rattle.octets.specs.Fields.{drop-one}
 use Rattle.tokens.specs.declared.Cursor.{Cursor}
 use Rattle.tokens.specs.declared.Span.{Span}
-use Rattle.tokens.specs.Cursor.{left-of, rest, drop-one, Safe, Keeps, keeps-same, keeps-then, Passed, Came, Stopped, went-keeps, Reads, stopped, taken, clash}
+use Rattle.tokens.specs.Cursor.{left-of, rest, Safe, Keeps, keeps-same, keeps-then, Passed, Came, Stopped, went-keeps, Reads, stopped, taken, clash}
 use Rattle.tokens.specs.Step.{Found, found-stuck, moves}
 use Rattle.tokens.specs.Many.{run-of, Going, going-start, going-more, going-stop, many-once}
 use Rattle.tokens.specs.Leaf.{found-stop, stays-at, strip-at-once}

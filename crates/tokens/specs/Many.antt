@@ -1,14 +1,14 @@
 -- How a loop reads what `many` describes, turn by turn. Assumes nothing.
-use mathlib.Core.Path.{_≡_, refl, sym, _∙_, ap, subst}
+use mathlib.Core.Path.{_≡_, refl, sym, _∙_, ap}
 use mathlib.Core.Logic.{_⊎_, inl, inr, ⊎-elim}
 use mathlib.Core.List.{List, [], _∷_, _++_, append-assoc, append-nil, nil≢cons, head-eq-of-cons-eq}
-use Prim.Native.Nat.{ℕ, zero, suc, _+_, _-_, _≤_, _<_}
+use Prim.Native.Nat.{ℕ, zero, suc, _+_, _≤_, _<_}
 use native.Mathlib.Omega.{arith}
 use borrow.Author.Tests.{eq-eqb}
 use lib.ListN.{length, drop, getD, drop-of-length-le, length-append}
 use Rattle.octets.specs.Parsed.{Parsed, took, stuck, and-then, otherwise, strip, Holds, missed, found, held, is-stuck, strip-sound}
 use Rattle.octets.specs.Codec.{Avoids, Codec, repeated}
-use Rattle.tokens.specs.Cursor.{drop-one}
+use Rattle.octets.specs.Fields.{drop-one}
 
 pub le-or-lt : (a b : ℕ) → (a ≤ b) ⊎ (b < a)
 le-or-lt zero b = inl (omega arith)

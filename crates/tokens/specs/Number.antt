@@ -2,7 +2,7 @@
 use mathlib.Core.Path.{_≡_, refl, sym, _∙_, ap, subst}
 use mathlib.Core.Bool.{true, false, not}
 use mathlib.Core.List.{List, [], _∷_}
-use Prim.Native.Nat.{ℕ, zero, suc, _+_, _-_, _*_, _≤_, _<_, min}
+use Prim.Native.Nat.{ℕ, _+_, _-_, _*_, _≤_, _<_, min}
 use native.Mathlib.Omega.{arith}
 use borrow.Author.Tests.{not-true, not-false}
 use lib.Dec.{T, T-not, not-T, leb, ltb, le→leb, lt→ltb, leb→le, ltb→lt}
@@ -10,9 +10,10 @@ use lib.ListN.{length, drop, getD, drop-of-length-le}
 use Rattle.octets.specs.Bits.{is-true, is-false, both, unequal, and-left, and-right}
 use Rattle.octets.specs.Parsed.{took, stuck, strip}
 use Rattle.octets.specs.Decimal.{digit?, digit-in, digit-test, NoDigit, leading?, run, run-digit, run-stop, positive, natural}
+use Rattle.octets.specs.Fields.{drop-one}
 use Rattle.tokens.specs.declared.Cursor.{Cursor}
 use Rattle.tokens.specs.declared.Amount.{Amount}
-use Rattle.tokens.specs.Cursor.{drop-one, Safe, Keeps, keeps-same, Passed, Came, Stopped, went-keeps}
+use Rattle.tokens.specs.Cursor.{Safe, Keeps, keeps-same, Passed, Came, Stopped, went-keeps}
 use Rattle.tokens.specs.Step.{Found, found-as, found-stuck}
 use Rattle.tokens.specs.Leaf.{found-took, found-stop, found-same, found-entry, passed-took, passed-stop, strip-first, strip-not}
 

@@ -1,18 +1,18 @@
 -- Readers one after another, and what they write. Assumes nothing.
-use mathlib.Core.Path.{_≡_, refl, sym, _∙_, ap, subst}
+use mathlib.Core.Path.{_≡_, refl, sym, _∙_, subst}
 use mathlib.Core.Bool.{Bool, true, false, not, cond, _&&_}
-use mathlib.Core.List.{List, [], _∷_, _++_}
-use Prim.Native.Nat.{ℕ, _+_, _-_, _*_, _≤_, _<_}
+use mathlib.Core.List.{List, _++_}
+use Prim.Native.Nat.{ℕ, _+_, _≤_, _<_}
 use native.Mathlib.Omega.{arith}
-use borrow.Author.Tests.{le-leb, lt-leb, leb-true, leb-false}
+use borrow.Author.Tests.{le-leb, lt-leb, leb-false}
 use lib.Dec.{T, leb, ltb, lt→ltb, ltb→lt, nltb→le}
 use lib.Arith.{le→nltb}
 use lib.ListN.{length, drop, length-append, length-drop}
-use Rattle.octets.specs.Bits.{is-true, is-false, and-left, and-right}
+use Rattle.octets.specs.Bits.{is-true, is-false, and-left}
 use Rattle.octets.specs.Parsed.{Parsed, took, stuck, and-then, or-else, strip}
 use Rattle.octets.specs.Overlay.{Wrote, then}
 use Rattle.tokens.specs.declared.Cursor.{Cursor}
-use Rattle.tokens.specs.Cursor.{left-of, rest, Safe, Keeps, Passed, Reads, stopped, taken, reads-as, reads-at, reads-got, reads-bad, Got, clash}
+use Rattle.tokens.specs.Cursor.{left-of, rest, Safe, Keeps, Passed, Reads, stopped, taken, reads-as, reads-at, clash}
 
 -- ---- what is read, whatever is done with it
 pub then-then : {A B C : Type 0} (o : Parsed A) (f : A → List ℕ → Parsed B) (g : B → List ℕ → Parsed C) → and-then (and-then o f) g ≡ and-then o (λ a r. and-then (f a r) g)

@@ -2,9 +2,6 @@ use borrow.Author.Needs.{needs}
 use Rattle.entries.specs.Sections.{asked-read}
 use Rattle.entries.proofs.asked.Statement.{statement}
 use Rattle.entries.proofs.asked.Tie as tie
-use Rattle.entries.proofs.asked.Reads as reads
-use Rattle.entries.proofs.asked.Lts as lts
-use Rattle.entries.proofs.question.Reads as question-reads
 
 question-requires : tie.Need-question-requires
 question-requires c κs = search needs

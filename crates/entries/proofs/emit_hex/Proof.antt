@@ -2,10 +2,6 @@ use borrow.Author.Needs.{needs}
 use Rattle.entries.specs.Reading.{emits-hex, emits-hex-over}
 use Rattle.entries.proofs.emit_hex.Statement.{statement}
 use Rattle.entries.proofs.emit_hex.Tie as tie
-use Rattle.entries.proofs.emit_hex.Reads as reads
-use Rattle.entries.proofs.emit_hex.Lts as lts
-use Rattle.digits.proofs.put_octets.Reads as put-octets-reads
-use Rattle.tokens.proofs.over.Reads as over-reads
 
 add-end : tie.Need-add-end
 add-end c = search needs

@@ -2,9 +2,6 @@ use borrow.Author.Needs.{needs}
 use Rattle.entries.specs.Sections.{ends-not, ends-by}
 use Rattle.entries.proofs.ends.Statement.{statement}
 use Rattle.entries.proofs.ends.Tie as tie
-use Rattle.entries.proofs.ends.Reads as reads
-use Rattle.entries.proofs.ends.Lts as lts
-use Rattle.entries.proofs.octet_at.Reads as octet-at-reads
 
 returns : tie.Need-returns
 returns c = search (ends-not, needs)

@@ -2,9 +2,6 @@ use borrow.Author.Needs.{needs}
 use Rattle.entries.specs.Items.{further-goes, further-there, further-here}
 use Rattle.entries.proofs.further.Statement.{statement}
 use Rattle.entries.proofs.further.Tie as tie
-use Rattle.entries.proofs.further.Reads as reads
-use Rattle.entries.proofs.further.Lts as lts
-use Rattle.tokens.proofs.stop.Reads as stop-reads
 
 returns : tie.Need-returns
 returns c = search (further-goes, needs)

@@ -2,13 +2,6 @@ use borrow.Author.Needs.{needs}
 use Rattle.entries.specs.Sections.{inside-none, inside-some}
 use Rattle.entries.proofs.inside.Statement.{statement}
 use Rattle.entries.proofs.inside.Tie as tie
-use Rattle.entries.proofs.inside.Reads as reads
-use Rattle.entries.proofs.inside.Lts as lts
-use Rattle.entries.proofs.ends.Reads as ends-reads
-use Rattle.entries.proofs.one.Reads as one-reads
-use Rattle.entries.proofs.others.Reads as others-reads
-use Rattle.entries.proofs.tally.Reads as tally-reads
-use Rattle.tokens.proofs.came.Reads as came-reads
 
 ends-requires : tie.Need-ends-requires
 ends-requires c κs = search needs

@@ -2,11 +2,6 @@ use borrow.Author.Needs.{needs}
 use Rattle.entries.specs.Items.{item-edns, item-record}
 use Rattle.entries.proofs.item.Statement.{statement}
 use Rattle.entries.proofs.item.Tie as tie
-use Rattle.entries.proofs.item.Reads as reads
-use Rattle.entries.proofs.item.Lts as lts
-use Rattle.entries.proofs.further.Reads as further-reads
-use Rattle.entries.proofs.record.Reads as record-reads
-use Rattle.tokens.proofs.literal.Reads as literal-reads
 
 slice-aggregate-literal : tie.Need-slice-aggregate-literal
 slice-aggregate-literal c = search needs

@@ -2,8 +2,6 @@ use borrow.Author.Needs.{needs}
 use Rattle.entries.specs.Reading.{kind-over, kind-in}
 use Rattle.entries.proofs.kind_of.Statement.{statement}
 use Rattle.entries.proofs.kind_of.Tie as tie
-use Rattle.entries.proofs.kind_of.Reads as reads
-use Rattle.entries.proofs.kind_of.Lts as lts
 
 returns : tie.Need-returns
 returns c = search (kind-over, needs)

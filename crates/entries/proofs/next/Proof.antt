@@ -2,10 +2,6 @@ use borrow.Author.Needs.{needs}
 use Rattle.entries.specs.Sections.{next-read}
 use Rattle.entries.proofs.next.Statement.{statement}
 use Rattle.entries.proofs.next.Tie as tie
-use Rattle.entries.proofs.next.Reads as reads
-use Rattle.entries.proofs.next.Lts as lts
-use Rattle.entries.proofs.one.Reads as one-reads
-use Rattle.tokens.proofs.literal.Reads as literal-reads
 
 slice-aggregate-literal : tie.Need-slice-aggregate-literal
 slice-aggregate-literal c = search needs

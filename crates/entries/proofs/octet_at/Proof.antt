@@ -2,8 +2,6 @@ use borrow.Author.Needs.{needs}
 use Rattle.entries.specs.Sections.{octet-past}
 use Rattle.entries.proofs.octet_at.Statement.{statement}
 use Rattle.entries.proofs.octet_at.Tie as tie
-use Rattle.entries.proofs.octet_at.Reads as reads
-use Rattle.entries.proofs.octet_at.Lts as lts
 
 shared-slice-read-result : tie.Need-shared-slice-read-result
 shared-slice-read-result c = search needs

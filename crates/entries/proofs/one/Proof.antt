@@ -2,11 +2,6 @@ use borrow.Author.Needs.{needs}
 use Rattle.entries.specs.Sections.{one-asked, one-titled, one-item}
 use Rattle.entries.proofs.one.Statement.{statement}
 use Rattle.entries.proofs.one.Tie as tie
-use Rattle.entries.proofs.one.Reads as reads
-use Rattle.entries.proofs.one.Lts as lts
-use Rattle.entries.proofs.asked.Reads as asked-reads
-use Rattle.entries.proofs.item.Reads as item-reads
-use Rattle.entries.proofs.titled.Reads as titled-reads
 
 enum-told : tie.Need-enum-told
 enum-told c = search needs

@@ -5,13 +5,6 @@ use borrow.Author.Needs.{needs}
 use Rattle.entries.specs.Sections.{Gathered, gathered-start, gathered-more, gathered-less, others-stopped, others-end, others-no}
 use Rattle.entries.proofs.others.Statement.{statement}
 use Rattle.entries.proofs.others.Tie as tie
-use Rattle.entries.proofs.others.Reads as reads
-use Rattle.entries.proofs.others.Lts as lts
-use Rattle.entries.proofs.either.Reads as either-reads
-use Rattle.entries.proofs.next.Reads as next-reads
-use Rattle.entries.proofs.octet_at.Reads as octet-at-reads
-use Rattle.entries.proofs.tally.Reads as tally-reads
-use Rattle.tokens.proofs.came.Reads as came-reads
 
 abbrev Inv-loop : tie.InvT-loop
 Inv-loop text opt seen unseen element rcode out₀ d₀ count₀ opts₀ shown₀ hidden₀ spelled out d count opts shown hidden =

@@ -3,10 +3,6 @@ use native.Mathlib.Omega.{arith}
 use Rattle.entries.specs.Reading.{question-read}
 use Rattle.entries.proofs.question.Statement.{statement}
 use Rattle.entries.proofs.question.Tie as tie
-use Rattle.entries.proofs.question.Reads as reads
-use Rattle.entries.proofs.question.Lts as lts
-use Rattle.entries.proofs.word.Reads as word-reads
-use Rattle.tokens.proofs.literal.Reads as literal-reads
 
 slice-aggregate-literal : tie.Need-slice-aggregate-literal
 slice-aggregate-literal c = search needs

@@ -2,14 +2,6 @@ use borrow.Author.Needs.{needs}
 use Rattle.entries.specs.Reading.{rdata-read, run-hexes}
 use Rattle.entries.proofs.rdata.Statement.{statement}
 use Rattle.entries.proofs.rdata.Tie as tie
-use Rattle.entries.proofs.rdata.Reads as reads
-use Rattle.entries.proofs.rdata.Lts as lts
-use Rattle.digits.proofs.fits_layout.Reads as fits-layout-reads
-use Rattle.entries.proofs.emit_hex.Reads as emit-hex-reads
-use Rattle.entries.proofs.kind_of.Reads as kind-of-reads
-use Rattle.tokens.proofs.emit.Reads as emit-reads
-use Rattle.tokens.proofs.hex.Reads as hex-reads
-use Rattle.tokens.proofs.judge.Reads as judge-reads
 
 hex-requires : tie.Need-hex-requires
 hex-requires c κs = search needs

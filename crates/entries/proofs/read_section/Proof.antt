@@ -2,10 +2,6 @@ use borrow.Author.Needs.{needs}
 use Rattle.entries.specs.Sections.{section-read}
 use Rattle.entries.proofs.read_section.Statement.{statement}
 use Rattle.entries.proofs.read_section.Tie as tie
-use Rattle.entries.proofs.read_section.Reads as reads
-use Rattle.entries.proofs.read_section.Lts as lts
-use Rattle.entries.proofs.inside.Reads as inside-reads
-use Rattle.tokens.proofs.literal.Reads as literal-reads
 
 slice-aggregate-literal : tie.Need-slice-aggregate-literal
 slice-aggregate-literal c = search needs

@@ -3,11 +3,6 @@ use native.Mathlib.Omega.{arith}
 use Rattle.entries.specs.Reading.{record-read}
 use Rattle.entries.proofs.record.Statement.{statement}
 use Rattle.entries.proofs.record.Tie as tie
-use Rattle.entries.proofs.record.Reads as reads
-use Rattle.entries.proofs.record.Lts as lts
-use Rattle.entries.proofs.tail.Reads as tail-reads
-use Rattle.entries.proofs.word.Reads as word-reads
-use Rattle.tokens.proofs.literal.Reads as literal-reads
 
 name-requires : tie.Need-name-requires
 name-requires c κs = search needs

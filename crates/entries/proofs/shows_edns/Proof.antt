@@ -2,9 +2,6 @@ use borrow.Author.Needs.{needs}
 use Rattle.entries.specs.Reading.{shows-not, shows-edns-of}
 use Rattle.entries.proofs.shows_edns.Statement.{statement}
 use Rattle.entries.proofs.shows_edns.Tie as tie
-use Rattle.entries.proofs.shows_edns.Reads as reads
-use Rattle.entries.proofs.shows_edns.Lts as lts
-use Rattle.digits.proofs.is_edns.Reads as is-edns-reads
 
 returns : tie.Need-returns
 returns c = search (shows-not, needs)

@@ -3,13 +3,6 @@ use Rattle.entries.specs.Reading.{run-spans}
 use Rattle.entries.specs.Reading.{tail-read}
 use Rattle.entries.proofs.tail.Statement.{statement}
 use Rattle.entries.proofs.tail.Tie as tie
-use Rattle.entries.proofs.tail.Reads as reads
-use Rattle.entries.proofs.tail.Lts as lts
-use Rattle.entries.proofs.rdata.Reads as rdata-reads
-use Rattle.entries.proofs.shows_edns.Reads as shows-edns-reads
-use Rattle.tokens.proofs.literal.Reads as literal-reads
-use Rattle.tokens.proofs.put_ttl.Reads as put-ttl-reads
-use Rattle.tokens.proofs.signed.Reads as signed-reads
 
 signed-requires : tie.Need-signed-requires
 signed-requires c κs = search needs

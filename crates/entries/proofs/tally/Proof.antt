@@ -2,8 +2,6 @@ use borrow.Author.Needs.{needs}
 use Rattle.entries.specs.Sections.{tally-none, tally-full, tally-more}
 use Rattle.entries.proofs.tally.Statement.{statement}
 use Rattle.entries.proofs.tally.Tie as tie
-use Rattle.entries.proofs.tally.Reads as reads
-use Rattle.entries.proofs.tally.Lts as lts
 
 returns : tie.Need-returns
 returns c = search (tally-none, needs)

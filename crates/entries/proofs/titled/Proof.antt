@@ -2,10 +2,6 @@ use borrow.Author.Needs.{needs}
 use Rattle.entries.specs.Sections.{titled-read}
 use Rattle.entries.proofs.titled.Statement.{statement}
 use Rattle.entries.proofs.titled.Tie as tie
-use Rattle.entries.proofs.titled.Reads as reads
-use Rattle.entries.proofs.titled.Lts as lts
-use Rattle.entries.proofs.record.Reads as record-reads
-use Rattle.tokens.proofs.literal.Reads as literal-reads
 
 slice-aggregate-literal : tie.Need-slice-aggregate-literal
 slice-aggregate-literal c = search needs

@@ -2,10 +2,6 @@ use borrow.Author.Needs.{needs}
 use Rattle.entries.specs.Reading.{word-read}
 use Rattle.entries.proofs.word.Statement.{statement}
 use Rattle.entries.proofs.word.Tie as tie
-use Rattle.entries.proofs.word.Reads as reads
-use Rattle.entries.proofs.word.Lts as lts
-use Rattle.tokens.proofs.number.Reads as number-reads
-use Rattle.tokens.proofs.put_word.Reads as put-word-reads
 
 number-requires : tie.Need-number-requires
 number-requires c κs = search needs

@@ -18,27 +18,34 @@ uncompress-requires c κs = search needs
 enum-known-outcome : tie.Need-enum-known-outcome
 enum-known-outcome c = search needs
 
-enum-known-outcome-2 : tie.Need-enum-known-outcome-2
-enum-known-outcome-2 c = search needs
-
-deliver-requires : tie.Need-deliver-requires
-deliver-requires c κs =
-    let u = c .before .before .before .before .before .before .uncompress in
-    let k = convert-limits _ [] _ (u .kept .1 .0) (u .ensures) (c .before .before .outcome2 .given .1) in
-    let l = convert-bounded _ [] _ (u .kept .1 .0) (u .ensures) (λ i. c .before .before .before .before .before .before .before .before .before .shared-slice-known .given i .fits) (c .before .before .outcome2 .given .1) in
-    (k .0, k .1, l .0, l .1)
+enum-told : tie.Need-enum-told
+enum-told c = search needs
 
 same-length : tie.Need-same-length
 same-length c = search needs
 
 returns : tie.Need-returns
-returns c = convert-refused _ _ _ (c .before .before .before .before .before .uncompress .kept .1 .0) (c .before .before .before .before .before .uncompress .ensures) (c .before .outcome .given .1)
+returns c =
+    let u = c .before .before .before .before .uncompress in
+    let e = c .enum-told .given .1 in
+    rw e (convert-refused _ _ _ (u .kept .1 .0) (u .ensures) e)
+
+deliver-requires : tie.Need-deliver-requires
+deliver-requires c κs =
+    let u = c .before .before .before .before .before .before .uncompress in
+    let e = c .before .before .outcome .given .1 in
+    let octet = c .before .before .before .before .before .before .before .before .before .shared-slice-known .given in
+    let k = convert-limits _ [] _ (u .kept .1 .0) (u .ensures) e in
+    let l = convert-bounded _ [] _ (u .kept .1 .0) (u .ensures) (λ i. octet i .fits) e in
+    (k .0, k .1, l .0, l .1)
 
 same-length-2 : tie.Need-same-length-2
 same-length-2 c = search needs
 
 returns-2 : tie.Need-returns-2
-returns-2 c = convert-whole _ _ _ (c .before .before .before .before .before .before .before .before .before .uncompress .kept .1 .0) (c .before .before .before .before .before .before .before .before .before .uncompress .ensures) (c .before .before .before .before .before .outcome2 .given .1) (c .before .before .deliver .ensures)
+returns-2 c =
+    let u = c .before .before .before .before .before .before .before .before .before .uncompress in
+    convert-whole _ _ _ (u .kept .1 .0) (u .ensures) (c .before .before .before .before .before .outcome .given .1) (c .before .before .deliver .ensures)
 
 pub convert-spec : {M : Type 1} → statement M
 convert-spec =
@@ -48,9 +55,9 @@ convert-spec =
     slice-aggregate-uncompress
     uncompress-requires
     enum-known-outcome
-    enum-known-outcome-2
-    deliver-requires
+    enum-told
     same-length
     returns
+    deliver-requires
     same-length-2
     returns-2)

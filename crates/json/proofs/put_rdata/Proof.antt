@@ -9,7 +9,8 @@ use Rattle.octets.specs.Overlay.{same-long}
 use Rattle.records.specs.Parts.{layoutIn}
 use Rattle.records.specs.Pieces.{part-within, name-within, done-within}
 use Rattle.json.specs.Elements.{rdataText}
-use Rattle.json.specs.Writing.{hex-room, hex-short, Rest, rest-first, rest-part, rest-name, rest-done, rest-misfit, name-room}
+use Rattle.json.specs.Writing.{hex-room, hex-short, Rest, rest-first, rest-part, rest-name, rest-done, rest-misfit}
+use Rattle.records.specs.Told.{name-room}
 use Rattle.json.proofs.put_rdata.Statement.{statement}
 use Rattle.json.proofs.put_rdata.Tie as tie
 
@@ -70,7 +71,7 @@ part-put-hex-start-2 : tie.Need-part-put-hex-start-2 Inv-loop μ-loop
 part-put-hex-start-2 c = search needs
 
 part-put-hex-end-2 : tie.Need-part-put-hex-end-2 Inv-loop μ-loop
-part-put-hex-end-2 c = name-room (c .before .before .before .before .before .before .before .loop .inv .5) (c .before .before .before .before .before .before .rdata-step .ensures .0) (c .before .before .before .step2 .given .1)
+part-put-hex-end-2 c = name-room _ (c .before .before .before .before .before .before .rdata-step .ensures .0) (c .before .before .before .step2 .given .1)
 
 put-hex-requires-2 : tie.Need-put-hex-requires-2 Inv-loop μ-loop
 put-hex-requires-2 c κs = let k = name-within _ (c .before .before .before .before .before .before .before .rdata-step .ensures .1) (c .before .before .before .before .step2 .given .1) in

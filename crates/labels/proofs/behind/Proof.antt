@@ -2,8 +2,6 @@ use Rattle.labels.specs.Name.{grew-over, grew}
 use borrow.Author.Needs.{needs}
 use Rattle.labels.proofs.behind.Statement.{statement}
 use Rattle.labels.proofs.behind.Tie as tie
-use Rattle.labels.proofs.behind.Reads as reads
-use Rattle.labels.proofs.behind.Lts as lts
 
 add-end : tie.Need-add-end
 add-end c = search needs

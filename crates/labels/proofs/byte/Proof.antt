@@ -2,8 +2,6 @@ use Rattle.labels.specs.Place.{byte-past}
 use borrow.Author.Needs.{needs}
 use Rattle.labels.proofs.byte.Statement.{statement}
 use Rattle.labels.proofs.byte.Tie as tie
-use Rattle.labels.proofs.byte.Reads as reads
-use Rattle.labels.proofs.byte.Lts as lts
 
 shared-slice-read-result : tie.Need-shared-slice-read-result
 shared-slice-read-result c = search needs

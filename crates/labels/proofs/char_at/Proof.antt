@@ -2,10 +2,6 @@ use Rattle.labels.specs.String.{char-bare, char-other, char-quote, char-
 use borrow.Author.Needs.{needs}
 use Rattle.labels.proofs.char_at.Statement.{statement}
 use Rattle.labels.proofs.char_at.Tie as tie
-use Rattle.labels.proofs.char_at.Reads as reads
-use Rattle.labels.proofs.char_at.Lts as lts
-use Rattle.labels.proofs.byte.Reads as byte-reads
-use Rattle.labels.proofs.is_bare.Reads as is-bare-reads
 
 byte-requires : tie.Need-byte-requires
 byte-requires c κs = search needs

@@ -4,10 +4,6 @@ use native.Mathlib.Omega.{arith}
 use borrow.Author.Needs.{needs}
 use Rattle.labels.proofs.digits.Statement.{statement}
 use Rattle.labels.proofs.digits.Tie as tie
-use Rattle.labels.proofs.digits.Reads as reads
-use Rattle.labels.proofs.digits.Lts as lts
-use Rattle.labels.proofs.byte.Reads as byte-reads
-use Rattle.labels.proofs.second_digit.Reads as second-digit-reads
 
 byte-requires : tie.Need-byte-requires
 byte-requires c κs = search needs

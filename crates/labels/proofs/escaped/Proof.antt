@@ -2,10 +2,6 @@ use Rattle.labels.specs.Octet.{escape-dot, escape-short, escape-backslas
 use borrow.Author.Needs.{needs}
 use Rattle.labels.proofs.escaped.Statement.{statement}
 use Rattle.labels.proofs.escaped.Tie as tie
-use Rattle.labels.proofs.escaped.Reads as reads
-use Rattle.labels.proofs.escaped.Lts as lts
-use Rattle.labels.proofs.byte.Reads as byte-reads
-use Rattle.labels.proofs.digits.Reads as digits-reads
 
 byte-requires : tie.Need-byte-requires
 byte-requires c κs = search needs

@@ -2,8 +2,6 @@ use Rattle.labels.specs.Octet.{highest-zero, highest-one, highest-other}
 use borrow.Author.Needs.{needs}
 use Rattle.labels.proofs.highest_second.Statement.{statement}
 use Rattle.labels.proofs.highest_second.Tie as tie
-use Rattle.labels.proofs.highest_second.Reads as reads
-use Rattle.labels.proofs.highest_second.Lts as lts
 
 returns : tie.Need-returns
 returns c = search (highest-zero, needs)

@@ -2,8 +2,6 @@ use Rattle.labels.specs.String.{bare-low, bare-high, bare-quote, bare-ba
 use borrow.Author.Needs.{needs}
 use Rattle.labels.proofs.is_bare.Statement.{statement}
 use Rattle.labels.proofs.is_bare.Tie as tie
-use Rattle.labels.proofs.is_bare.Reads as reads
-use Rattle.labels.proofs.is_bare.Lts as lts
 
 returns : tie.Need-returns
 returns c = search (bare-low, needs)

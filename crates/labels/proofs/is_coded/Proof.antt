@@ -2,9 +2,6 @@ use Rattle.labels.specs.Octet.{coded-high, coded-plain, coded-dot, coded
 use borrow.Author.Needs.{needs}
 use Rattle.labels.proofs.is_coded.Statement.{statement}
 use Rattle.labels.proofs.is_coded.Tie as tie
-use Rattle.labels.proofs.is_coded.Reads as reads
-use Rattle.labels.proofs.is_coded.Lts as lts
-use Rattle.labels.proofs.is_plain.Reads as is-plain-reads
 
 returns : tie.Need-returns
 returns c = search (coded-high, needs)

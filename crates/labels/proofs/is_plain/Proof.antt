@@ -2,8 +2,6 @@ use Rattle.labels.specs.Octet.{plain-low, plain-high, plain-quote, plain
 use borrow.Author.Needs.{needs}
 use Rattle.labels.proofs.is_plain.Statement.{statement}
 use Rattle.labels.proofs.is_plain.Tie as tie
-use Rattle.labels.proofs.is_plain.Reads as reads
-use Rattle.labels.proofs.is_plain.Lts as lts
 
 returns : tie.Need-returns
 returns c = search (plain-low, needs)

@@ -5,12 +5,6 @@ use lib.ListN.{length}
 use borrow.Author.Needs.{needs}
 use Rattle.labels.proofs.label_at.Statement.{statement}
 use Rattle.labels.proofs.label_at.Tie as tie
-use Rattle.labels.proofs.label_at.Reads as reads
-use Rattle.labels.proofs.label_at.Lts as lts
-use Rattle.labels.proofs.byte.Reads as byte-reads
-use Rattle.labels.proofs.octet.Reads as octet-reads
-use Rattle.labels.proofs.store.Reads as store-reads
-use Rattle.octets.proofs.put.Reads as put-reads
 
 abbrev Inv-loop : tie.InvT-loop
 Inv-loop text start out₀ to x at₀ n₀ out at n = Letters text start out₀ to at n out

@@ -5,12 +5,6 @@ use lib.ListN.{length}
 use borrow.Author.Needs.{needs}
 use Rattle.labels.proofs.labels_at.Statement.{statement}
 use Rattle.labels.proofs.labels_at.Tie as tie
-use Rattle.labels.proofs.labels_at.Reads as reads
-use Rattle.labels.proofs.labels_at.Lts as lts
-use Rattle.labels.proofs.byte.Reads as byte-reads
-use Rattle.labels.proofs.grow.Reads as grow-reads
-use Rattle.labels.proofs.label_at.Reads as label-at-reads
-use Rattle.octets.proofs.put.Reads as put-reads
 
 abbrev Inv-loop : tie.InvT-loop
 Inv-loop text start out₀ to x at₀ size₀ out at size = Labels text start out₀ to at size out

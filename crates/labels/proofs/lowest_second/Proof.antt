@@ -2,8 +2,6 @@ use Rattle.labels.specs.Octet.{lowest-one, lowest-other}
 use borrow.Author.Needs.{needs}
 use Rattle.labels.proofs.lowest_second.Statement.{statement}
 use Rattle.labels.proofs.lowest_second.Tie as tie
-use Rattle.labels.proofs.lowest_second.Reads as reads
-use Rattle.labels.proofs.lowest_second.Lts as lts
 
 returns : tie.Need-returns
 returns c = search (lowest-one, needs)

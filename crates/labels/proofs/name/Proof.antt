@@ -4,15 +4,6 @@ use Rattle.labels.specs.Name.{name-stuck, name-bad, name-is}
 use borrow.Author.Needs.{needs}
 use Rattle.labels.proofs.name.Statement.{statement}
 use Rattle.labels.proofs.name.Tie as tie
-use Rattle.labels.proofs.name.Reads as reads
-use Rattle.labels.proofs.name.Lts as lts
-use Rattle.labels.proofs.behind.Reads as behind-reads
-use Rattle.labels.proofs.byte.Reads as byte-reads
-use Rattle.labels.proofs.labels_at.Reads as labels-at-reads
-use Rattle.labels.proofs.root.Reads as root-reads
-use Rattle.tokens.proofs.came.Reads as came-reads
-use Rattle.tokens.proofs.judge.Reads as judge-reads
-use Rattle.tokens.proofs.stop.Reads as stop-reads
 
 returns : tie.Need-returns
 returns c = search (name-stuck, needs)

@@ -4,11 +4,6 @@ use native.Mathlib.Omega.{arith}
 use borrow.Author.Needs.{needs}
 use Rattle.labels.proofs.octet.Statement.{statement}
 use Rattle.labels.proofs.octet.Tie as tie
-use Rattle.labels.proofs.octet.Reads as reads
-use Rattle.labels.proofs.octet.Lts as lts
-use Rattle.labels.proofs.byte.Reads as byte-reads
-use Rattle.labels.proofs.escaped.Reads as escaped-reads
-use Rattle.labels.proofs.is_plain.Reads as is-plain-reads
 
 byte-requires : tie.Need-byte-requires
 byte-requires c κs = search needs

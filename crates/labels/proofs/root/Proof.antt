@@ -3,10 +3,6 @@ use Rattle.labels.specs.Name.{root-bad, root-is}
 use borrow.Author.Needs.{needs}
 use Rattle.labels.proofs.root.Statement.{statement}
 use Rattle.labels.proofs.root.Tie as tie
-use Rattle.labels.proofs.root.Reads as reads
-use Rattle.labels.proofs.root.Lts as lts
-use Rattle.tokens.proofs.emit.Reads as emit-reads
-use Rattle.tokens.proofs.literal.Reads as literal-reads
 
 slice-aggregate-literal : tie.Need-slice-aggregate-literal
 slice-aggregate-literal c = search needs

@@ -4,12 +4,6 @@ use native.Mathlib.Omega.{arith}
 use borrow.Author.Needs.{needs}
 use Rattle.labels.proofs.second_digit.Statement.{statement}
 use Rattle.labels.proofs.second_digit.Tie as tie
-use Rattle.labels.proofs.second_digit.Reads as reads
-use Rattle.labels.proofs.second_digit.Lts as lts
-use Rattle.labels.proofs.byte.Reads as byte-reads
-use Rattle.labels.proofs.highest_second.Reads as highest-second-reads
-use Rattle.labels.proofs.lowest_second.Reads as lowest-second-reads
-use Rattle.labels.proofs.third_digit.Reads as third-digit-reads
 
 byte-requires : tie.Need-byte-requires
 byte-requires c κs = search needs

@@ -2,9 +2,6 @@ use Rattle.labels.specs.Label.{stored-not, stored}
 use borrow.Author.Needs.{needs}
 use Rattle.labels.proofs.store.Statement.{statement}
 use Rattle.labels.proofs.store.Tie as tie
-use Rattle.labels.proofs.store.Reads as reads
-use Rattle.labels.proofs.store.Lts as lts
-use Rattle.octets.proofs.put.Reads as put-reads
 
 returns : tie.Need-returns
 returns c = search (stored-not, needs)

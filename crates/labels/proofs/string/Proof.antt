@@ -5,13 +5,6 @@ use lib.ListN.{length}
 use borrow.Author.Needs.{needs}
 use Rattle.labels.proofs.string.Statement.{statement}
 use Rattle.labels.proofs.string.Tie as tie
-use Rattle.labels.proofs.string.Reads as reads
-use Rattle.labels.proofs.string.Lts as lts
-use Rattle.labels.proofs.add.Reads as add-reads
-use Rattle.labels.proofs.byte.Reads as byte-reads
-use Rattle.labels.proofs.char_at.Reads as char-at-reads
-use Rattle.tokens.proofs.came.Reads as came-reads
-use Rattle.tokens.proofs.stop.Reads as stop-reads
 
 abbrev Inv-loop : tie.InvT-loop
 Inv-loop text out₀ spelled d₀ out d = Chars text d₀ out₀ d out

@@ -3,11 +3,6 @@ use native.Mathlib.Omega.{arith}
 use borrow.Author.Needs.{needs}
 use Rattle.labels.proofs.third_digit.Statement.{statement}
 use Rattle.labels.proofs.third_digit.Tie as tie
-use Rattle.labels.proofs.third_digit.Reads as reads
-use Rattle.labels.proofs.third_digit.Lts as lts
-use Rattle.labels.proofs.byte.Reads as byte-reads
-use Rattle.labels.proofs.is_coded.Reads as is-coded-reads
-use Rattle.octets.proofs.wide.Reads as wide-reads
 
 byte-requires : tie.Need-byte-requires
 byte-requires c κs = search needs

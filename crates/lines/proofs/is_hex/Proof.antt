@@ -5,7 +5,6 @@ use lib.ListN.{length}
 use Rattle.lines.specs.Hex.{Looked, looked-start, first-bad, second-bad, both-good, looked-end}
 use Rattle.lines.proofs.is_hex.Statement.{statement}
 use Rattle.lines.proofs.is_hex.Tie as tie
-use Rattle.lines.proofs.hex_value.Reads as hex-value-reads
 
 abbrev Inv-loop : tie.InvT-loop
 Inv-loop line i₀ i = (i ≤ length line) × Looked line i

@@ -2,9 +2,6 @@ use borrow.Author.Needs.{needs}
 use mathlib.Core.Path.{_∙_}
 use Rattle.reader.proofs.agree.Statement.{statement}
 use Rattle.reader.proofs.agree.Tie as tie
-use Rattle.reader.proofs.agree.Reads as reads
-use Rattle.reader.proofs.agree.Lts as lts
-use Rattle.reader.proofs.head.both.Reads as both-reads
 
 both-requires : tie.Need-both-requires
 both-requires c κs = search needs

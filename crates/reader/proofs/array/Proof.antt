@@ -2,10 +2,6 @@ use borrow.Author.Needs.{needs}
 use Rattle.reader.specs.Whole.{array-read}
 use Rattle.reader.proofs.array.Statement.{statement}
 use Rattle.reader.proofs.array.Tie as tie
-use Rattle.reader.proofs.array.Reads as reads
-use Rattle.reader.proofs.array.Lts as lts
-use Rattle.entries.proofs.read_section.Reads as read-section-reads
-use Rattle.tokens.proofs.literal.Reads as literal-reads
 
 literal-requires : tie.Need-literal-requires
 literal-requires c κs = search needs

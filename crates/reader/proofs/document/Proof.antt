@@ -4,15 +4,6 @@ use native.Mathlib.Omega.{arith}
 use Rattle.reader.specs.Whole.{document-read}
 use Rattle.reader.proofs.document.Statement.{statement}
 use Rattle.reader.proofs.document.Tie as tie
-use Rattle.reader.proofs.document.Reads as reads
-use Rattle.reader.proofs.document.Lts as lts
-use Rattle.reader.proofs.agree.Reads as agree-reads
-use Rattle.reader.proofs.array.Reads as array-reads
-use Rattle.reader.proofs.head.both.Reads as both-reads
-use Rattle.reader.proofs.head.head.Reads as head-reads
-use Rattle.reader.proofs.settled.Reads as settled-reads
-use Rattle.tokens.proofs.judge.Reads as judge-reads
-use Rattle.tokens.proofs.literal.Reads as literal-reads
 
 head-requires : tie.Need-head-requires
 head-requires c κs = search needs

@@ -2,9 +2,6 @@ use borrow.Author.Needs.{needs}
 use Rattle.reader.specs.Promise.{read-stopped, read-left, read-meaningless, read-large, read-long, read-message}
 use Rattle.reader.proofs.read.Statement.{statement}
 use Rattle.reader.proofs.read.Tie as tie
-use Rattle.reader.proofs.read.Reads as reads
-use Rattle.reader.proofs.read.Lts as lts
-use Rattle.reader.proofs.document.Reads as document-reads
 
 slice-relend-prefix-document : tie.Need-slice-relend-prefix-document
 slice-relend-prefix-document c = search needs

@@ -2,10 +2,6 @@ use borrow.Author.Needs.{needs}
 use mathlib.Core.Path.{_∙_}
 use Rattle.reader.proofs.settled.Statement.{statement}
 use Rattle.reader.proofs.settled.Tie as tie
-use Rattle.reader.proofs.settled.Reads as reads
-use Rattle.reader.proofs.settled.Lts as lts
-use Rattle.reader.proofs.either.Reads as either-reads
-use Rattle.reader.proofs.head.both.Reads as both-reads
 
 either-requires : tie.Need-either-requires
 either-requires c κs = search needs

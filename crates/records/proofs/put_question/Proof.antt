@@ -4,7 +4,6 @@ use native.Mathlib.Omega.{arith}
 use Rattle.records.specs.Putting.{question-faults, question-puts, asks-within, question-room, named-within, part-short}
 use Rattle.records.proofs.put_question.Statement.{statement}
 use Rattle.records.proofs.put_question.Tie as tie
-use Rattle.records.proofs.put_question.Lts as lts
 
 question-at-requires : tie.Need-question-at-requires
 question-at-requires c κs = search needs

@@ -11,7 +11,8 @@ use Rattle.octets.specs.Overlay.{same-long}
 use Rattle.records.specs.Layout.{rdataAt}
 use Rattle.records.specs.Parts.{layoutIn}
 use Rattle.records.specs.Pieces.{part-within, name-within, done-within}
-use Rattle.records.specs.Putting.{Rest, restAt, rest-first, rest-part, rest-name, rest-done, rest-misfit, name-room, lays-short, wrote-part, part-room}
+use Rattle.records.specs.Told.{name-room}
+use Rattle.records.specs.Putting.{Rest, restAt, rest-first, rest-part, rest-name, rest-done, rest-misfit, lays-short, wrote-part, part-room}
 use Rattle.records.proofs.put_rdata.Statement.{statement}
 use Rattle.records.proofs.put_rdata.Tie as tie
 
@@ -65,7 +66,7 @@ part-put-all-start-2 : tie.Need-part-put-all-start-2 Inv-loop μ-loop
 part-put-all-start-2 c = search needs
 
 part-put-all-end-2 : tie.Need-part-put-all-end-2 Inv-loop μ-loop
-part-put-all-end-2 c = let k = name-within _ (c .before .before .before .before .before .before .rdata-step .ensures .1) (c .before .before .before .step2 .given .1) in name-room (c .before .before .before .before .before .before .before .before .before .before .args .s .now) (layoutIn (c .before .before .before .before .before .before .before .before .before .before .args .kind) (c .before .before .before .before .before .before .before .before .before .before .args .size)) (c .before .before .before .before .before .before .before .before .before .before .args .start) (c .before .before .before .before .before .before .before .before .before .before .args .start + c .before .before .before .before .before .before .before .before .before .before .args .size) (c .before .before .before .before .before .before .before .loop .at) (c .before .before .before .before .before .before .before .loop .i) (c .before .before .before .before .before .before .before .loop .inv .4) (c .before .before .before .before .before .before .rdata-step .ensures .0) (c .before .before .before .step2 .given .1)
+part-put-all-end-2 c = name-room _ (c .before .before .before .before .before .before .rdata-step .ensures .0) (c .before .before .before .step2 .given .1)
 
 put-all-requires-2 : tie.Need-put-all-requires-2 Inv-loop μ-loop
 put-all-requires-2 c κs = let k = name-within _ (c .before .before .before .before .before .before .before .rdata-step .ensures .1) (c .before .before .before .before .step2 .given .1) in part-room (c .before .before .before .before .before .before .before .before .loop .next) (c .before .before .before .before .step2 .given .0 .0 - 0) (c .before .before .before .before .before .before .before .rdata-step .result .octets) (2 ^ 40) (omega (arith, c .before .before .before .before .before .before .before .before .loop .inv))

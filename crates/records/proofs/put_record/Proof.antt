@@ -4,7 +4,6 @@ use native.Mathlib.Omega.{arith}
 use Rattle.records.specs.Putting.{record-faults, record-misses, record-puts, heads-within, laying-within, record-room, named-within, part-short}
 use Rattle.records.proofs.put_record.Statement.{statement}
 use Rattle.records.proofs.put_record.Tie as tie
-use Rattle.records.proofs.put_record.Lts as lts
 
 head-at-requires : tie.Need-head-at-requires
 head-at-requires c κs = search needs

@@ -2,10 +2,6 @@ use borrow.Author.Needs.{needs}
 use Rattle.tokens.specs.Step.{emits, emits-over}
 use Rattle.tokens.proofs.emit.Statement.{statement}
 use Rattle.tokens.proofs.emit.Tie as tie
-use Rattle.tokens.proofs.emit.Reads as reads
-use Rattle.tokens.proofs.emit.Lts as lts
-use Rattle.octets.proofs.put_all.Reads as put-all-reads
-use Rattle.tokens.proofs.over.Reads as over-reads
 
 add-end : tie.Need-add-end
 add-end c = search needs

@@ -4,10 +4,6 @@ use Rattle.tokens.specs.Cursor.{Matching, matching-start, matching-more,
 use borrow.Author.Needs.{needs}
 use Rattle.tokens.proofs.literal.Statement.{statement}
 use Rattle.tokens.proofs.literal.Tie as tie
-use Rattle.tokens.proofs.literal.Reads as reads
-use Rattle.tokens.proofs.literal.Lts as lts
-use Rattle.tokens.proofs.came.Reads as came-reads
-use Rattle.tokens.proofs.stop.Reads as stop-reads
 
 abbrev Inv-loop : tie.InvT-loop
 Inv-loop text c lit good at₀ i₀ at i = Matching lit text c at i

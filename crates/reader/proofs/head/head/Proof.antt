@@ -2,16 +2,6 @@ use borrow.Author.Needs.{needs}
 use Rattle.reader.specs.Head.{head-read}
 use Rattle.reader.proofs.head.head.Statement.{statement}
 use Rattle.reader.proofs.head.head.Tie as tie
-use Rattle.reader.proofs.head.head.Reads as reads
-use Rattle.reader.proofs.head.head.Lts as lts
-use Rattle.reader.proofs.head.high_flags.Reads as high-flags-reads
-use Rattle.reader.proofs.head.low_flags.Reads as low-flags-reads
-use Rattle.reader.proofs.head.put_counts.Reads as put-counts-reads
-use Rattle.reader.proofs.head.put_flags.Reads as put-flags-reads
-use Rattle.reader.proofs.head.read_counts.Reads as read-counts-reads
-use Rattle.reader.proofs.head.till.Reads as till-reads
-use Rattle.tokens.proofs.literal.Reads as literal-reads
-use Rattle.tokens.proofs.put_word.Reads as put-word-reads
 
 slice-aggregate-literal : tie.Need-slice-aggregate-literal
 slice-aggregate-literal c = search needs

@@ -2,10 +2,6 @@ use borrow.Author.Needs.{needs}
 use Rattle.reader.specs.Head.{high-read}
 use Rattle.reader.proofs.head.high_flags.Statement.{statement}
 use Rattle.reader.proofs.head.high_flags.Tie as tie
-use Rattle.reader.proofs.head.high_flags.Reads as reads
-use Rattle.reader.proofs.head.high_flags.Lts as lts
-use Rattle.reader.proofs.head.high_bits.Reads as high-bits-reads
-use Rattle.reader.proofs.head.till.Reads as till-reads
 
 slice-aggregate-till : tie.Need-slice-aggregate-till
 slice-aggregate-till c = search needs

@@ -2,9 +2,6 @@ use borrow.Author.Needs.{needs}
 use Rattle.reader.specs.Head.{low-bits}
 use Rattle.reader.proofs.head.low_bits.Statement.{statement}
 use Rattle.reader.proofs.head.low_bits.Tie as tie
-use Rattle.reader.proofs.head.low_bits.Reads as reads
-use Rattle.reader.proofs.head.low_bits.Lts as lts
-use Rattle.reader.proofs.head.both.Reads as both-reads
 
 mul-octet : tie.Need-mul-octet
 mul-octet c = search needs

@@ -2,9 +2,6 @@ use borrow.Author.Needs.{needs}
 use Rattle.reader.specs.Head.{put-counts}
 use Rattle.reader.proofs.head.put_counts.Statement.{statement}
 use Rattle.reader.proofs.head.put_counts.Tie as tie
-use Rattle.reader.proofs.head.put_counts.Reads as reads
-use Rattle.reader.proofs.head.put_counts.Lts as lts
-use Rattle.tokens.proofs.put_word.Reads as put-word-reads
 
 put-word-requires : tie.Need-put-word-requires
 put-word-requires c κs = search needs

@@ -2,11 +2,6 @@ use borrow.Author.Needs.{needs}
 use Rattle.reader.specs.Head.{put-flags}
 use Rattle.reader.proofs.head.put_flags.Statement.{statement}
 use Rattle.reader.proofs.head.put_flags.Tie as tie
-use Rattle.reader.proofs.head.put_flags.Reads as reads
-use Rattle.reader.proofs.head.put_flags.Lts as lts
-use Rattle.reader.proofs.head.both.Reads as both-reads
-use Rattle.tokens.proofs.emit.Reads as emit-reads
-use Rattle.tokens.proofs.judge.Reads as judge-reads
 
 both-requires : tie.Need-both-requires
 both-requires c κs = search needs

@@ -2,10 +2,6 @@ use borrow.Author.Needs.{needs}
 use Rattle.reader.specs.Head.{counts-read}
 use Rattle.reader.proofs.head.read_counts.Statement.{statement}
 use Rattle.reader.proofs.head.read_counts.Tie as tie
-use Rattle.reader.proofs.head.read_counts.Reads as reads
-use Rattle.reader.proofs.head.read_counts.Lts as lts
-use Rattle.reader.proofs.head.till.Reads as till-reads
-use Rattle.tokens.proofs.number.Reads as number-reads
 
 slice-aggregate-till : tie.Need-slice-aggregate-till
 slice-aggregate-till c = search needs

@@ -2,10 +2,6 @@ use borrow.Author.Needs.{needs}
 use Rattle.reader.specs.Head.{till-read}
 use Rattle.reader.proofs.head.till.Statement.{statement}
 use Rattle.reader.proofs.head.till.Tie as tie
-use Rattle.reader.proofs.head.till.Reads as reads
-use Rattle.reader.proofs.head.till.Lts as lts
-use Rattle.tokens.proofs.literal.Reads as literal-reads
-use Rattle.tokens.proofs.number.Reads as number-reads
 
 number-requires : tie.Need-number-requires
 number-requires c κs = search needs
