@@ -1,5 +1,5 @@
 -- The answer to a line of `totext`, by the ways through the code. Assumes nothing.
-use mathlib.Core.Path.{_≡_, refl, sym, ap, _∙_, subst}
+use mathlib.Core.Path.{_≡_, sym, ap, _∙_, subst}
 use mathlib.Core.Bool.{Bool, true, false, cond, false≢true}
 use mathlib.Core.Option.{Option, none, some}
 use mathlib.Core.List.{List, [], _∷_, _++_, append-assoc}
@@ -12,14 +12,14 @@ use lib.Seq.{take-append-seam, drop-append-le, length-take-le}
 use Rattle.octets.specs.Lists.{Octets}
 use Rattle.octets.specs.Overlay.{overlay-first, Wrote}
 use Rattle.octets.specs.Answer.{Answer, overwritten}
+use Rattle.octets.specs.Calls.{answerOf, Gives}
+use Rattle.octets.specs.declared.Outcome.{Outcome}
+use Rattle.octets.specs.declared.Outcome.the-variants.{Length, Refused}
 use Rattle.json.specs.Converted.{converted, toText}
-use Rattle.json.specs.Promise.{answerOf, Converted}
-use Rattle.json.specs.declared.Answer as declared
-use Rattle.json.specs.declared.Answer.the-variants.{Text, Refused}
 use Rattle.lines.specs.Lines.{hexValue, joined, unhexed, refusalLine, shown, asText, messageLine, textLine}
 use Rattle.lines.specs.Hex.{Digit, digit, hexValue-digit, hexAnswer, hexLeft, Unhexed}
 use Rattle.lines.specs.Places.{place-within}
-use Rattle.lines.specs.Calls.{Told, told, callLine, told-line}
+use Rattle.lines.specs.Calls.{Told, told, told-by, callLine, told-line}
 use Rattle.lines.specs.declared.Hex.{Hex}
 use Rattle.lines.specs.declared.Hex.the-variants as line
 
@@ -63,13 +63,10 @@ pub octets-read : {s m m′ : List ℕ} {a : Hex} {n : ℕ} → Unhexed s m a m�
 octets-read {s} {n = n} u e = let z : n - 0 ≡ n = omega arith in rw z (subst AllOctets (read-octets u e) (unhexed-octets s))
 
 -- ---- the converter's answer
-told-as : (s b : List ℕ) {a : Answer} {b′ : List ℕ} → a ≡ toText s b .answer → b′ ≡ toText s b .buffer → Told asText a (shown asText (length b) 10 (converted s)) b b′
-unfolding toText
-told-as s b {a} {b′} e f = rw (e, f) (told asText 10 (converted s) b)
-
 -- what `totext` prints for a message is what a call reports and leaves, whatever its buffer of that length held
 pub call-line : (s b : List ℕ) → callLine asText (toText s b .answer) (toText s b .buffer) ≡ shown asText (length b) 10 (converted s)
-call-line s b = told-line asText (toText s b .answer) _ b (toText s b .buffer) (told-as s b refl refl)
+unfolding toText
+call-line s b = told-line asText (toText s b .answer) _ b (toText s b .buffer) (told asText 10 (converted s) b)
 
 -- ---- the ways to an answer
 -- a message: its text
@@ -87,25 +84,28 @@ module _ (s b : List ℕ) (k : length b ≡ 65537) where
       sym (drop-append-le (length x) (take 65536 b) (drop 65536 b) (omega arith)) ∙ ap (drop (length x)) (take-append-drop 65536 b) in
       record { place = omega arith; text = rw (g, append-assoc, d) (sym (overlay-first b x (omega arith))) }
 
-  module _ {size : ℕ} {a : declared.Answer} {t : List ℕ} (p : Converted s (take 65536 b) a t) (e : a ≡ Text size) where
-    pub text-answer : Wrote b 0 (shown asText 65536 10 (converted s)) (t ++ drop 65536 b) size
-    text-answer =
-        let (x, q, n, h, g) = told-as s (take 65536 b) (sym (ap answerOf e) ∙ p .answers) (p .leaves) in
-        rw (same-room, q) (written x n h g)
+  module _ {a : Outcome} {t : List ℕ} (p : Gives (toText s (take 65536 b)) a t) where
+    told-here : {given : Answer} → answerOf a ≡ given → Told asText given (shown asText (length (take 65536 b)) 10 (converted s)) (take 65536 b) t
+    unfolding toText
+    told-here e = told-by asText 10 (converted s) (take 65536 b) p e
 
-    pub text-within : size ≤ 65536
-    text-within = let (x, q, n, h, g) = told-as s (take 65536 b) (sym (ap answerOf e) ∙ p .answers) (p .leaves) in omega (arith, room)
+    module _ {size : ℕ} (e : a ≡ Length size) where
+      pub text-answer : Wrote b 0 (shown asText 65536 10 (converted s)) (t ++ drop 65536 b) size
+      text-answer = let (x, q, n, h, g) = told-here (ap answerOf e) in rw (same-room, q) (written x n h g)
 
-  -- or its refusal
-  module _ {number place : ℕ} {a : declared.Answer} {t : List ℕ} (p : Converted s (take 65536 b) a t) (e : a ≡ Refused number place) where
-    pub refused-answer : {b′ : List ℕ} {r : ℕ} → Wrote (t ++ drop 65536 b) 0 (refusalLine number place) b′ r → Wrote b 0 (shown asText 65536 10 (converted s)) b′ r
-    refused-answer w =
-        let q = told-as s (take 65536 b) (sym (ap answerOf e) ∙ p .answers) (p .leaves) in
-        let same : t ++ drop 65536 b ≡ b = rw (q .1) (take-append-drop 65536 b) in
-        rw (same-room, q .0) (rw same at w)
+      pub text-within : size ≤ 65536
+      text-within = let (x, q, n, h, g) = told-here (ap answerOf e) in omega (arith, room)
 
-    pub place-below : Octets s → length s ≤ 4096 → place ≤ 4096
-    place-below o h = omega (arith, place-within s (take 65536 b) o (sym (ap answerOf e) ∙ p .answers))
+    -- or its refusal
+    module _ {number place : ℕ} (e : a ≡ Refused number place) where
+      pub refused-answer : {b′ : List ℕ} {r : ℕ} → Wrote (t ++ drop 65536 b) 0 (refusalLine number place) b′ r → Wrote b 0 (shown asText 65536 10 (converted s)) b′ r
+      refused-answer w =
+          let q = told-here (ap answerOf e) in
+          let same : t ++ drop 65536 b ≡ b = rw (q .1) (take-append-drop 65536 b) in
+          rw (same-room, q .0) (rw same at w)
+
+      pub place-below : Octets s → length s ≤ 4096 → place ≤ 4096
+      place-below o h = omega (arith, place-within s (take 65536 b) o p e)
 
 -- what is left in the message buffer: the octets of the line
 unfoldable pub messageLeft : List ℕ → List ℕ → List ℕ

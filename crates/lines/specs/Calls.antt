@@ -8,6 +8,8 @@ use lib.Dec.{leb}
 use lib.ListN.{length, take, drop}
 use lib.Seq.{take-append-seam}
 use Rattle.octets.specs.Answer.{Output, output, refused, Answer, success, refusal, Left, overwritten, delivered}
+use Rattle.octets.specs.Calls.{answerOf, Gives}
+use Rattle.octets.specs.declared.Outcome.{Outcome}
 use Rattle.lines.specs.Lines.{refusalLine, shown}
 
 module _ (spelled : List ℕ → List ℕ) where
@@ -27,6 +29,9 @@ module _ (spelled : List ℕ → List ℕ) where
       go true e = (l, refl, refl, leb-true _ _ e, refl)
       go false e = (refl, refl)
   told noRoom (refused k p) b = (refl, refl)
+
+  pub told-by : (noRoom : ℕ) (o : Output) (b : List ℕ) {b′ : List ℕ} {r : Outcome} {a : Answer} → Gives (delivered noRoom o b) r b′ → answerOf r ≡ a → Told a (shown spelled (length b) noRoom o) b b′
+  told-by noRoom o b g e = rw (sym e ∙ g .answers, g .leaves) (told noRoom o b)
 
   -- the line: the octets up to the reported length, as the call leaves them, or the refusal
   abbrev pub callLine : Answer → List ℕ → List ℕ

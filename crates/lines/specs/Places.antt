@@ -1,6 +1,7 @@
--- The place that a refusal names lies within the message. Assumes nothing.
-use mathlib.Core.Path.{_≡_, refl, sym, subst}
+-- The place that a refusal names lies within the message; of a text it is 0. Assumes nothing.
+use mathlib.Core.Path.{_≡_, refl, sym, ap, _∙_, subst}
 use mathlib.Core.Bool.{Bool, true, false, cond}
+use mathlib.Core.Option.{Option, none, some}
 use mathlib.Core.List.{List}
 use Prim.Native.Nat.{ℕ, zero, suc, _≤_}
 use native.Mathlib.Omega.{arith}
@@ -9,14 +10,25 @@ use lib.Dec.{leb, ltb, eqb}
 use lib.ListN.{length}
 use Rattle.octets.specs.Lists.{Octets}
 use Rattle.octets.specs.Fields.{twoAt}
-use Rattle.octets.specs.Answer.{Answer, success, refusal, Left, overwritten, delivered}
+use Rattle.octets.specs.Answer.{Output, output, Answer, success, refusal, Left, overwritten, delivered}
+use Rattle.octets.specs.Answer as answer
+use Rattle.octets.specs.Parsed.{Parsed, took, stuck}
+use Rattle.octets.specs.Calls.{answerOf, Gives}
+use Rattle.octets.specs.declared.Outcome.{Outcome}
+use Rattle.octets.specs.declared.Outcome.the-variants.{Refused}
 use Rattle.names.specs.Name.{number}
 use Rattle.records.specs.Message.{form}
 use Rattle.records.specs.Read.{Entry, entry, bad, Reached, reached, stopped, questionAt, recordAt, sectionAt, sectionFrom}
 use Rattle.records.specs.Decode.{Decoded, accepted, refused, zOf, sectionsOf, messageOf, decode}
 use Rattle.records.specs.RecordLaws.{question-read, record-read}
-use Rattle.json.specs.Text.{text}
+use Rattle.json.specs.View.{View}
+use Rattle.json.specs.View as view
+use Rattle.json.specs.Limits.{within?}
+use Rattle.json.specs.Document.{Document}
 use Rattle.json.specs.Converted.{outputOf, converted, toText}
+use Rattle.strict.specs.Meaning.{meaning}
+use Rattle.strict.specs.Parser.{parse}
+use Rattle.strict.specs.Reading.{meant, parsed, reading, toWire}
 
 -- reading came to an offset, or to a faulty entry's, within so many octets
 abbrev Inside : ℕ → Reached → Type 0
@@ -69,23 +81,58 @@ decode-placed s o =
     at-first n (ltb 65535 n) 2 _ λ a. at-first n (ltb n 12) 1 _ λ b. at-first n (eqb (zOf s) 1) 3 _ λ c.
     ended-placed n _ (sectionsOf s .additional .end) (sections-inside s o (ltb-false n 12 b)) (at-first n (ltb 65535 (length (form (messageOf s)))) 9 (accepted (messageOf s)) λ d. tt)
 
--- the same of a call's answer
+-- the same of an output, and of a call's outcome
+abbrev At : ℕ → Output → Type 0
+At size (output l) = Unit {0}
+At size (answer.refused k p) = p ≤ size
+
+converted-at : (s : List ℕ) → Octets s → At (length s) (converted s)
+unfolding converted
+converted-at s o = go (decode s) (decode-placed s o)
+  where
+    go : (d : Decoded) → Placed (length s) d → At (length s) (outputOf d)
+    go (accepted m) h = tt
+    go (refused k p) h = h
+
+reading-at : (t : List ℕ) → At 0 (reading t)
+unfolding reading
+reading-at t = read (parse t)
+  where
+    size : (b : Bool) (l : List ℕ) → At 0 (cond b (output l) (answer.refused 22 0))
+    size true l = tt
+    size false l = omega arith
+
+    mean : (o : Option View) → At 0 (meant o)
+    mean none = omega arith
+    mean (some v) = size (within? v) (form (view.messageOf v))
+
+    read : (o : Parsed Document) → At 0 (parsed o)
+    read (took d r) = mean (meaning d)
+    read (stuck w) = omega arith
+
 abbrev PlacedAt : ℕ → Answer → Type 0
 PlacedAt size (success n) = Unit {0}
 PlacedAt size (refusal k p) = p ≤ size
 
-delivered-placed : (size : ℕ) (d : Decoded) (b : List ℕ) → Placed size d → PlacedAt size (delivered 10 (outputOf d) b .answer)
+delivered-at : (noRoom size : ℕ) (o : Output) (b : List ℕ) → At size o → PlacedAt size (delivered noRoom o b .answer)
 unfolding delivered
-delivered-placed size (accepted m) b h = go (leb (length (text m)) (length b))
+delivered-at noRoom size (output l) b h = go (leb (length l) (length b))
   where
     left : Bool → Left
-    left t = cond t (record { answer = success (length (text m)); buffer = overwritten (text m) b }) (record { answer = refusal 10 0; buffer = b })
+    left t = cond t (record { answer = success (length l); buffer = overwritten l b }) (record { answer = refusal noRoom 0; buffer = b })
 
     go : (t : Bool) → PlacedAt size (left t .answer)
     go true = tt
     go false = omega arith
-delivered-placed size (refused k p) b h = h
+delivered-at noRoom size (answer.refused k p) b h = h
 
-pub place-within : (s b : List ℕ) → Octets s → {k p : ℕ} → refusal k p ≡ toText s b .answer → p ≤ length s
-unfolding toText converted
-place-within s b o e = subst (PlacedAt (length s)) (sym e) (delivered-placed (length s) (decode s) b (decode-placed s o))
+given-at : (noRoom size : ℕ) (o : Output) (b : List ℕ) {b′ : List ℕ} {r : Outcome} {k p : ℕ} → At size o → Gives (delivered noRoom o b) r b′ → r ≡ Refused k p → p ≤ size
+given-at noRoom size o b h g e = subst (PlacedAt size) (sym (g .answers) ∙ ap answerOf e) (delivered-at noRoom size o b h)
+
+pub place-within : (s b : List ℕ) {b′ : List ℕ} {r : Outcome} {k p : ℕ} → Octets s → Gives (toText s b) r b′ → r ≡ Refused k p → p ≤ length s
+unfolding toText
+place-within s b o = given-at 10 (length s) (converted s) b (converted-at s o)
+
+pub place-first : (t b : List ℕ) {b′ : List ℕ} {r : Outcome} {k p : ℕ} → Gives (toWire t b) r b′ → r ≡ Refused k p → p ≤ 0
+unfolding toWire
+place-first t b = given-at 23 0 (reading t) b (reading-at t)

@@ -1,7 +1,7 @@
 // The line programs: what they answer to a line, and how they read their input. The definitions are in specs/.
-use json::Answer;
 use libc::STDIN_FILENO;
 use libc::STDOUT_FILENO;
+use octets::Outcome;
 use octets::put;
 use octets::put_all;
 use octets::put_decimal;
@@ -123,8 +123,8 @@ fn put_message(message: &[u8], text: &mut [u8]) -> usize
     ensures { λ r. ⌜ r ≤ 65536 ⌝ }
 {
     match json::convert(message, &mut text[0..65536]) {
-        Answer::Text(size) => size,
-        Answer::Refused(number, place) => put_refusal(text, 0, number, place as u32),
+        Outcome::Length(size) => size,
+        Outcome::Refused(number, place) => put_refusal(text, 0, number, place as u32),
     }
 }
 
@@ -163,8 +163,8 @@ fn put_wire(line: &[u8], message: &mut [u8], text: &mut [u8]) -> usize
     ensures { λ r. ⌜ now (message .exit) ≡ toWire (now (line .entry)) (now (message .entry)) .buffer ⌝ }
 {
     match reader::read(line, message) {
-        reader::Answer::Message(n) => put_hex(text, 0, &message[0..n]),
-        reader::Answer::Refused(number) => put_refusal(text, 0, number, 0),
+        Outcome::Length(n) => put_hex(text, 0, &message[0..n]),
+        Outcome::Refused(number, place) => put_refusal(text, 0, number, place as u32),
     }
 }
 

@@ -2,19 +2,21 @@
 use mathlib.Core.Path.{_≡_, refl, sym, _∙_, ap, subst}
 use mathlib.Core.Bool.{Bool, true, false, not, _&&_}
 use mathlib.Core.Option.{none, some}
-use mathlib.Core.List.{List, [], _∷_, _++_}
+use mathlib.Core.List.{List, [], _++_}
 use Prim.Native.Nat.{ℕ, _≤_, _<_}
 use native.Mathlib.Nat.{zero-add}
 use native.Mathlib.Omega.{arith}
-use borrow.Author.Tests.{le-leb, not-true, not-false}
+use borrow.Author.Tests.{not-true, not-false}
 use lib.Dec.{T, leb}
 use lib.ListN.{length, drop, drop-of-length-le}
 use Rattle.octets.specs.Bits.{is-true, and-left, and-right}
 use Rattle.octets.specs.Parsed.{took, took-value, took≢stuck}
-use Rattle.octets.specs.Overlay.{overlay, overlay-first}
-use Rattle.octets.specs.Answer.{output, success, refusal, delivered, delivered-none}
+use Rattle.octets.specs.Answer.{output}
+use Rattle.octets.specs.Calls.{Gives, gives-refusal, gives-none, gives-written}
+use Rattle.octets.specs.declared.Outcome.the-variants.{Length, Refused}
 use Rattle.octets.specs.Answer as answer
-use Rattle.octets.specs.Fields.{drop-one}
+use Rattle.octets.specs.Fields.{drop-one, empty}
+use Rattle.octets.specs.Overlay.{Wrote}
 use Rattle.records.specs.Message.{form}
 use Rattle.json.specs.View.{messageOf}
 use Rattle.json.specs.ViewLaws.{small-form, within-small}
@@ -28,18 +30,6 @@ use Rattle.tokens.specs.Cursor.{Reads, reads-bad, reads-got, Got}
 use Rattle.tokens.specs.Step.{found-there, Put, Step}
 use Rattle.entries.specs.Meant.{documentMeant?, documentOctets, document-meant, document-octets, headMeant?, sectionsMeant?}
 use Rattle.reader.specs.Whole.{start}
-use Rattle.reader.specs.declared.Answer.{Answer}
-use Rattle.reader.specs.declared.Answer.the-variants.{Message, Refused}
-
--- document 01's answer: success with the length, or the refusal's number at 0
-abbrev pub answerOf : Answer → answer.Answer
-answerOf (Message n) = success n
-answerOf (Refused number) = refusal number 0
-
--- the call on the text t and the buffer `before` gave this answer and left `after`
-pub record Taken (t before : List ℕ) (r : Answer) (after : List ℕ) : Type 0 where
-  pub answers : answerOf r ≡ toWire t before .answer
-  pub leaves : after ≡ toWire t before .buffer
 
 -- ---- what is read is what the definitions read
 -- counts that are those of the arrays are part of what is judged
@@ -72,32 +62,25 @@ within-same d t = go (within? (documentView d)) (leb (length (documentOctets d))
     go false true e f = absurd (subst T e (small-form (documentView d) (subst T (sym f ∙ ap (λ l. leb (length l) 65535) (octets-form d t)) tt)))
 
 -- ---- the refusals, and what is written
-empty : (l : List ℕ) → length l ≡ 0 → l ≡ []
-empty [] h = refl
-empty (x ∷ l) h = absurd (omega arith)
-
-refuses : (t b : List ℕ) (n : ℕ) → reading t ≡ answer.refused n 0 → Taken t b (Refused n) b
-unfolding toWire delivered
-refuses t b n e = record { answers = rw e; leaves = rw e }
-
 -- l is what the first run leaves of no octets
 module _ (t b l : List ℕ) (z : length l ≡ 0) {c : Cursor} (x : Step documentMeant? documentOctets (document .parse) t start [] c l) where
-  refuses-empty : (n : ℕ) → reading t ≡ answer.refused n 0 → Taken t b (Refused n) (l ++ b)
-  refuses-empty n e = rw (empty l z) (refuses t b n e)
+  refuses : (n : ℕ) → reading t ≡ answer.refused n 0 → Gives (toWire t b) (Refused n 0) (l ++ b)
+  unfolding toWire
+  refuses n e = rw (empty l z, e) (gives-refusal 23 b n 0)
 
   -- the text is not within the grammar
-  pub read-stopped : not (c .spelled) ≡ true → Taken t b (Refused 20) (l ++ b)
+  pub read-stopped : not (c .spelled) ≡ true → Gives (toWire t b) (Refused 20 0) (l ++ b)
   unfolding reading parse
-  read-stopped g = refuses-empty 20 (rw (reads-bad (found-there x refl) (not-true (c .spelled) g)))
+  read-stopped g = refuses 20 (rw (reads-bad (found-there x refl) (not-true (c .spelled) g)))
 
   module _ (g : not (c .spelled) ≡ false) where
     got : Got (document .parse t) (Put documentMeant? documentOctets start [] c l) (drop (c .at) t)
     got = reads-got (found-there x refl) (not-false (c .spelled) g)
 
     -- octets are left behind it
-    pub read-left : c .at < length t → Taken t b (Refused 20) (l ++ b)
+    pub read-left : c .at < length t → Gives (toWire t b) (Refused 20 0) (l ++ b)
     unfolding reading parse
-    read-left h = refuses-empty 20 (rw (got .is, drop-one t (c .at) h))
+    read-left h = refuses 20 (rw (got .is, drop-one t (c .at) h))
 
     module _ (h : length t ≤ c .at) where
       whole : parse t ≡ took (got .value) []
@@ -107,9 +90,9 @@ module _ (t b l : List ℕ) (z : length l ≡ 0) {c : Cursor} (x : Step document
       judged : c .meant ≡ documentMeant? (got .value)
       judged = got .holds .meant
 
-      pub read-meaningless : not (c .meant) ≡ true → Taken t b (Refused 21) (l ++ b)
+      pub read-meaningless : not (c .meant) ≡ true → Gives (toWire t b) (Refused 21 0) (l ++ b)
       unfolding reading
-      read-meaningless k = refuses-empty 21 (rw (whole, meaning-none (got .value) (sym judged ∙ not-true (c .meant) k)))
+      read-meaningless k = refuses 21 (rw (whole, meaning-none (got .value) (sym judged ∙ not-true (c .meant) k)))
 
       module _ (k : not (c .meant) ≡ false) where
         holds : T (c .meant)
@@ -121,9 +104,9 @@ module _ (t b l : List ℕ) (z : length l ≡ 0) {c : Cursor} (x : Step document
         limit : c .small ≡ leb (length (documentOctets (got .value))) 65535
         limit = got .holds .small holds ∙ rw zero-add
 
-        pub read-large : not (c .small) ≡ true → Taken t b (Refused 22) (l ++ b)
+        pub read-large : not (c .small) ≡ true → Gives (toWire t b) (Refused 22 0) (l ++ b)
         unfolding reading
-        read-large m = refuses-empty 22 (rw (whole, meaning-some (got .value) means, within-same (got .value) means, sym limit ∙ not-true (c .small) m))
+        read-large m = refuses 22 (rw (whole, meaning-some (got .value) means, within-same (got .value) means, sym limit ∙ not-true (c .small) m))
 
         module _ (m : not (c .small) ≡ false) where
           small : T (c .small)
@@ -136,35 +119,28 @@ module _ (t b l : List ℕ) (z : length l ≡ 0) {c : Cursor} (x : Step document
           size : c .to ≡ length (documentOctets (got .value))
           size = omega (arith, got .holds .wrote holds small .place)
 
-          pub read-long : length (l ++ b) < c .to → Taken t b (Refused 23) (l ++ b)
+          pub read-long : length (l ++ b) < c .to → Gives (toWire t b) (Refused 23 0) (l ++ b)
           unfolding toWire
           read-long n = rw (empty l z) (go (rw (empty l z) at n))
             where
-              go : length b < c .to → Taken t b (Refused 23) b
-              go n =
-                  let e = delivered-none 23 (documentOctets (got .value)) b (omega (arith, size)) in
-                  record { answers = rw (says, e); leaves = rw (says, e) }
+              go : length b < c .to → Gives (toWire t b) (Refused 23 0) b
+              go n = rw says (gives-none 23 b (documentOctets (got .value)) (omega (arith, size)))
 
           -- the second run finds the same, and writes it
-          pub read-message : {c′ : Cursor} {b′ : List ℕ} → c .to ≤ length (l ++ b) → Step documentMeant? documentOctets (document .parse) t start (l ++ b) c′ b′ → Taken t b (Message (c .to)) b′
-          unfolding toWire delivered
+          pub read-message : {c′ : Cursor} {b′ : List ℕ} → c .to ≤ length (l ++ b) → Step documentMeant? documentOctets (document .parse) t start (l ++ b) c′ b′ → Gives (toWire t b) (Length (c .to)) b′
+          unfolding toWire
           read-message {c′} {b′} n y = go (rw (empty l z) at n) (rw (empty l z) at y)
             where
-              same : (d : Document) → d ≡ got .value → Put documentMeant? documentOctets start b c′ b′ d → b′ ≡ overlay b 0 (documentOctets (got .value))
+              same : (d : Document) → d ≡ got .value → Put documentMeant? documentOctets start b c′ b′ d → Wrote b 0 (documentOctets (got .value)) b′ (c′ .to)
               same d e p =
                   let q : Put documentMeant? documentOctets start b c′ b′ (got .value) = subst (λ (x : Document). Put documentMeant? documentOctets start b c′ b′ x) e p in
                   let i : T (c′ .meant) = subst T (sym (q .meant)) means in
                   let j : T (c′ .small) = subst T (sym (q .small i)) (subst T (got .holds .small holds) small) in
-                  q .wrote i j .text
+                  q .wrote i j
 
-              good : (v : Bool) → c′ .spelled ≡ v → Reads t (Put documentMeant? documentOctets start b c′ b′) c′ (document .parse t) → b′ ≡ overlay b 0 (documentOctets (got .value))
+              good : (v : Bool) → c′ .spelled ≡ v → Reads t (Put documentMeant? documentOctets start b c′ b′) c′ (document .parse t) → Wrote b 0 (documentOctets (got .value)) b′ (c′ .to)
               good true e r = let o = reads-got r e in same (o .value) (took-value (sym (o .is) ∙ got .is)) (o .holds)
               good false e r = absurd (took≢stuck (sym (got .is) ∙ reads-bad r e))
 
-              go : c .to ≤ length b → Step documentMeant? documentOctets (document .parse) t start b c′ b′ → Taken t b (Message (c .to)) b′
-              go n y =
-                  let k : length (documentOctets (got .value)) ≤ length b = omega (arith, size) in
-                  record {
-                    answers = rw (says, le-leb _ _ k) (ap success size);
-                    leaves = good (c′ .spelled) refl (found-there y refl) ∙ overlay-first b (documentOctets (got .value)) k ∙ rw (says, le-leb _ _ k);
-                  }
+              go : c .to ≤ length b → Step documentMeant? documentOctets (document .parse) t start b c′ b′ → Gives (toWire t b) (Length (c .to)) b′
+              go n y = rw says (gives-written 23 b (documentOctets (got .value)) (good (c′ .spelled) refl (found-there y refl)) size n)

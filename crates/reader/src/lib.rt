@@ -7,24 +7,20 @@ ghost use mathlib.Core.Bool.{_||_};
 ghost use Prim.Native.Nat.{_<_};
 ghost use Rattle.tokens.specs.Cursor.{Safe};
 ghost use Rattle.reader.specs.Whole.{start, ArrayRead, agreement, settledSection};
-ghost use Rattle.reader.specs.Promise.{Taken};
+ghost use Rattle.octets.specs.Calls.{Gives};
+ghost use Rattle.strict.specs.Reading.{toWire};
 use entries::Element;
 use entries::Section;
 use entries::read_section;
 use head::Counts;
 use head::both;
 use head::head;
+use octets::Outcome;
 use tokens::Cursor;
 use tokens::judge;
 use tokens::literal;
 
 mod head;
-
-// The length of the message; or the refusal's number. Its place is 0.
-pub enum Answer {
-    Message(usize),
-    Refused(u32),
-}
 
 // A title and the array behind it.
 fn array(
@@ -123,26 +119,26 @@ fn document(text: &[u8], out: &mut [u8]) -> Cursor
 }
 
 // Writes the message that a text says. A first run over no octets finds every refusal.
-pub fn read(text: &[u8], message: &mut [u8]) -> Answer
-    ensures { λ r. ⌜ Taken (now (text .entry)) (now (message .entry)) r (now (message .exit)) ⌝ }
+pub fn read(text: &[u8], message: &mut [u8]) -> Outcome
+    ensures { λ r. ⌜ Gives (toWire (now (text .entry)) (now (message .entry))) r (now (message .exit)) ⌝ }
 {
     let c = document(text, &mut message[..0]);
     if !c.spelled {
-        return Answer::Refused(20);
+        return Outcome::Refused(20, 0);
     }
     if c.at < text.len() {
-        return Answer::Refused(20);
+        return Outcome::Refused(20, 0);
     }
     if !c.meant {
-        return Answer::Refused(21);
+        return Outcome::Refused(21, 0);
     }
     if !c.small {
-        return Answer::Refused(22);
+        return Outcome::Refused(22, 0);
     }
     let size = c.to;
     if size > message.len() {
-        return Answer::Refused(23);
+        return Outcome::Refused(23, 0);
     }
     let _again = document(text, message);
-    Answer::Message(size)
+    Outcome::Length(size)
 }

@@ -1,6 +1,7 @@
 -- `lines::put_wire` meets its contract, by the reader's answer. Assumes nothing.
 use borrow.Author.Needs.{needs}
 use native.Mathlib.Omega.{arith}
+use Rattle.lines.specs.Places.{place-first}
 use Rattle.lines.specs.Wire.{message-within, message-answer, refused-answer}
 use Rattle.lines.proofs.put_wire.Statement.{statement}
 use Rattle.lines.proofs.put_wire.Tie as tie
@@ -18,13 +19,16 @@ part-put-hex-start : tie.Need-part-put-hex-start
 part-put-hex-start c = search needs
 
 part-put-hex-end : tie.Need-part-put-hex-end
-part-put-hex-end c = omega (arith, message-within (c .before .before .before .before .before .before .before .before .before .before .before .before .pre .0) (c .before .before .before .before .before .before .before .read .ensures) (c .before .before .before .n .given .1))
+part-put-hex-end c = omega (arith, message-within _ _ (c .before .before .before .before .before .before .before .before .before .before .before .before .pre .0) (c .before .before .before .before .before .before .before .read .ensures) (c .before .before .before .n .given .1))
 
 put-hex-requires : tie.Need-put-hex-requires
-put-hex-requires c κs = omega (arith, message-within (c .before .before .before .before .before .before .before .before .before .before .before .before .before .pre .0) (c .before .before .before .before .before .before .before .before .read .ensures) (c .before .before .before .before .n .given .1))
+put-hex-requires c κs = omega (arith, message-within _ _ (c .before .before .before .before .before .before .before .before .before .before .before .before .before .pre .0) (c .before .before .before .before .before .before .before .before .read .ensures) (c .before .before .before .before .n .given .1))
 
 enum-known-number : tie.Need-enum-known-number
 enum-known-number c = search needs
+
+cast-put-refusal : tie.Need-cast-put-refusal
+cast-put-refusal c = omega (arith, place-first _ _ (c .before .before .before .before .before .before .read .ensures) (c .before .before .number .given .1))
 
 put-refusal-requires : tie.Need-put-refusal-requires
 put-refusal-requires c κs = search needs
@@ -36,10 +40,11 @@ same-length-2 : tie.Need-same-length-2
 same-length-2 c = search needs
 
 returns : tie.Need-returns
-returns c = (
-  message-answer (c .before .before .before .before .before .before .before .before .before .before .before .before .before .before .before .before .pre .0) (c .before .before .before .before .before .before .before .before .before .before .before .read .ensures) (c .before .before .before .before .before .before .before .n .given .1) (c .before .before .put-hex .ensures .0),
-  (omega (arith, message-within (c .before .before .before .before .before .before .before .before .before .before .before .before .before .before .before .before .pre .0) (c .before .before .before .before .before .before .before .before .before .before .before .read .ensures) (c .before .before .before .before .before .before .before .n .given .1)), c .before .before .before .before .before .before .before .before .before .before .before .read .ensures .leaves),
-)
+returns c =
+    let k = c .before .before .before .before .before .before .before .before .before .before .before .before .before .before .before .before .pre .0 in
+    let p = c .before .before .before .before .before .before .before .before .before .before .before .read .ensures in
+    let e = c .before .before .before .before .before .before .before .n .given .1 in
+    (message-answer _ _ k p e (c .before .before .put-hex .ensures .0), (omega (arith, message-within _ _ k p e), p .leaves))
 
 same-length-3 : tie.Need-same-length-3
 same-length-3 c = search needs
@@ -48,10 +53,9 @@ same-length-4 : tie.Need-same-length-4
 same-length-4 c = search needs
 
 returns-2 : tie.Need-returns-2
-returns-2 c = (
-  refused-answer (c .before .before .before .before .before .before .before .before .before .before .before .before .before .before .pre .0) (c .before .before .before .before .before .before .before .before .before .read .ensures) (c .before .before .before .before .before .number .given .1) (c .before .before .put-refusal .ensures .0),
-  (search needs, c .before .before .before .before .before .before .before .before .before .read .ensures .leaves),
-)
+returns-2 c =
+    let p = c .before .before .before .before .before .before .before .before .before .read .ensures in
+    (refused-answer _ _ (c .before .before .before .before .before .before .before .before .before .before .before .before .before .before .pre .0) p (c .before .before .before .before .before .number .given .1) (c .before .before .put-refusal .ensures .0), (search needs, p .leaves))
 
 pub put-wire-spec : {M : Type 1} → statement M
 put-wire-spec =
@@ -64,6 +68,7 @@ put-wire-spec =
     part-put-hex-end
     put-hex-requires
     enum-known-number
+    cast-put-refusal
     put-refusal-requires
     same-length
     same-length-2

@@ -1,4 +1,4 @@
-use Rattle.velvetshelf.specs.Told.{told-text}
+use Rattle.velvetshelf.specs.Told.{told}
 use borrow.Author.Needs.{needs}
 use Rattle.velvetshelf.proofs.velvetshelf_to_text.Statement.{statement}
 use Rattle.velvetshelf.proofs.velvetshelf_to_text.Tie as tie
@@ -16,7 +16,7 @@ same-length : tie.Need-same-length
 same-length c = search needs
 
 returns : tie.Need-returns
-returns c = search (told-text, needs)
+returns c = search (told, needs)
 
 pub velvetshelf-to-text-spec : {M : Type 1} → statement M
 velvetshelf-to-text-spec =

@@ -1,4 +1,4 @@
-use Rattle.velvetshelf.specs.Told.{told-wire}
+use Rattle.velvetshelf.specs.Told.{told}
 use borrow.Author.Needs.{needs}
 use Rattle.velvetshelf.proofs.velvetshelf_to_wire.Statement.{statement}
 use Rattle.velvetshelf.proofs.velvetshelf_to_wire.Tie as tie
@@ -6,18 +6,18 @@ use Rattle.velvetshelf.proofs.velvetshelf_to_wire.Tie as tie
 read-requires : tie.Need-read-requires
 read-requires c κs = search needs
 
-value-of-read-requires : tie.Need-value-of-read-requires
-value-of-read-requires c κs = search needs
+value-of-requires : tie.Need-value-of-requires
+value-of-requires c κs = search needs
 
-number-of-read-requires : tie.Need-number-of-read-requires
-number-of-read-requires c κs = search needs
+number-of-requires : tie.Need-number-of-requires
+number-of-requires c κs = search needs
 
 same-length : tie.Need-same-length
 same-length c = search needs
 
 returns : tie.Need-returns
-returns c = search (told-wire, needs)
+returns c = search (told, needs)
 
 pub velvetshelf-to-wire-spec : {M : Type 1} → statement M
 velvetshelf-to-wire-spec =
-    tie.close (tie.spec read-requires value-of-read-requires number-of-read-requires same-length returns)
+    tie.close (tie.spec read-requires value-of-requires number-of-requires same-length returns)
