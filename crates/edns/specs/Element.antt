@@ -1,7 +1,7 @@
 -- What the code promises of a TYPE 41 record: whether it shows as an EDNS element, and the element's text, by the fields that decide them.
 -- Both are what ednsOf tells of the record. Assumes nothing.
 use mathlib.Core.Path.{_≡_, refl, sym, _∙_, ap}
-use mathlib.Core.Bool.{Bool, true, false, _&&_, _||_, cond}
+use mathlib.Core.Bool.{Bool, true, false, _&&_, _||_, cond, and-false}
 use mathlib.Core.Option.{Option, none, some}
 use mathlib.Core.List.{List, [], _∷_, _++_, map}
 use Prim.Native.Nat.{ℕ, _/_, _%_}
@@ -61,10 +61,6 @@ headText bit rcode =
 abbrev pub present? : {A : Type 0} → Option A → Bool
 present? none = false
 present? (some a) = true
-
-and-false : (b : Bool) → (b && false) ≡ false
-and-false true = refl
-and-false false = refl
 
 present-cond : {A : Type 0} (b : Bool) (a : A) → present? (cond b (some a) none) ≡ b
 present-cond true a = refl

@@ -52,10 +52,14 @@ put-member-requires : tie.Need-put-member-requires Inv-loop μ-loop
 put-member-requires c κs = search needs
 
 loop-less : tie.Need-loop-less Inv-loop μ-loop
-loop-less c = omega (arith, left-room (c .before .before .before .before .before .before .before .before .before .before .before .before .loop .inv .2) (c .before .before .before .before .before .before .before .before .before .before .before .loop-test .taken))
+loop-less c =
+    let m = c .before .before .before .before .before .before .before .before .before .before .before in
+    omega (arith, left-room (m .before .loop .inv .2) (m .loop-test .taken))
 
 loop-again : tie.Need-loop-again Inv-loop μ-loop
-loop-again c = (omega (arith, left-room (c .before .before .before .before .before .before .before .before .before .before .before .before .loop .inv .2) (c .before .before .before .before .before .before .before .before .before .before .before .loop-test .taken)), omega (arith, left-room (c .before .before .before .before .before .before .before .before .before .before .before .before .loop .inv .2) (c .before .before .before .before .before .before .before .before .before .before .before .loop-test .taken)), search (left-more, needs))
+loop-again c =
+    let m = c .before .before .before .before .before .before .before .before .before .before .before in
+    (omega (arith, left-room (m .before .loop .inv .2) (m .loop-test .taken)), omega (arith, left-room (m .before .loop .inv .2) (m .loop-test .taken)), search (left-more, needs))
 
 same-length : tie.Need-same-length Inv-loop μ-loop
 same-length c = same-long (left-end (c .before .loop .inv .2) (c .loop-test .left))

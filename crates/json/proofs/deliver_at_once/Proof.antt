@@ -18,13 +18,17 @@ same-length : tie.Need-same-length
 same-length c = search needs
 
 returns : tie.Need-returns
-returns c = at-once-fault (c .before .before .before .before .before .before .before .before .pre .3) (c .before .before .before .before .before .before .before .before .pre .2) (c .before .before .before .before .put-text .ensures) (c .enum-told .given .1)
+returns c =
+    let m = c .before .before .before .before .before .before .before .before in
+    at-once-fault (m .pre .3) (m .pre .2) (c .before .before .before .before .put-text .ensures) (c .enum-told .given .1)
 
 same-length-2 : tie.Need-same-length-2
 same-length-2 c = search needs
 
 returns-2 : tie.Need-returns-2
-returns-2 c = at-once-text (c .before .before .before .before .before .before .before .before .before .pre .3) (c .before .before .before .before .before .before .before .before .before .pre .2) (c .before .before .before .before .before .put-text .ensures) (c .before .length .given .1)
+returns-2 c =
+    let m = c .before .before .before .before .before in
+    at-once-text (m .before .before .before .before .pre .3) (m .before .before .before .before .pre .2) (m .put-text .ensures) (c .before .length .given .1)
 
 pub deliver-at-once-spec : {M : Type 1} → statement M
 deliver-at-once-spec =

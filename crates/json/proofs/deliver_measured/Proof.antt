@@ -39,7 +39,9 @@ same-length-3 : tie.Need-same-length-3
 same-length-3 c = search needs
 
 returns-3 : tie.Need-returns-3
-returns-3 c = deliver-text _ _ (c .before .before .before .before .before .before .before .before .before .before .put-text .kept .1 .1 .0) (c .before .before .before .before .before .before .before .before .before .before .put-text .ensures) (c .before .before .before .before .before .before .size .given .1) (c .before .before .before .before .if1 .left) (c .before .before .put-text2 .ensures)
+returns-3 c =
+    let m = c .before .before .before .before .before .before in
+    deliver-text _ _ (m .before .before .before .before .put-text .kept .1 .1 .0) (m .before .before .before .before .put-text .ensures) (m .size .given .1) (c .before .before .before .before .if1 .left) (c .before .before .put-text2 .ensures)
 
 pub deliver-measured-spec : {M : Type 1} → statement M
 deliver-measured-spec =

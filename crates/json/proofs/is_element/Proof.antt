@@ -31,10 +31,14 @@ part-is-edns-end : tie.Need-part-is-edns-end
 part-is-edns-end c = search needs
 
 is-edns-requires : tie.Need-is-edns-requires
-is-edns-requires c κs = (c .before .before .before .rcode-of .ensures .1, omega (arith, part-short (c .before .before .before .before .before .before .before .before .args .head .rdata + c .before .before .before .before .before .before .before .before .args .head .length - c .before .before .before .before .before .before .before .before .args .head .rdata) (drop (c .before .before .before .before .before .before .before .before .args .head .rdata) (c .before .before .before .before .before .before .before .before .args .s .now)) 65535 (omega (arith, c .before .before .before .before .before .before .before .before .pre))))
+is-edns-requires c κs =
+    let m = c .before .before .before .before .before .before .before .before in
+    (c .before .before .before .rcode-of .ensures .1, omega (arith, part-short (m .args .head .rdata + m .args .head .length - m .args .head .rdata) (drop (m .args .head .rdata) (m .args .s .now)) 65535 (omega (arith, m .pre))))
 
 returns-3 : tie.Need-returns-3
-returns-3 c = shows-lone _ _ _ (c .before .before .before .before .before .before .before .if1 .left) (c .before .before .before .before .before .if2 .left) (c .before .before .before .before .rcode-of .ensures .0) (c .is-edns .ensures)
+returns-3 c =
+    let m = c .before .before .before .before in
+    shows-lone _ _ _ (m .before .before .before .if1 .left) (m .before .if2 .left) (m .rcode-of .ensures .0) (c .is-edns .ensures)
 
 pub is-element-spec : {M : Type 1} → statement M
 is-element-spec =

@@ -26,7 +26,9 @@ put-comma-requires : tie.Need-put-comma-requires Inv-loop μ-loop
 put-comma-requires c κs = omega (arith, c .before .before .loop .inv, c .before .before .before .before .before .before .before .before .before .pre, c .before .before .before .before .before .put .ensures .place)
 
 put-element-requires : tie.Need-put-element-requires Inv-loop μ-loop
-put-element-requires c κs = (search needs, search needs, omega (arith, c .before .before .before .before .before .before .loop .inv, c .before .before .before .before .before .before .before .before .before .before .before .before .before .pre, c .before .before .before .before .before .before .before .before .before .put .ensures .place, c .before .before .before .put-comma .ensures .1))
+put-element-requires c κs =
+    let m = c .before .before .before .before .before .before in
+    (search needs, search needs, omega (arith, m .loop .inv, m .before .before .before .before .before .before .before .pre, m .before .before .before .put .ensures .place, c .before .before .before .put-comma .ensures .1))
 
 enum-known-went : tie.Need-enum-known-went Inv-loop μ-loop
 enum-known-went c = search needs
@@ -38,7 +40,9 @@ same-length : tie.Need-same-length Inv-loop μ-loop
 same-length c = search needs
 
 returns : tie.Need-returns Inv-loop μ-loop
-returns c = (array-does _ _ _ _ (c .before .before .before .before .before .before .before .before .before .before .before .before .before .before .put .ensures) (left-fault (c .before .before .before .before .before .before .before .before .before .before .before .loop .inv .5) (c .before .before .before .before .before .before .before .before .before .before .loop-test .taken) (c .before .before .before .before .before .before .before .before .put-comma .ensures .0) (c .before .before .before .before .put-element .ensures .0) (c .enum-told .given .1)), rw (c .enum-told .given .1) tt)
+returns c =
+    let m = c .before .before .before .before .before .before .before .before in
+    (array-does _ _ _ _ (m .before .before .before .before .before .before .put .ensures) (left-fault (m .before .before .before .loop .inv .5) (m .before .before .loop-test .taken) (m .put-comma .ensures .0) (c .before .before .before .before .put-element .ensures .0) (c .enum-told .given .1)), rw (c .enum-told .given .1) tt)
 
 sub-left : tie.Need-sub-left Inv-loop μ-loop
 sub-left c = search needs
@@ -63,7 +67,9 @@ same-length-2 : tie.Need-same-length-2 Inv-loop μ-loop
 same-length-2 c = search needs
 
 returns-2 : tie.Need-returns-2 Inv-loop μ-loop
-returns-2 c = (array-does _ _ _ _ (c .before .before .before .before .before .before .before .before .put .ensures) (left-none (c .before .before .before .before .before .loop .inv .5) (c .before .before .before .before .loop-test .left) (c .before .before .put2 .ensures)), (c .before .before .before .before .before .loop .inv .2, omega (arith, c .before .before .before .before .before .loop .inv, c .before .before .before .before .before .before .before .before .put .ensures .place, c .before .before .put2 .ensures .place)))
+returns-2 c =
+    let m = c .before .before .before .before .before in
+    (array-does _ _ _ _ (m .before .before .before .put .ensures) (left-none (m .loop .inv .5) (c .before .before .before .before .loop-test .left) (c .before .before .put2 .ensures)), (m .loop .inv .2, omega (arith, m .loop .inv, m .before .before .before .put .ensures .place, c .before .before .put2 .ensures .place)))
 
 pub put-array-spec : {M : Type 1} → statement M
 put-array-spec =

@@ -27,7 +27,9 @@ same-length : tie.Need-same-length
 same-length c = search needs
 
 returns : tie.Need-returns
-returns c = (wrote-fields _ _ _ _ (c .before .before .before .before .before .before .before .before .before .before .before .before .before .before .before .before .put-start .ensures .0) (c .before .before .before .before .before .before .before .before .before .before .before .put-all .ensures) (c .before .before .before .before .before .before .before .put-signed .ensures .0) (c .before .before .put-all2 .ensures), search needs)
+returns c =
+    let m = c .before .before .before .before .before .before .before in
+    (wrote-fields _ _ _ _ (m .before .before .before .before .before .before .before .before .before .put-start .ensures .0) (m .before .before .before .before .put-all .ensures) (m .put-signed .ensures .0) (c .before .before .put-all2 .ensures), search needs)
 
 pub put-fields-spec : {M : Type 1} → statement M
 put-fields-spec =

@@ -30,7 +30,9 @@ part-put-start-end : tie.Need-part-put-start-end
 part-put-start-end c = question-room _ _ (c .before .before .before .before .before .before .question-at .ensures .0) (c .before .before .before .answer .given .1)
 
 put-start-requires : tie.Need-put-start-requires
-put-start-requires c κs = let k = asks-within _ (c .before .before .before .before .before .before .before .before .before .before .args .at) (c .before .before .before .before .before .before .before .question-at .ensures .1) (c .before .before .before .before .answer .given .1) in (search needs, part-short (c .before .before .before .before .answer .given .0 .0 .size - 0) (c .before .before .before .before .before .before .before .question-at .result .name) 255 (omega arith))
+put-start-requires c κs =
+    let m = c .before .before .before .before in
+    let k = asks-within _ (m .before .before .before .before .before .before .args .at) (m .before .before .before .question-at .ensures .1) (m .answer .given .1) in (search needs, part-short (m .answer .given .0 .0 .size - 0) (m .before .before .before .question-at .result .name) 255 (omega arith))
 
 put-requires : tie.Need-put-requires
 put-requires c κs = search needs
@@ -39,7 +41,9 @@ same-length : tie.Need-same-length
 same-length c = search needs
 
 returns-2 : tie.Need-returns-2
-returns-2 c = let k = asks-within _ (c .before .before .before .before .before .before .before .before .before .before .before .before .before .before .before .before .before .args .at) (c .before .before .before .before .before .before .before .before .before .before .before .before .before .before .question-at .ensures .1) (c .before .before .before .before .before .before .before .before .before .before .before .answer .given .1) in (search (question-does, needs), (omega arith, omega arith, omega (arith, c .before .before .before .before .before .before .put-start .ensures .1, c .before .before .put .ensures .place)))
+returns-2 c =
+    let m = c .before .before .before .before .before .before .before .before .before .before .before in
+    let k = asks-within _ (m .before .before .before .before .before .before .args .at) (m .before .before .before .question-at .ensures .1) (m .answer .given .1) in (search (question-does, needs), (omega arith, omega arith, omega (arith, c .before .before .before .before .before .before .put-start .ensures .1, c .before .before .put .ensures .place)))
 
 pub put-question-spec : {M : Type 1} → statement M
 put-question-spec =

@@ -41,8 +41,10 @@ part-put-hex-end : tie.Need-part-put-hex-end Inv-loop μ-loop
 part-put-hex-end c = let k = part-within _ (c .before .before .before .before .before .rdata-step .ensures .1) (c .before .before .step .given .1) in search needs
 
 put-hex-requires : tie.Need-put-hex-requires Inv-loop μ-loop
-put-hex-requires c κs = let k = part-within _ (c .before .before .before .before .before .before .rdata-step .ensures .1) (c .before .before .before .step .given .1) in
-    hex-room (c .before .before .before .before .before .before .before .loop .next) (c .before .before .before .step .given .0 .0 - c .before .before .before .before .before .before .before .loop .at) (drop (c .before .before .before .before .before .before .before .loop .at) (c .before .before .before .before .before .before .before .before .before .before .args .s .now)) (2 ^ 40) (omega (arith, c .before .before .before .before .before .before .before .loop .inv, c .before .before .before .before .before .before .before .before .before .before .pre))
+put-hex-requires c κs =
+    let m = c .before .before .before .before .before .before in
+    let k = part-within _ (m .rdata-step .ensures .1) (c .before .before .before .step .given .1) in
+    hex-room (m .before .loop .next) (c .before .before .before .step .given .0 .0 - m .before .loop .at) (drop (m .before .loop .at) (m .before .before .before .before .args .s .now)) (2 ^ 40) (omega (arith, m .before .loop .inv, m .before .before .before .before .pre))
 
 add-i : tie.Need-add-i Inv-loop μ-loop
 add-i c = search needs
@@ -51,14 +53,16 @@ loop-less : tie.Need-loop-less Inv-loop μ-loop
 loop-less c = search needs
 
 loop-again : tie.Need-loop-again Inv-loop μ-loop
-loop-again c = let k = part-within _ (c .before .before .before .before .before .before .before .before .before .rdata-step .ensures .1) (c .before .before .before .before .before .before .step .given .1) in
+loop-again c =
+    let m = c .before .before .before .before .before .before .before .before .before in
+    let k = part-within _ (m .rdata-step .ensures .1) (c .before .before .before .before .before .before .step .given .1) in
     let w = c .before .before .put-hex in (
-      omega (arith, c .before .before .before .before .before .before .before .before .before .before .loop .inv),
-      omega (arith, c .before .before .before .before .before .before .before .before .before .before .loop .inv),
+      omega (arith, m .before .loop .inv),
+      omega (arith, m .before .loop .inv),
       omega arith,
-      omega (arith, c .before .before .before .before .before .before .before .before .before .before .loop .inv, hex-short (c .before .before .before .before .before .before .before .before .before .before .loop .next) (c .before .before .before .before .before .before .step .given .0 .0 - c .before .before .before .before .before .before .before .before .before .before .loop .at) (drop (c .before .before .before .before .before .before .before .before .before .before .loop .at) (c .before .before .before .before .before .before .before .before .before .before .before .before .before .args .s .now)) (w .ensures .1)),
-      same-long (w .ensures .0) ∙ c .before .before .before .before .before .before .before .before .before .before .loop .inv .4,
-      rest-part (c .before .before .before .before .before .before .before .before .before .before .loop .inv .5) (c .before .before .before .before .before .before .before .before .before .rdata-step .ensures .0) (c .before .before .before .before .before .before .step .given .1) (w .ensures .0),
+      omega (arith, m .before .loop .inv, hex-short (m .before .loop .next) (c .before .before .before .before .before .before .step .given .0 .0 - m .before .loop .at) (drop (m .before .loop .at) (m .before .before .before .before .args .s .now)) (w .ensures .1)),
+      same-long (w .ensures .0) ∙ m .before .loop .inv .4,
+      rest-part (m .before .loop .inv .5) (m .rdata-step .ensures .0) (c .before .before .before .before .before .before .step .given .1) (w .ensures .0),
     )
 
 enum-known-step-2 : tie.Need-enum-known-step-2 Inv-loop μ-loop
@@ -74,8 +78,10 @@ part-put-hex-end-2 : tie.Need-part-put-hex-end-2 Inv-loop μ-loop
 part-put-hex-end-2 c = name-room _ (c .before .before .before .before .before .before .rdata-step .ensures .0) (c .before .before .before .step2 .given .1)
 
 put-hex-requires-2 : tie.Need-put-hex-requires-2 Inv-loop μ-loop
-put-hex-requires-2 c κs = let k = name-within _ (c .before .before .before .before .before .before .before .rdata-step .ensures .1) (c .before .before .before .before .step2 .given .1) in
-    hex-room (c .before .before .before .before .before .before .before .before .loop .next) (c .before .before .before .before .step2 .given .0 .0 - 0) (c .before .before .before .before .before .before .before .rdata-step .result .octets) (2 ^ 40) (omega (arith, c .before .before .before .before .before .before .before .before .loop .inv, c .before .before .before .before .before .before .before .before .before .before .before .pre))
+put-hex-requires-2 c κs =
+    let m = c .before .before .before .before .before .before .before in
+    let k = name-within _ (m .rdata-step .ensures .1) (c .before .before .before .before .step2 .given .1) in
+    hex-room (m .before .loop .next) (c .before .before .before .before .step2 .given .0 .0 - 0) (m .rdata-step .result .octets) (2 ^ 40) (omega (arith, m .before .loop .inv, m .before .before .before .before .pre))
 
 add-i-2 : tie.Need-add-i-2 Inv-loop μ-loop
 add-i-2 c = search needs
@@ -84,14 +90,16 @@ loop-less-2 : tie.Need-loop-less-2 Inv-loop μ-loop
 loop-less-2 c = search needs
 
 loop-again-2 : tie.Need-loop-again-2 Inv-loop μ-loop
-loop-again-2 c = let k = name-within _ (c .before .before .before .before .before .before .before .before .before .before .rdata-step .ensures .1) (c .before .before .before .before .before .before .before .step2 .given .1) in
+loop-again-2 c =
+    let m = c .before .before .before .before .before .before .before .before .before .before in
+    let k = name-within _ (m .rdata-step .ensures .1) (c .before .before .before .before .before .before .before .step2 .given .1) in
     let w = c .before .before .put-hex2 in (
-      omega (arith, c .before .before .before .before .before .before .before .before .before .before .before .loop .inv),
-      omega (arith, c .before .before .before .before .before .before .before .before .before .before .before .loop .inv),
+      omega (arith, m .before .loop .inv),
+      omega (arith, m .before .loop .inv),
       omega arith,
-      omega (arith, c .before .before .before .before .before .before .before .before .before .before .before .loop .inv, hex-short (c .before .before .before .before .before .before .before .before .before .before .before .loop .next) (c .before .before .before .before .before .before .before .step2 .given .0 .0 - 0) (c .before .before .before .before .before .before .before .before .before .before .rdata-step .result .octets) (w .ensures .1)),
-      same-long (w .ensures .0) ∙ c .before .before .before .before .before .before .before .before .before .before .before .loop .inv .4,
-      rest-name (c .before .before .before .before .before .before .before .before .before .before .before .loop .inv .5) (c .before .before .before .before .before .before .before .before .before .before .rdata-step .ensures .0) (c .before .before .before .before .before .before .before .step2 .given .1) (w .ensures .0),
+      omega (arith, m .before .loop .inv, hex-short (m .before .loop .next) (c .before .before .before .before .before .before .before .step2 .given .0 .0 - 0) (m .rdata-step .result .octets) (w .ensures .1)),
+      same-long (w .ensures .0) ∙ m .before .loop .inv .4,
+      rest-name (m .before .loop .inv .5) (m .rdata-step .ensures .0) (c .before .before .before .before .before .before .before .step2 .given .1) (w .ensures .0),
     )
 
 enum-told : tie.Need-enum-told Inv-loop μ-loop

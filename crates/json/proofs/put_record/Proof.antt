@@ -30,23 +30,33 @@ rcode-of-requires : tie.Need-rcode-of-requires
 rcode-of-requires c κs = search needs
 
 add-end : tie.Need-add-end
-add-end c = let k = heads-within _ (c .before .before .before .before .before .before .before .before .before .before .before .args .at) (c .before .before .before .before .before .before .before .before .head-at .ensures .1) (c .before .before .before .before .before .answer .given .1) in search needs
+add-end c =
+    let m = c .before .before .before .before .before in
+    let k = heads-within _ (m .before .before .before .before .before .before .args .at) (m .before .before .before .head-at .ensures .1) (m .answer .given .1) in search needs
 
 sub-put-edns : tie.Need-sub-put-edns
-sub-put-edns c = let k = heads-within _ (c .before .before .before .before .before .before .before .before .before .before .before .before .args .at) (c .before .before .before .before .before .before .before .before .before .head-at .ensures .1) (c .before .before .before .before .before .before .answer .given .1) in search needs
+sub-put-edns c =
+    let m = c .before .before .before .before .before .before in
+    let k = heads-within _ (m .before .before .before .before .before .before .args .at) (m .before .before .before .head-at .ensures .1) (m .answer .given .1) in search needs
 
 part-put-edns-start : tie.Need-part-put-edns-start
-part-put-edns-start c = let k = heads-within _ (c .before .before .before .before .before .before .before .before .before .before .before .before .args .at) (c .before .before .before .before .before .before .before .before .before .head-at .ensures .1) (c .before .before .before .before .before .before .answer .given .1) in search needs
+part-put-edns-start c =
+    let m = c .before .before .before .before .before .before in
+    let k = heads-within _ (m .before .before .before .before .before .before .args .at) (m .before .before .before .head-at .ensures .1) (m .answer .given .1) in search needs
 
 part-put-edns-end : tie.Need-part-put-edns-end
-part-put-edns-end c = let k = heads-within _ (c .before .before .before .before .before .before .before .before .before .before .before .before .args .at) (c .before .before .before .before .before .before .before .before .before .head-at .ensures .1) (c .before .before .before .before .before .before .answer .given .1) in search needs
+part-put-edns-end c =
+    let m = c .before .before .before .before .before .before in
+    let k = heads-within _ (m .before .before .before .before .before .before .args .at) (m .before .before .before .head-at .ensures .1) (m .answer .given .1) in search needs
 
 put-edns-requires : tie.Need-put-edns-requires
-put-edns-requires c κs = let k = heads-within _ (c .before .before .before .before .before .before .before .before .before .before .before .before .before .args .at) (c .before .before .before .before .before .before .before .before .before .before .head-at .ensures .1) (c .before .before .before .before .before .before .before .answer .given .1) in
-    let h = c .before .before .before .before .before .before .before .answer .given .0 .0 in (
+put-edns-requires c κs =
+    let m = c .before .before .before .before .before .before .before in
+    let k = heads-within _ (m .before .before .before .before .before .before .args .at) (m .before .before .before .head-at .ensures .1) (m .answer .given .1) in
+    let h = m .answer .given .0 .0 in (
       search needs,
       c .before .before .before .rcode-of .ensures .1,
-      omega (arith, part-short (h .rdata + h .length - h .rdata) (drop (h .rdata) (c .before .before .before .before .before .before .before .before .before .before .before .before .before .args .s .now)) 65535 (omega arith)),
+      omega (arith, part-short (h .rdata + h .length - h .rdata) (drop (h .rdata) (m .before .before .before .before .before .before .args .s .now)) 65535 (omega arith)),
       element-shows _ _ _ (c .before .before .before .before .before .is-element .ensures) (c .before .before .before .before .if1 .taken) (c .before .before .before .rcode-of .ensures .0),
     )
 
@@ -54,10 +64,13 @@ same-length : tie.Need-same-length
 same-length c = search needs
 
 returns-2 : tie.Need-returns-2
-returns-2 c = let k = heads-within _ (c .before .before .before .before .before .before .before .before .before .before .before .before .before .before .before .before .args .at) (c .before .before .before .before .before .before .before .before .before .before .before .before .before .head-at .ensures .1) (c .before .before .before .before .before .before .before .before .before .before .answer .given .1) in
-    let h = c .before .before .before .before .before .before .before .before .before .before .answer .given .0 .0 in
-    let l = part-short (h .rdata + h .length - h .rdata) (drop (h .rdata) (c .before .before .before .before .before .before .before .before .before .before .before .before .before .before .before .before .args .s .now)) (h .length) (omega arith) in (
-      record-element _ _ _ (c .before .before .before .before .before .before .before .before .before .before .before .before .before .head-at .ensures .0) (c .before .before .before .before .before .before .before .before .before .before .answer .given .1) (c .before .before .before .before .before .before .before .before .is-element .ensures) (c .before .before .before .before .before .before .before .if1 .taken) (c .before .before .before .before .before .before .rcode-of .ensures .0) (c .before .before .put-edns .ensures .0),
+returns-2 c =
+    let m = c .before .before .before .before .before .before .before .before .before .before in
+    let j = m .before .before .before in
+    let k = heads-within _ (j .before .before .before .args .at) (j .head-at .ensures .1) (m .answer .given .1) in
+    let h = m .answer .given .0 .0 in
+    let l = part-short (h .rdata + h .length - h .rdata) (drop (h .rdata) (j .before .before .before .args .s .now)) (h .length) (omega arith) in (
+      record-element _ _ _ (j .head-at .ensures .0) (m .answer .given .1) (c .before .before .before .before .before .before .before .before .is-element .ensures) (c .before .before .before .before .before .before .before .if1 .taken) (c .before .before .before .before .before .before .rcode-of .ensures .0) (c .before .before .put-edns .ensures .0),
       (omega arith, omega arith, omega (arith, c .before .before .put-edns .ensures .1)),
     )
 
@@ -71,17 +84,22 @@ part-put-ordinary-end : tie.Need-part-put-ordinary-end
 part-put-ordinary-end c = record-room _ _ (c .before .before .before .before .before .before .before .head-at .ensures .0) (c .before .before .before .before .answer .given .1)
 
 put-ordinary-requires : tie.Need-put-ordinary-requires
-put-ordinary-requires c κs = let k = heads-within _ (c .before .before .before .before .before .before .before .before .before .before .before .before .args .at) (c .before .before .before .before .before .before .before .before .before .head-at .ensures .1) (c .before .before .before .before .before .before .answer .given .1) in
-    let h = c .before .before .before .before .before .before .answer .given .0 .0 in (search needs, part-short (h .size - 0) (c .before .before .before .before .before .before .before .before .before .head-at .result .name) 255 (omega arith), search needs, search needs)
+put-ordinary-requires c κs =
+    let m = c .before .before .before .before .before .before in
+    let k = heads-within _ (m .before .before .before .before .before .before .args .at) (m .before .before .before .head-at .ensures .1) (m .answer .given .1) in
+    let h = m .answer .given .0 .0 in (search needs, part-short (h .size - 0) (m .before .before .before .head-at .result .name) 255 (omega arith), search needs, search needs)
 
 same-length-2 : tie.Need-same-length-2
 same-length-2 c = search needs
 
 returns-3 : tie.Need-returns-3
-returns-3 c = let k = heads-within _ (c .before .before .before .before .before .before .before .before .before .before .before .before .before .before .before .args .at) (c .before .before .before .before .before .before .before .before .before .before .before .before .head-at .ensures .1) (c .before .before .before .before .before .before .before .before .before .answer .given .1) in
-    let h = c .before .before .before .before .before .before .before .before .before .answer .given .0 .0 in (
-      record-ordinary _ _ _ (c .before .before .before .before .before .before .before .before .before .before .before .before .head-at .ensures .0) (c .before .before .before .before .before .before .before .before .before .answer .given .1) (c .before .before .before .before .before .before .before .is-element .ensures) (c .before .before .before .before .before .before .if1 .left) (c .before .before .put-ordinary .ensures .0),
-      ends-within (c .before .before .put-ordinary .result) (c .before .before .before .before .before .before .before .before .before .before .before .before .before .before .before .args .at) (c .before .before .before .before .before .before .before .before .before .before .before .before .before .before .before .args .to) (h .rdata) (h .length) _ (c .before .before .put-ordinary .ensures .1) (k .3) (k .4),
+returns-3 c =
+    let m = c .before .before .before .before .before .before .before .before .before in
+    let j = m .before .before .before .before .before .before in
+    let k = heads-within _ (j .args .at) (m .before .before .before .head-at .ensures .1) (m .answer .given .1) in
+    let h = m .answer .given .0 .0 in (
+      record-ordinary _ _ _ (m .before .before .before .head-at .ensures .0) (m .answer .given .1) (c .before .before .before .before .before .before .before .is-element .ensures) (c .before .before .before .before .before .before .if1 .left) (c .before .before .put-ordinary .ensures .0),
+      ends-within (c .before .before .put-ordinary .result) (j .args .at) (j .args .to) (h .rdata) (h .length) _ (c .before .before .put-ordinary .ensures .1) (k .3) (k .4),
     )
 
 pub put-record-spec : {M : Type 1} → statement M

@@ -21,10 +21,14 @@ two-at-requires : tie.Need-two-at-requires
 two-at-requires c κs = search needs
 
 put-all-requires : tie.Need-put-all-requires
-put-all-requires c κs = let k = placed (c .before .before .before .before .before .before .before .before .args .went) (length (c .before .before .before .before .before .before .before .before .args .s .now)) (c .before .before .before .before .before .before .before .before .args .place) (c .before .before .before .before .before .before .before .before .pre .4) (c .before .before .before .went .given .1) in omega (arith, c .before .before .before .before .before .before .before .before .pre)
+put-all-requires c κs =
+    let m = c .before .before .before .before .before .before .before .before in
+    let k = placed (m .args .went) (length (m .args .s .now)) (m .args .place) (m .pre .4) (c .before .before .before .went .given .1) in omega (arith, m .pre)
 
 put-array-requires : tie.Need-put-array-requires
-put-array-requires c κs = let k = placed (c .before .before .before .before .before .before .before .before .before .before .before .before .args .went) (length (c .before .before .before .before .before .before .before .before .before .before .before .before .args .s .now)) (c .before .before .before .before .before .before .before .before .before .before .before .before .args .place) (c .before .before .before .before .before .before .before .before .before .before .before .before .pre .4) (c .before .before .before .before .before .before .before .went .given .1) in (search needs, search needs, k .0, omega (arith, c .before .before .before .before .before .before .before .before .before .before .before .before .pre, c .before .before .before .put-all .ensures .place))
+put-array-requires c κs =
+    let m = c .before .before .before .before .before .before .before .before .before .before .before .before in
+    let k = placed (m .args .went) (length (m .args .s .now)) (m .args .place) (m .pre .4) (c .before .before .before .before .before .before .before .went .given .1) in (search needs, search needs, k .0, omega (arith, m .pre, c .before .before .before .put-all .ensures .place))
 
 same-length : tie.Need-same-length
 same-length c = search needs

@@ -30,7 +30,9 @@ same-length : tie.Need-same-length
 same-length c = search needs
 
 returns : tie.Need-returns
-returns c = (wrote-start _ _ _ (c .before .before .before .before .before .before .before .before .before .before .before .before .before .before .before .before .put-all .ensures) (c .before .before .before .before .before .before .before .before .before .before .before .before .put-name .ensures .0) (c .before .before .before .before .before .before .before .put-member .ensures .0) (c .before .before .put-member2 .ensures .0), search needs)
+returns c =
+    let m = c .before .before .before .before .before .before .before in
+    (wrote-start _ _ _ (m .before .before .before .before .before .before .before .before .before .put-all .ensures) (m .before .before .before .before .before .put-name .ensures .0) (m .put-member .ensures .0) (c .before .before .put-member2 .ensures .0), search needs)
 
 pub put-start-spec : {M : Type 1} → statement M
 put-start-spec =

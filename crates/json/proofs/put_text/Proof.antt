@@ -45,16 +45,26 @@ same-length : tie.Need-same-length
 same-length c = search needs
 
 returns : tie.Need-returns
-returns c = whole-fault _ _ (c .before .before .before .before .before .before .before .before .before .before .before .before .before .before .before .before .before .before .before .before .before .before .before .before .put-head .ensures .0) (c .before .before .before .before .before .before .before .before .before .before .before .before .before .before .before .before .before .before .before .put-section .ensures .0) (c .before .before .before .before .before .before .before .before .before .before .before .before .before .before .put-section2 .ensures .0) (c .before .before .before .before .before .before .before .before .before .put-section3 .ensures .0) (c .before .before .before .before .put-section4 .ensures .0) (c .enum-told .given .1)
+returns c =
+    let m = c .before .before .before .before .before .before .before .before .before .before .before .before .before .before in
+    whole-fault _ _ (m .before .before .before .before .before .before .before .before .before .before .put-head .ensures .0) (m .before .before .before .before .before .put-section .ensures .0) (m .put-section2 .ensures .0) (c .before .before .before .before .before .before .before .before .before .put-section3 .ensures .0) (c .before .before .before .before .put-section4 .ensures .0) (c .enum-told .given .1)
 
 put-requires : tie.Need-put-requires
-put-requires c κs = let k = placed (c .before .before .before .before .before .before .put-section4 .result) (length (c .before .before .before .before .before .before .before .before .before .before .before .before .before .before .before .before .before .before .before .before .before .before .before .before .before .before .before .before .before .before .args .s .now)) 12 (c .before .before .before .before .before .before .put-section4 .ensures .1) (c .before .before .additional .given .1) in omega (arith, c .before .before .before .before .before .before .before .before .before .before .before .before .before .before .before .before .before .before .before .before .before .before .before .before .before .before .before .before .before .before .pre)
+put-requires c κs =
+    let m = c .before .before .before .before .before .before .before .before .before .before .before .before .before .before .before .before .before .before .before .before .before .before .before .before .before .before .before .before .before .before in
+    let k = placed (c .before .before .before .before .before .before .put-section4 .result) (length (m .args .s .now)) 12 (c .before .before .before .before .before .before .put-section4 .ensures .1) (c .before .before .additional .given .1) in omega (arith, m .pre)
 
 same-length-2 : tie.Need-same-length-2
-same-length-2 c = does-long (whole-text _ _ (c .before .before .before .before .before .before .before .before .before .before .before .before .before .before .before .before .before .before .before .before .before .before .before .before .before .before .before .before .before .put-head .ensures .0) (c .before .before .before .before .before .before .before .before .before .before .before .before .before .before .before .before .before .before .before .before .before .before .before .before .put-section .ensures .0) (c .before .before .before .before .before .before .before .before .before .before .before .before .before .before .before .before .before .before .before .put-section2 .ensures .0) (c .before .before .before .before .before .before .before .before .before .before .before .before .before .before .put-section3 .ensures .0) (c .before .before .before .before .before .before .before .before .before .put-section4 .ensures .0) (c .before .before .before .before .before .additional .given .1) (c .before .before .put .ensures))
+same-length-2 c =
+    let m = c .before .before .before .before .before .before .before .before .before .before .before .before .before .before in
+    let k = m .before .before .before .before .before .before .before .before .before .before in
+    does-long (whole-text _ _ (k .before .before .before .before .before .put-head .ensures .0) (k .put-section .ensures .0) (m .before .before .before .before .before .put-section2 .ensures .0) (m .put-section3 .ensures .0) (c .before .before .before .before .before .before .before .before .before .put-section4 .ensures .0) (c .before .before .before .before .before .additional .given .1) (c .before .before .put .ensures))
 
 returns-2 : tie.Need-returns-2
-returns-2 c = whole-text _ _ (c .before .before .before .before .before .before .before .before .before .before .before .before .before .before .before .before .before .before .before .before .before .before .before .before .before .before .before .before .before .put-head .ensures .0) (c .before .before .before .before .before .before .before .before .before .before .before .before .before .before .before .before .before .before .before .before .before .before .before .before .put-section .ensures .0) (c .before .before .before .before .before .before .before .before .before .before .before .before .before .before .before .before .before .before .before .put-section2 .ensures .0) (c .before .before .before .before .before .before .before .before .before .before .before .before .before .before .put-section3 .ensures .0) (c .before .before .before .before .before .before .before .before .before .put-section4 .ensures .0) (c .before .before .before .before .before .additional .given .1) (c .before .before .put .ensures)
+returns-2 c =
+    let m = c .before .before .before .before .before .before .before .before .before .before .before .before .before .before in
+    let k = m .before .before .before .before .before .before .before .before .before .before in
+    whole-text _ _ (k .before .before .before .before .before .put-head .ensures .0) (k .put-section .ensures .0) (m .before .before .before .before .before .put-section2 .ensures .0) (m .put-section3 .ensures .0) (c .before .before .before .before .before .before .before .before .before .put-section4 .ensures .0) (c .before .before .before .before .before .additional .given .1) (c .before .before .put .ensures)
 
 pub put-text-spec : {M : Type 1} → statement M
 put-text-spec =

@@ -24,7 +24,9 @@ enum-known-number : tie.Need-enum-known-number
 enum-known-number c = search needs
 
 cast-put-refusal : tie.Need-cast-put-refusal
-cast-put-refusal c = omega (arith, place-below _ (c .before .before .before .before .before .before .before .before .before .before .args .text .now) (c .before .before .before .before .before .before .before .before .before .before .pre .2) (c .before .before .before .before .before .before .convert .ensures) (c .before .before .number .given .1) (c .before .before .before .before .before .before .before .before .before .before .pre .0) (c .before .before .before .before .before .before .before .before .before .before .pre .1))
+cast-put-refusal c =
+    let m = c .before .before .before .before .before .before .before .before .before .before in
+    omega (arith, place-below _ (m .args .text .now) (m .pre .2) (c .before .before .before .before .before .before .convert .ensures) (c .before .before .number .given .1) (m .pre .0) (m .pre .1))
 
 put-refusal-requires : tie.Need-put-refusal-requires
 put-refusal-requires c κs = search needs

@@ -19,10 +19,14 @@ part-put-hex-start : tie.Need-part-put-hex-start
 part-put-hex-start c = search needs
 
 part-put-hex-end : tie.Need-part-put-hex-end
-part-put-hex-end c = omega (arith, message-within _ _ (c .before .before .before .before .before .before .before .before .before .before .before .before .pre .0) (c .before .before .before .before .before .before .before .read .ensures) (c .before .before .before .n .given .1))
+part-put-hex-end c =
+    let m = c .before .before .before .before .before .before .before in
+    omega (arith, message-within _ _ (m .before .before .before .before .before .pre .0) (m .read .ensures) (c .before .before .before .n .given .1))
 
 put-hex-requires : tie.Need-put-hex-requires
-put-hex-requires c κs = omega (arith, message-within _ _ (c .before .before .before .before .before .before .before .before .before .before .before .before .before .pre .0) (c .before .before .before .before .before .before .before .before .read .ensures) (c .before .before .before .before .n .given .1))
+put-hex-requires c κs =
+    let m = c .before .before .before .before .before .before .before .before in
+    omega (arith, message-within _ _ (m .before .before .before .before .before .pre .0) (m .read .ensures) (c .before .before .before .before .n .given .1))
 
 enum-known-number : tie.Need-enum-known-number
 enum-known-number c = search needs
@@ -54,8 +58,9 @@ same-length-4 c = search needs
 
 returns-2 : tie.Need-returns-2
 returns-2 c =
-    let p = c .before .before .before .before .before .before .before .before .before .read .ensures in
-    (refused-answer _ _ (c .before .before .before .before .before .before .before .before .before .before .before .before .before .before .pre .0) p (c .before .before .before .before .before .number .given .1) (c .before .before .put-refusal .ensures .0), (search needs, p .leaves))
+    let m = c .before .before .before .before .before in
+    let p = m .before .before .before .before .read .ensures in
+    (refused-answer _ _ (m .before .before .before .before .before .before .before .before .before .pre .0) p (m .number .given .1) (c .before .before .put-refusal .ensures .0), (search needs, p .leaves))
 
 pub put-wire-spec : {M : Type 1} → statement M
 put-wire-spec =

@@ -19,7 +19,9 @@ same-length-2 c = search needs
 
 returns : tie.Need-returns
 unfolding printed
-returns c = (then (c .before .before .before .before .before .before .before .before .put-reading .ensures .0) (c .before .before .put .ensures), (search needs, c .before .before .before .before .before .before .before .before .put-reading .ensures .1 .1))
+returns c =
+    let m = c .before .before .before .before .before .before .before .before in
+    (then (m .put-reading .ensures .0) (c .before .before .put .ensures), (search needs, m .put-reading .ensures .1 .1))
 
 pub wire-line-spec : {M : Type 1} → statement M
 wire-line-spec =

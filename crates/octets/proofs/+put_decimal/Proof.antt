@@ -110,7 +110,9 @@ put-decimal-returns-2 : (t : ℕ) → put-decimal-lts.Need-returns-2 (
   put-decimal-below t,
   put-decimal.Post,
 ) (put-decimal-at t) put-decimal.Post
-put-decimal-returns-2 t c = (search (wrote-digits, needs), omega (arith, decimal-length _ (c .before .before .before .before .before .before .before .before .before .before .fits .n .fits), decimal-longer _ (c .before .before .before .before .before .before .before .before .if1 .left)))
+put-decimal-returns-2 t c =
+    let m = c .before .before .before .before .before .before .before .before in
+    (search (wrote-digits, needs), omega (arith, decimal-length _ (m .before .before .fits .n .fits), decimal-longer _ (m .if1 .left)))
 
 pub +put-decimal-spec : {M : Type 1} → statement M
 +put-decimal-spec = close μ-put-decimal λ t. put-decimal-lts.spec (

@@ -62,7 +62,9 @@ loop-less : tie.Need-loop-less Inv-loop μ-loop
 loop-less c = search needs
 
 loop-again : tie.Need-loop-again Inv-loop μ-loop
-loop-again c = (search needs, omega (arith, entry-width 2 (c .before .before .put-entry2 .ensures) (search needs)), same-long (c .before .before .put-entry2 .ensures) ∙ c .before .before .before .before .before .before .before .loop .inv .2, octet-next _ (c .before .before .before .before .before .before .loop-test .taken) (c .before .before .before .wide2 .ensures .0) (c .before .before .before .before .before .before .before .loop .inv .3) (c .before .before .put-entry2 .ensures))
+loop-again c =
+    let m = c .before .before .before .before .before .before in
+    (search needs, omega (arith, entry-width 2 (c .before .before .put-entry2 .ensures) (search needs)), same-long (c .before .before .put-entry2 .ensures) ∙ m .before .loop .inv .2, octet-next _ (m .loop-test .taken) (c .before .before .before .wide2 .ensures .0) (m .before .loop .inv .3) (c .before .before .put-entry2 .ensures))
 
 put-requires : tie.Need-put-requires Inv-loop μ-loop
 put-requires c κs = search needs

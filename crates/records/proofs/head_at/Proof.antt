@@ -55,8 +55,10 @@ returns-2 : tie.Need-returns-2
 returns-2 c = (head-faulty _ _ (c .before .before .before .before .begun-at .ensures .0) (c .before .answer .given .1), tt)
 
 returns-3 : tie.Need-returns-3
-returns-3 c = let p = begins _ (2 ∷ 2 ∷ 4 ∷ 2 ∷ []) (c .before .before .before .before .before .before .before .before .before .begun-at .ensures .1) (c .before .before .before .before .before .before .answer2 .given .1) in
-    (head-whole _ _ (c .before .before .before .before .before .before .before .before .before .begun-at .ensures .0) (c .before .before .before .before .before .before .answer2 .given .1) (c .before .two-at3 .ensures .0) (c .if1 .left) (c .before .before .before .before .two-at .ensures .0) (c .before .before .before .two-at2 .ensures .0) (c .before .before .four-at .ensures), omega arith)
+returns-3 c =
+    let m = c .before .before .before .before .before .before in
+    let p = begins _ (2 ∷ 2 ∷ 4 ∷ 2 ∷ []) (m .before .before .before .begun-at .ensures .1) (m .answer2 .given .1) in
+    (head-whole _ _ (m .before .before .before .begun-at .ensures .0) (m .answer2 .given .1) (c .before .two-at3 .ensures .0) (c .if1 .left) (c .before .before .before .before .two-at .ensures .0) (c .before .before .before .two-at2 .ensures .0) (c .before .before .four-at .ensures), omega arith)
 
 pub head-at-spec : {M : Type 1} → statement M
 head-at-spec =

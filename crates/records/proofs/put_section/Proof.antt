@@ -29,7 +29,9 @@ same-length : tie.Need-same-length Inv-loop μ-loop
 same-length c = search needs
 
 returns : tie.Need-returns Inv-loop μ-loop
-returns c = (onward-stop _ _ _ _ (c .before .before .before .before .before .before .before .before .loop .inv .4) (c .before .before .before .before .before .before .before .loop-test .taken) (c .before .before .before .before .before .put-entry .ensures .0) (c .before .fault .given .1), tt)
+returns c =
+    let m = c .before .before .before .before .before in
+    (onward-stop _ _ _ _ (m .before .before .before .loop .inv .4) (m .before .before .loop-test .taken) (m .put-entry .ensures .0) (c .before .fault .given .1), tt)
 
 enum-known-behind : tie.Need-enum-known-behind Inv-loop μ-loop
 enum-known-behind c = search needs

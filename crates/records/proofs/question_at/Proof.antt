@@ -34,7 +34,9 @@ returns : tie.Need-returns
 returns c = (question-faulty _ _ (c .before .before .before .before .begun-at .ensures .0) (c .before .answer .given .1), tt)
 
 returns-2 : tie.Need-returns-2
-returns-2 c = let p = begins _ (2 ∷ 2 ∷ []) (c .before .before .before .before .before .before .begun-at .ensures .1) (c .before .before .before .answer2 .given .1) in (question-whole _ _ (c .before .before .before .before .before .before .begun-at .ensures .0) (c .before .before .before .answer2 .given .1) (c .before .two-at .ensures .0) (c .two-at2 .ensures .0), omega arith)
+returns-2 c =
+    let m = c .before .before .before in
+    let p = begins _ (2 ∷ 2 ∷ []) (m .before .before .before .begun-at .ensures .1) (m .answer2 .given .1) in (question-whole _ _ (m .before .before .before .begun-at .ensures .0) (m .answer2 .given .1) (c .before .two-at .ensures .0) (c .two-at2 .ensures .0), omega arith)
 
 pub question-at-spec : {M : Type 1} → statement M
 question-at-spec =

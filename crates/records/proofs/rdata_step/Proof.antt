@@ -20,7 +20,9 @@ plain-step-requires : tie.Need-plain-step-requires
 plain-step-requires c κs = search needs
 
 returns : tie.Need-returns
-returns c = let e = step-surplus (c .before .before .before .before .before .before .args .s .now) (drop (c .before .before .before .before .before .before .args .i) (layoutIn (c .before .before .before .before .before .before .args .kind) (c .before .before .before .before .before .before .args .size))) (c .before .before .before .before .before .before .args .start) (c .before .before .before .before .before .before .args .start + c .before .before .before .before .before .before .args .size) (c .before .before .before .before .before .before .args .at) (c .before .before .before .before .piece-of .ensures) (c .before .before .enum-told .given .1) (c .before .if1 .taken) (c .plain-step .ensures) in (e, steps (c .before .before .before .before .before .before .args .s .now) (c .before .before .before .before .before .before .args .start) (c .before .before .before .before .before .before .args .start + c .before .before .before .before .before .before .args .size) (c .before .before .before .before .before .before .args .at) (c .before .before .before .before .before .before .args .i) (search needs) (search needs) (c .before .before .before .before .before .before .args .kind) (c .before .before .before .before .before .before .args .size) e)
+returns c =
+    let m = c .before .before .before .before .before .before in
+    let e = step-surplus (m .args .s .now) (drop (m .args .i) (layoutIn (m .args .kind) (m .args .size))) (m .args .start) (m .args .start + m .args .size) (m .args .at) (c .before .before .before .before .piece-of .ensures) (c .before .before .enum-told .given .1) (c .before .if1 .taken) (c .plain-step .ensures) in (e, steps (m .args .s .now) (m .args .start) (m .args .start + m .args .size) (m .args .at) (m .args .i) (search needs) (search needs) (m .args .kind) (m .args .size) e)
 
 plain-step-requires-2 : tie.Need-plain-step-requires-2
 plain-step-requires-2 c κs = search needs
@@ -35,7 +37,9 @@ plain-step-requires-3 : tie.Need-plain-step-requires-3
 plain-step-requires-3 c κs = search needs
 
 returns-2 : tie.Need-returns-2
-returns-2 c = let e = step-short (c .before .before .before .before .before .before .before .args .s .now) (drop (c .before .before .before .before .before .before .before .args .i) (layoutIn (c .before .before .before .before .before .before .before .args .kind) (c .before .before .before .before .before .before .before .args .size))) (c .before .before .before .before .before .before .before .args .start) (c .before .before .before .before .before .before .before .args .start + c .before .before .before .before .before .before .before .args .size) (c .before .before .before .before .before .before .before .args .at) (c .before .before .before .before .before .piece-of .ensures) (c .before .before .before .n .given .1) (search needs) (c .before .if2 .taken) (c .plain-step3 .ensures) in (e, steps (c .before .before .before .before .before .before .before .args .s .now) (c .before .before .before .before .before .before .before .args .start) (c .before .before .before .before .before .before .before .args .start + c .before .before .before .before .before .before .before .args .size) (c .before .before .before .before .before .before .before .args .at) (c .before .before .before .before .before .before .before .args .i) (search needs) (search needs) (c .before .before .before .before .before .before .before .args .kind) (c .before .before .before .before .before .before .before .args .size) e)
+returns-2 c =
+    let m = c .before .before .before .before .before .before .before in
+    let e = step-short (m .args .s .now) (drop (m .args .i) (layoutIn (m .args .kind) (m .args .size))) (m .args .start) (m .args .start + m .args .size) (m .args .at) (c .before .before .before .before .before .piece-of .ensures) (c .before .before .before .n .given .1) (search needs) (c .before .if2 .taken) (c .plain-step3 .ensures) in (e, steps (m .args .s .now) (m .args .start) (m .args .start + m .args .size) (m .args .at) (m .args .i) (search needs) (search needs) (m .args .kind) (m .args .size) e)
 
 add-t21 : tie.Need-add-t21
 add-t21 c = search needs
@@ -56,16 +60,24 @@ enum-known-answer-2 : tie.Need-enum-known-answer-2
 enum-known-answer-2 c = search needs
 
 returns-3 : tie.Need-returns-3
-returns-3 c = let e = step-done (c .before .before .before .before .before .before .args .s .now) (drop (c .before .before .before .before .before .before .args .i) (layoutIn (c .before .before .before .before .before .before .args .kind) (c .before .before .before .before .before .before .args .size))) (c .before .before .before .before .before .before .args .start) (c .before .before .before .before .before .before .args .start + c .before .before .before .before .before .before .args .size) (c .before .before .before .before .before .before .args .at) (c .before .before .before .before .piece-of .ensures) (c .before .before .enum-told .given .1) (c .before .if1 .left) (c .plain-step2 .ensures) in (e, steps (c .before .before .before .before .before .before .args .s .now) (c .before .before .before .before .before .before .args .start) (c .before .before .before .before .before .before .args .start + c .before .before .before .before .before .before .args .size) (c .before .before .before .before .before .before .args .at) (c .before .before .before .before .before .before .args .i) (search needs) (search needs) (c .before .before .before .before .before .before .args .kind) (c .before .before .before .before .before .before .args .size) e)
+returns-3 c =
+    let m = c .before .before .before .before .before .before in
+    let e = step-done (m .args .s .now) (drop (m .args .i) (layoutIn (m .args .kind) (m .args .size))) (m .args .start) (m .args .start + m .args .size) (m .args .at) (c .before .before .before .before .piece-of .ensures) (c .before .before .enum-told .given .1) (c .before .if1 .left) (c .plain-step2 .ensures) in (e, steps (m .args .s .now) (m .args .start) (m .args .start + m .args .size) (m .args .at) (m .args .i) (search needs) (search needs) (m .args .kind) (m .args .size) e)
 
 returns-4 : tie.Need-returns-4
-returns-4 c = let e = step-part (c .before .before .before .before .before .before .before .args .s .now) (drop (c .before .before .before .before .before .before .before .args .i) (layoutIn (c .before .before .before .before .before .before .before .args .kind) (c .before .before .before .before .before .before .before .args .size))) (c .before .before .before .before .before .before .before .args .start) (c .before .before .before .before .before .before .before .args .start + c .before .before .before .before .before .before .before .args .size) (c .before .before .before .before .before .before .before .args .at) (c .before .before .before .before .before .piece-of .ensures) (c .before .before .before .n .given .1) (search needs) (c .before .if2 .left) (c .plain-step4 .ensures) in (e, steps (c .before .before .before .before .before .before .before .args .s .now) (c .before .before .before .before .before .before .before .args .start) (c .before .before .before .before .before .before .before .args .start + c .before .before .before .before .before .before .before .args .size) (c .before .before .before .before .before .before .before .args .at) (c .before .before .before .before .before .before .before .args .i) (search needs) (search needs) (c .before .before .before .before .before .before .before .args .kind) (c .before .before .before .before .before .before .before .args .size) e)
+returns-4 c =
+    let m = c .before .before .before .before .before .before .before in
+    let e = step-part (m .args .s .now) (drop (m .args .i) (layoutIn (m .args .kind) (m .args .size))) (m .args .start) (m .args .start + m .args .size) (m .args .at) (c .before .before .before .before .before .piece-of .ensures) (c .before .before .before .n .given .1) (search needs) (c .before .if2 .left) (c .plain-step4 .ensures) in (e, steps (m .args .s .now) (m .args .start) (m .args .start + m .args .size) (m .args .at) (m .args .i) (search needs) (search needs) (m .args .kind) (m .args .size) e)
 
 returns-5 : tie.Need-returns-5
-returns-5 c = let e = step-faulty (c .before .before .before .before .before .before .before .before .before .args .s .now) (drop (c .before .before .before .before .before .before .before .before .before .args .i) (layoutIn (c .before .before .before .before .before .before .before .before .before .args .kind) (c .before .before .before .before .before .before .before .before .before .args .size))) (c .before .before .before .before .before .before .before .before .before .args .start) (c .before .before .before .before .before .before .before .before .before .args .start + c .before .before .before .before .before .before .before .before .before .args .size) (c .before .before .before .before .before .before .before .before .before .args .at) (c .before .before .before .before .before .before .before .piece-of .ensures) (c .before .before .before .before .before .enum-told2 .given .1) (c .before .before .before .before .name-at .ensures) (c .before .answer .given .1) in (e, steps (c .before .before .before .before .before .before .before .before .before .args .s .now) (c .before .before .before .before .before .before .before .before .before .args .start) (c .before .before .before .before .before .before .before .before .before .args .start + c .before .before .before .before .before .before .before .before .before .args .size) (c .before .before .before .before .before .before .before .before .before .args .at) (c .before .before .before .before .before .before .before .before .before .args .i) (search needs) (search needs) (c .before .before .before .before .before .before .before .before .before .args .kind) (c .before .before .before .before .before .before .before .before .before .args .size) e)
+returns-5 c =
+    let m = c .before .before .before .before .before .before .before .before .before in
+    let e = step-faulty (m .args .s .now) (drop (m .args .i) (layoutIn (m .args .kind) (m .args .size))) (m .args .start) (m .args .start + m .args .size) (m .args .at) (c .before .before .before .before .before .before .before .piece-of .ensures) (c .before .before .before .before .before .enum-told2 .given .1) (c .before .before .before .before .name-at .ensures) (c .before .answer .given .1) in (e, steps (m .args .s .now) (m .args .start) (m .args .start + m .args .size) (m .args .at) (m .args .i) (search needs) (search needs) (m .args .kind) (m .args .size) e)
 
 returns-6 : tie.Need-returns-6
-returns-6 c = let e = step-name (c .before .before .before .before .before .before .before .before .before .args .s .now) (drop (c .before .before .before .before .before .before .before .before .before .args .i) (layoutIn (c .before .before .before .before .before .before .before .before .before .args .kind) (c .before .before .before .before .before .before .before .before .before .args .size))) (c .before .before .before .before .before .before .before .before .before .args .start) (c .before .before .before .before .before .before .before .before .before .args .start + c .before .before .before .before .before .before .before .before .before .args .size) (c .before .before .before .before .before .before .before .before .before .args .at) (c .before .before .before .before .before .before .before .piece-of .ensures) (c .before .before .before .before .before .enum-told2 .given .1) (c .before .before .before .before .name-at .ensures) (c .before .answer2 .given .1) in (e, steps (c .before .before .before .before .before .before .before .before .before .args .s .now) (c .before .before .before .before .before .before .before .before .before .args .start) (c .before .before .before .before .before .before .before .before .before .args .start + c .before .before .before .before .before .before .before .before .before .args .size) (c .before .before .before .before .before .before .before .before .before .args .at) (c .before .before .before .before .before .before .before .before .before .args .i) (search needs) (search needs) (c .before .before .before .before .before .before .before .before .before .args .kind) (c .before .before .before .before .before .before .before .before .before .args .size) e)
+returns-6 c =
+    let m = c .before .before .before .before .before .before .before .before .before in
+    let e = step-name (m .args .s .now) (drop (m .args .i) (layoutIn (m .args .kind) (m .args .size))) (m .args .start) (m .args .start + m .args .size) (m .args .at) (c .before .before .before .before .before .before .before .piece-of .ensures) (c .before .before .before .before .before .enum-told2 .given .1) (c .before .before .before .before .name-at .ensures) (c .before .answer2 .given .1) in (e, steps (m .args .s .now) (m .args .start) (m .args .start + m .args .size) (m .args .at) (m .args .i) (search needs) (search needs) (m .args .kind) (m .args .size) e)
 
 pub rdata-step-spec : {M : Type 1} → statement M
 rdata-step-spec =
