@@ -7,9 +7,9 @@ use Prim.Native.Nat.{ℕ, _%_, _≤_, _<_}
 use borrow.Author.Tests.{le-leb, lt-leb}
 use lib.Dec.{leb, eqb}
 use lib.ListN.{length, drop}
-use Rattle.octets.specs.Lists.{all, lookup}
+use Rattle.octets.specs.Lists.{all, lookup, present?}
 use Rattle.spelling.specs.Spelling.{printable?}
-use Rattle.options.specs.Options.{Form, unlisted, rows, formOf, shape, absent?}
+use Rattle.options.specs.Options.{Form, unlisted, rows, formOf, shape}
 use Rattle.options.specs.Writing.{no-row}
 
 -- ---- what the lengths decide
@@ -26,47 +26,47 @@ abbrev pub errorShape : List ℕ → Bool
 errorShape v = leb 2 (length v) && all printable? (drop 2 v)
 
 -- a choice of something or nothing
-chosen : {A : Type 0} (b : Bool) (a : A) → b ≡ not (absent? (cond b (some a) none))
+chosen : {A : Type 0} (b : Bool) (a : A) → b ≡ present? (cond b (some a) none)
 chosen true a = refl
 chosen false a = refl
 
-chosen-or : {A : Type 0} (b c : Bool) (a d : A) → (b || c) ≡ not (absent? (cond b (some a) (cond c (some d) none)))
+chosen-or : {A : Type 0} (b c : Bool) (a d : A) → (b || c) ≡ present? (cond b (some a) (cond c (some d) none))
 chosen-or true c a d = refl
 chosen-or false c a d = chosen c d
 
 -- the form of no row takes no value
-form-none : (form : Form) (v : List ℕ) → form ≡ unlisted → false ≡ not (absent? (shape form v))
+form-none : (form : Form) (v : List ℕ) → form ≡ unlisted → false ≡ present? (shape form v)
 unfolding shape
 form-none form v e = rw e
 
 -- ---- the codes
 module _ {code : ℕ} (v : List ℕ) where
   -- the code is that of a row
-  pub row-shaped : (k : ℕ) {r : Bool} → code ≡ k → r ≡ not (absent? (shape (formOf k) v)) → r ≡ not (absent? (shape (formOf code) v))
+  pub row-shaped : (k : ℕ) {r : Bool} → code ≡ k → r ≡ present? (shape (formOf k) v) → r ≡ present? (shape (formOf code) v)
   row-shaped k e q = rw e q
 
-  pub error-shaped : {r : Bool} → code ≡ 15 → r ≡ errorShape v → r ≡ not (absent? (shape (formOf code) v))
+  pub error-shaped : {r : Bool} → code ≡ 15 → r ≡ errorShape v → r ≡ present? (shape (formOf code) v)
   unfolding lookup rows formOf shape
   error-shaped e q = q ∙ rw e (chosen (errorShape v) _)
 
   pub none-shaped : (code ≡ 3 → ⊥) → (code ≡ 5 → ⊥) → (code ≡ 6 → ⊥) → (code ≡ 7 → ⊥) → (code ≡ 9 → ⊥) → (code ≡ 10 → ⊥) → (code ≡ 11 → ⊥) → (code ≡ 12 → ⊥) → (code ≡ 14 → ⊥) → (code ≡ 15 → ⊥)
-      → false ≡ not (absent? (shape (formOf code) v))
+      → false ≡ present? (shape (formOf code) v)
   none-shaped h3 h5 h6 h7 h9 h10 h11 h12 h14 h15 = form-none (formOf code) v (no-row code h3 h5 h6 h7 h9 h10 h11 h12 h14 h15)
 
   module _ {size : ℕ} (z : size ≡ length v) where
-    pub expire-shaped : {r : Bool} → code ≡ 9 → r ≡ expirySize size → r ≡ not (absent? (shape (formOf code) v))
+    pub expire-shaped : {r : Bool} → code ≡ 9 → r ≡ expirySize size → r ≡ present? (shape (formOf code) v)
     unfolding lookup rows formOf shape
     expire-shaped e q = q ∙ rw (e, z) (chosen-or (eqb (length v) 0) (eqb (length v) 4) _ _)
 
-    pub cookie-shaped : {r : Bool} → code ≡ 10 → r ≡ cookieSize size → r ≡ not (absent? (shape (formOf code) v))
+    pub cookie-shaped : {r : Bool} → code ≡ 10 → r ≡ cookieSize size → r ≡ present? (shape (formOf code) v)
     unfolding lookup rows formOf shape
     cookie-shaped e q = q ∙ rw (e, z) (chosen-or (eqb (length v) 8) (leb 16 (length v) && leb (length v) 40) _ _)
 
-    pub keepalive-shaped : code ≡ 11 → eqb size 2 ≡ not (absent? (shape (formOf code) v))
+    pub keepalive-shaped : code ≡ 11 → eqb size 2 ≡ present? (shape (formOf code) v)
     unfolding lookup rows formOf shape
     keepalive-shaped e = rw (e, z) (chosen (eqb (length v) 2) _)
 
-    pub keytag-shaped : code ≡ 14 → eqb (size % 2) 0 ≡ not (absent? (shape (formOf code) v))
+    pub keytag-shaped : code ≡ 14 → eqb (size % 2) 0 ≡ present? (shape (formOf code) v)
     unfolding lookup rows formOf shape
     keytag-shaped e = rw (e, z) (chosen (eqb (length v % 2) 0) _)
 

@@ -8,12 +8,12 @@ ghost use mathlib.Core.Path.{_≡_};
 ghost use mathlib.Core.Bool.{not};
 ghost use Prim.Native.Nat.{_+_, _*_, _^_, _<_, _≤_};
 ghost use lib.ListN.{length, getD, drop};
-ghost use Rattle.octets.specs.Lists.{digitValue, paired, all};
+ghost use Rattle.octets.specs.Lists.{digitValue, paired, present?, all};
 ghost use Rattle.octets.specs.Fields.{twoAt};
 ghost use Rattle.octets.specs.Overlay.{Wrote};
 ghost use Rattle.spelling.specs.Spelling.{printable?};
 ghost use Rattle.records.specs.Layout.{fits?};
-ghost use Rattle.options.specs.Options.{zero?, formOf, shape, absent?};
+ghost use Rattle.options.specs.Options.{zero?, formOf, shape};
 ghost use Rattle.edns.specs.Element.{optionsRise, showsEdns};
 ghost use Rattle.digits.specs.Digits.{Hexes};
 ghost use Rattle.digits.specs.Shapes.{expirySize, cookieSize, errorShape};
@@ -153,7 +153,7 @@ fn is_error(hex: &[u8]) -> bool
 // Whether the value of an option has the shape that the table gives to its code.
 pub fn has_shape(code: u32, hex: &[u8]) -> bool
     requires { ⌜ Hexes (now hex) ⌝ }
-    ensures { λ r. ⌜ r ≡ not (absent? (shape (formOf code) (paired (now (hex .entry))))) ⌝ }
+    ensures { λ r. ⌜ r ≡ present? (shape (formOf code) (paired (now (hex .entry)))) ⌝ }
 {
     let size = size_of(hex);
     match code {

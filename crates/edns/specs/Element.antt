@@ -6,7 +6,7 @@ use mathlib.Core.Option.{Option, none, some}
 use mathlib.Core.List.{List, [], _∷_, _++_, map}
 use Prim.Native.Nat.{ℕ, _/_, _%_}
 use lib.Dec.{eqb}
-use Rattle.octets.specs.Lists.{ascii, each, none?, key?, textOf}
+use Rattle.octets.specs.Lists.{ascii, each, none?, key?, textOf, present?}
 use Rattle.octets.specs.Decimal.{decimal}
 use Rattle.records.specs.Message.{Record}
 use Rattle.options.specs.Options.{EdnsOption, memberOf, memberText}
@@ -58,10 +58,6 @@ headText bit rcode =
     ascii "{\"EDNS\":{\"Version\":" ++ decimal 0 ++ ascii ",\"FLAGS\":" ++ textOf bit flags ++ ascii ",\"RCODE\":\"" ++ textOf rcode rcodes
 
 -- ---- what ednsOf tells
-abbrev pub present? : {A : Type 0} → Option A → Bool
-present? none = false
-present? (some a) = true
-
 present-cond : {A : Type 0} (b : Bool) (a : A) → present? (cond b (some a) none) ≡ b
 present-cond true a = refl
 present-cond false a = refl

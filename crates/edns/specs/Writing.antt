@@ -8,14 +8,14 @@ use native.Mathlib.Omega.{arith}
 use borrow.Author.Tests.{leb-true, leb-false}
 use lib.Dec.{T, leb, eqb}
 use lib.ListN.{length, take, drop}
-use Rattle.octets.specs.Lists.{ascii, key?, textOf, each}
+use Rattle.octets.specs.Lists.{ascii, key?, textOf, each, present?}
 use Rattle.octets.specs.Bits.{is-true, and-right}
 use Rattle.octets.specs.Fields.{twoAt}
 use Rattle.octets.specs.Decimal.{decimal}
 use Rattle.octets.specs.Overlay.{Wrote, then, nothing, each-ended}
 use Rattle.options.specs.Options.{EdnsOption, memberOf, memberText}
 use Rattle.edns.specs.Edns.{prepend, optionsOf, rcodes, flags, fullRcode, ednsItem, ednsText}
-use Rattle.edns.specs.Element.{risen?, optionsRise, listOf, optionsIn, optionsText, showsEdns, elementText, headText, present?}
+use Rattle.edns.specs.Element.{risen?, optionsRise, listOf, optionsIn, optionsText, showsEdns, elementText, headText}
 use Rattle.edns.specs.Ways.{here, options-end, options-none, options-more}
 
 -- ---- the options

@@ -5,10 +5,9 @@ use mathlib.Core.Option.{Option, none, some}
 use mathlib.Core.List.{List, map}
 use Prim.Native.Nat.{ℕ}
 use lib.Dec.{eqb}
-use Rattle.octets.specs.Lists.{all, count}
+use Rattle.octets.specs.Lists.{all, count, present?}
 use Rattle.records.specs.Message.{Header, Question, Record, Message, header?, question?, record?, section?, opt?}
 use Rattle.edns.specs.Edns.{Edns, ednsOf, ednsRecord, edns?}
-use Rattle.options.specs.Options.{absent?}
 
 -- ---- views
 -- an entry of the additional section
@@ -70,7 +69,7 @@ opt-entry? (edns e) = true
 
 -- in a section with so many entries of TYPE 41: an EDNS element is the only one, and no record that could be one is written as an ordinary record
 unfoldable pub settled? : ℕ → ℕ → Additional → Bool
-settled? rcode n (ordinary r) = not (opt? r && eqb n 1 && not (absent? (ednsOf rcode r)))
+settled? rcode n (ordinary r) = not (opt? r && eqb n 1 && present? (ednsOf rcode r))
 settled? rcode n (edns e) = eqb n 1
 
 unfoldable pub additionals? : ℕ → List Additional → Bool

@@ -8,12 +8,12 @@ use native.Mathlib.Omega.{arith}
 use borrow.Author.Tests.{eqb-true}
 use lib.Dec.{T, eqb, leb→le, le→leb}
 use lib.ListN.{length, length-append}
-use Rattle.octets.specs.Lists.{all, All, count, word?, each}
+use Rattle.octets.specs.Lists.{all, All, count, word?, each, present?}
 use Rattle.octets.specs.Bits.{both, and-left, and-right, all→All}
 use Rattle.octets.specs.Fields.{two, four}
 use Rattle.names.specs.Name.{nameForm}
 use Rattle.records.specs.Message.{Header, Question, Record, Message, headerForm, questionForm, recordForm, form, header?, question?, record?, section?, valid?, opt?}
-use Rattle.options.specs.Options.{EdnsOption, absent?}
+use Rattle.options.specs.Options.{EdnsOption}
 use Rattle.edns.specs.Edns.{optionForm, Edns, ednsOf, ednsRecord, small?, small-option?}
 use Rattle.edns.specs.EdnsLaws.{option-long, edns-back, edns-record, edns-valid}
 use Rattle.json.specs.View.{Additional, ordinary, edns, View, recognised, additionalOf, viewOf, recordOf, messageOf, additional?, opt-entry?, settled?, additionals?, view?}
@@ -42,7 +42,7 @@ entered : (rcode n : ℕ) (b : Bool) → eqb n 1 ≡ b → (r : Record) → T (r
 unfolding recordOf additional? small-options? opt-entry? settled?
 entered rcode n b c r h = go b c (opt? r) refl (ednsOf rcode r) refl
   where
-    plain : T (not (opt? r && eqb n 1 && not (absent? (ednsOf rcode r)))) → Entered rcode n r (ordinary r)
+    plain : T (not (opt? r && eqb n 1 && present? (ednsOf rcode r))) → Entered rcode n r (ordinary r)
     plain s = record { same = refl; valid = h; small = tt; counted = refl; settled = s }
 
     go : (b : Bool) → eqb n 1 ≡ b → (t : Bool) → opt? r ≡ t → (o : Option Edns) → ednsOf rcode r ≡ o → Entered rcode n r (entryOf rcode b r)

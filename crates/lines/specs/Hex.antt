@@ -13,7 +13,7 @@ use lib.Seq.{drop-cons}
 use Rattle.octets.specs.Bits.{and-left, and-right}
 use Rattle.octets.specs.Decimal.{digit?}
 use Rattle.octets.specs.Hexadecimal.{capital?, hexOf, hexDigit, hexOctet}
-use Rattle.octets.specs.Lists.{each}
+use Rattle.octets.specs.Lists.{each, present?}
 use Rattle.octets.specs.Lists as lists
 use Rattle.octets.specs.Overlay.{overlay, Wrote, then, nothing, overlay-first}
 use Rattle.octets.specs.Answer.{overwritten}
@@ -114,17 +114,13 @@ read-back (x ∷ l) h =
     rw (hexValue-back (x / 16) (omega arith), hexValue-back (x % 16) (omega arith), read-back l (h .1), e)
 
 -- ---- a line of digits
--- whether there are octets, and which
-abbrev pub some? : {A : Type 0} → Option A → Bool
-some? (some a) = true
-some? none = false
-
+-- its octets, or others where it has none
 abbrev pub octetsOr : List ℕ → Option (List ℕ) → List ℕ
 octetsOr l (some octets) = octets
 octetsOr l none = l
 
 unfoldable pub hex? : List ℕ → Bool
-hex? line = some? (unhexed line)
+hex? line = present? (unhexed line)
 
 -- two digits of a line
 drop-two : (s : List ℕ) (i : ℕ) → 2 ≤ length s - i → drop i s ≡ getD s i 0 ∷ getD s (i + 1) 0 ∷ drop (i + 2) s
@@ -133,7 +129,7 @@ drop-two s i h =
     rw (e, add-one, drop-cons s i 0 (omega arith)) (ap (λ l. getD s i 0 ∷ l) (drop-cons s (suc i) 0 (omega arith)))
 
 -- what is behind two digits
-rest-of : (o : Option (List ℕ)) (v w : ℕ) → some? (joined (some v) (some w) o) ≡ some? o
+rest-of : (o : Option (List ℕ)) (v w : ℕ) → present? (joined (some v) (some w) o) ≡ present? o
 rest-of (some l) v w = refl
 rest-of none v w = refl
 
@@ -191,23 +187,23 @@ unfolding overlay
 stored b at x = record { place = refl; text = refl }
 
 -- the octets of a line that is one, by its first two digits
-octets-step : (o : Option (List ℕ)) (v w : ℕ) → some? o ≡ true → octetsOr [] (joined (some v) (some w) o) ≡ (v * 16 + w) ∷ octetsOr [] o
+octets-step : (o : Option (List ℕ)) (v w : ℕ) → present? o ≡ true → octetsOr [] (joined (some v) (some w) o) ≡ (v * 16 + w) ∷ octetsOr [] o
 octets-step (some l) v w e = refl
 octets-step none v w e = absurd (false≢true e)
 
 -- each part of such a line is good
-goods : (l o : Option ℕ) (r : Option (List ℕ)) → some? (joined l o r) ≡ true → (some? l ≡ true) × (some? o ≡ true) × (some? r ≡ true)
+goods : (l o : Option ℕ) (r : Option (List ℕ)) → present? (joined l o r) ≡ true → (present? l ≡ true) × (present? o ≡ true) × (present? r ≡ true)
 goods (some v) (some w) (some l) e = (refl, refl, refl)
 goods (some v) (some w) none e = absurd (false≢true e)
 goods (some v) none r e = absurd (false≢true e)
 goods none o r e = absurd (false≢true e)
 
-digit-below : (o : Option ℕ) → Digit o → some? o ≡ true → valueOr16 o < 16
+digit-below : (o : Option ℕ) → Digit o → present? o ≡ true → valueOr16 o < 16
 digit-below (some v) (digit h) e = h
 digit-below none other e = absurd (false≢true e)
 
 module _ {s b₀ b : List ℕ} {to i : ℕ} (p : Rest s b₀ b to i) (h : 2 ≤ length s - i) where
-  two-good : (some? (hexValue (getD s i 0)) ≡ true) × (some? (hexValue (getD s (i + 1) 0)) ≡ true) × (some? (unhexed (drop (i + 2) s)) ≡ true)
+  two-good : (present? (hexValue (getD s i 0)) ≡ true) × (present? (hexValue (getD s (i + 1) 0)) ≡ true) × (present? (unhexed (drop (i + 2) s)) ≡ true)
   unfolding hex? unhexed
   two-good = goods (hexValue (getD s i 0)) (hexValue (getD s (i + 1) 0)) (unhexed (drop (i + 2) s)) (rw (drop-two s i h) at (p .good))
 
@@ -272,7 +268,7 @@ module _ {s b : List ℕ} where
   unfolding hex?
   unhexed-bad e = go (unhexed s) refl e
     where
-      go : (o : Option (List ℕ)) → unhexed s ≡ o → some? o ≡ false → Unhexed s b Bad b
+      go : (o : Option (List ℕ)) → unhexed s ≡ o → present? o ≡ false → Unhexed s b Bad b
       go (some l) q e = absurd (false≢true (sym e))
       go none q e = record { answers = rw q; leaves = rw q }
 
@@ -280,7 +276,7 @@ module _ {s b : List ℕ} where
   unfolding hex?
   unhexed-good {b′} {n} e h w = go (unhexed s) refl e w
     where
-      go : (o : Option (List ℕ)) → unhexed s ≡ o → some? o ≡ true → Wrote b 0 (octetsOr [] o) b′ n → Unhexed s b (Octets n) b′
+      go : (o : Option (List ℕ)) → unhexed s ≡ o → present? o ≡ true → Wrote b 0 (octetsOr [] o) b′ n → Unhexed s b (Octets n) b′
       go (some l) q e w =
           let k : n ≡ length l = omega (arith, w .place) in
           record { answers = rw q (ap (λ m. Octets m) k); leaves = rw q (w .text ∙ overlay-first b l (omega arith)) }

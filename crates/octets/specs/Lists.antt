@@ -31,6 +31,11 @@ abbrev pub none? : {A : Type 0} → List A → Bool
 none? [] = true
 none? (x ∷ l) = false
 
+-- there is one
+abbrev pub present? : {A : Type 0} → Option A → Bool
+present? none = false
+present? (some a) = true
+
 -- a test of every element
 abbrev pub all : {A : Type 0} → (A → Bool) → List A → Bool
 all p [] = true

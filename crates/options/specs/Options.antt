@@ -150,11 +150,6 @@ chosen code value (some v) = known code v
 unfoldable pub memberOf : EdnsOption → Member
 memberOf o = chosen (o .code) (o .value) (shape (formOf (o .code)) (o .value))
 
--- nothing is there
-abbrev pub absent? : {A : Type 0} → Option A → Bool
-absent? none = true
-absent? (some a) = false
-
 -- the text of a member
 unfoldable pub memberText : Member → List ℕ
 memberText (known code v) = ascii "\"" ++ textOf code members ++ ascii "\":" ++ valueText (formOf code) v

@@ -5,9 +5,9 @@ use mathlib.Core.List.{List, [], _∷_, _++_}
 use Prim.Native.Nat.{ℕ}
 use lib.Dec.{leb, eqb}
 use lib.ListN.{length, replicate}
-use Rattle.octets.specs.Lists.{all, none?, octet?, word?, long?, each}
+use Rattle.octets.specs.Lists.{all, none?, octet?, word?, long?, each, present?}
 use Rattle.octets.specs.Fields.{two, four}
-use Rattle.options.specs.Options.{Form, hexObject, octetList, expiry, hexList, word, padding, wordList, extendedError, unlisted, Value, formOf, zero?, shape, absent?, EdnsOption, Member, known, other}
+use Rattle.options.specs.Options.{Form, hexObject, octetList, expiry, hexList, word, padding, wordList, extendedError, unlisted, Value, formOf, zero?, shape, EdnsOption, Member, known, other}
 
 -- the octets that a value stands for
 abbrev pub optional : Option (List ℕ) → List ℕ
@@ -72,4 +72,4 @@ optionOf (other code hex) = record { code = code; value = hex }
 -- a member that stands for an option: `OPTn` only where the value doesn't have the shape of a row of that code
 unfoldable pub member? : Member → Bool
 member? (known code v) = value? (formOf code) v
-member? (other code hex) = word? code && absent? (shape (formOf code) hex)
+member? (other code hex) = word? code && not (present? (shape (formOf code) hex))

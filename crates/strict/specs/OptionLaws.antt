@@ -10,12 +10,12 @@ use borrow.Author.Tests.{le-leb, eq-eqb, ne-eqb, eqb-true}
 use lib.Dec.{T, leb, eqb, leb→le, ltb→lt, lt→ltb, eqb→eq, eqb-refl}
 use lib.ListN.{length, take, drop, replicate, length-append, length-drop, length-replicate, take-append-drop}
 use lib.Seq.{length-take-le, take-at, drop-at}
-use Rattle.octets.specs.Lists.{all, All, octet?, Octets, word?, lookup, key?, each}
+use Rattle.octets.specs.Lists.{all, All, octet?, Octets, word?, lookup, key?, each, present?}
 use Rattle.octets.specs.Bits.{is-true, is-false, both, and-left, and-right, all→All, All→all, All-map, All-append, octets-in, octets-test}
 use Rattle.octets.specs.Fields.{two, four, twoAt, fourAt, two-back, four-at, two-octets, four-octets, twoAt-word, fourAt-long, two-same}
 use Rattle.names.specs.NameLaws.{drop-octets, take-octets}
 use Rattle.spelling.specs.Spelling.{printable?}
-use Rattle.options.specs.Options.{Form, hexObject, octetList, expiry, hexList, word, padding, wordList, extendedError, unlisted, Value, Row, rows, members, row-form, formOf, zero?, words, present, shape, EdnsOption, Member, known, other, chosen, memberOf, absent?}
+use Rattle.options.specs.Options.{Form, hexObject, octetList, expiry, hexList, word, padding, wordList, extendedError, unlisted, Value, Row, rows, members, row-form, formOf, zero?, words, present, shape, EdnsOption, Member, known, other, chosen, memberOf}
 use Rattle.strict.specs.Members.{octetsOf, value?, optionOf, member?}
 use Rattle.strict.specs.Grammar.{Number, StringIn, Maybe, ValueIn, MemberIn}
 use Rattle.edns.specs.Edns.{option?}
@@ -317,13 +317,13 @@ member-option o i h = go (shape (formOf (o .code)) (o .value)) refl
 
     go : (x : Option (Value (formOf (o .code)))) → shape (formOf (o .code)) (o .value) ≡ x
         → (optionOf (chosen-of x) ≡ o) × T (member? (chosen-of x)) × MemberIn (chosen-of x)
-    go none e = (refl, both (word? (o .code)) (absent? (shape (formOf (o .code)) (o .value))) (lt→ltb (o .code) 65536 h) (rw e tt), (tt, i))
+    go none e = (refl, both (word? (o .code)) (not (present? (shape (formOf (o .code)) (o .value)))) (lt→ltb (o .code) 65536 h) (rw e tt), (tt, i))
     go (some v) e =
         let s = shape-value (formOf (o .code)) (o .value) v i e in
         (λ i. record { code = o .code; value = s .2 i }, s .0, (listed-key (o .code) (shape-listed (formOf (o .code)) (o .value) v e), s .1))
 
 -- an answer that is absent
-absent-none : {A : Type 0} (x : Option A) → T (absent? x) → x ≡ none
+absent-none : {A : Type 0} (x : Option A) → T (not (present? x)) → x ≡ none
 absent-none none h = refl
 absent-none (some a) h = absurd h
 
@@ -336,6 +336,6 @@ option-member (known code v) i h =
       both (word? code) (all octet? (octetsOf (formOf code) v)) (lt→ltb code 65536 (key-word code (i .0))) (octets-test (octetsOf (formOf code) v) (w .1)),
     )
 option-member (other code hex) i h = (
-  ap (chosen code hex) (absent-none (shape (formOf code) hex) (and-right (word? code) (absent? (shape (formOf code) hex)) h)),
-  both (word? code) (all octet? hex) (and-left (word? code) (absent? (shape (formOf code) hex)) h) (octets-test hex (i .1)),
+  ap (chosen code hex) (absent-none (shape (formOf code) hex) (and-right (word? code) (not (present? (shape (formOf code) hex))) h)),
+  both (word? code) (all octet? hex) (and-left (word? code) (not (present? (shape (formOf code) hex))) h) (octets-test hex (i .1)),
 )
