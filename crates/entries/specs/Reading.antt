@@ -1,21 +1,20 @@
 -- How questions, records and elements are read, judged and written. Assumes nothing.
 use mathlib.Core.Path.{_≡_, refl, sym, _∙_, ap, subst}
-use mathlib.Core.Bool.{Bool, true, false, not, cond, _&&_}
+use mathlib.Core.Bool.{Bool, true, false, not, cond, _&&_, and-true, and-assoc}
 use mathlib.Core.Option.{Option, none, some}
 use mathlib.Core.List.{List, [], _∷_, _++_, append-assoc}
 use Prim.Native.Nat.{ℕ, _+_, _-_, _/_, _%_, _≤_, _<_}
 use native.Mathlib.Omega.{arith}
-use borrow.Author.Tests.{lt-ltb, le-ltb, le-leb, eq-eqb, ne-eqb, eqb-false}
+use borrow.Author.Tests.{lt-ltb, le-ltb, eq-eqb, ne-eqb, eqb-false}
 use lib.Dec.{T, ltb, eqb, ltb→lt, lt→ltb, nltb→le, eqb→eq}
 use lib.ListN.{length, take, drop}
 use Rattle.octets.specs.Lists.{ascii, all, none?, Octets, octet?, word?, long?, paired, lookup}
 use Rattle.octets.specs.Bits.{is-true, and-left, and-right, octets-test}
 use Rattle.octets.specs.Fields.{two, four}
-use Rattle.octets.specs.Parsed.{Parsed, took, stuck, and-then, strip, took≢stuck}
-use Rattle.octets.specs.Codec.{Codec, exact, _▷_, _⊗_, _◁_}
+use Rattle.octets.specs.Parsed.{Parsed, took, stuck, and-then, strip}
+use Rattle.octets.specs.Codec.{_▷_, _⊗_, _◁_}
 use Rattle.octets.specs.Decimal.{natural, number, till}
 use Rattle.octets.specs.Hexadecimal.{hex}
-use Rattle.octets.specs.Overlay.{Wrote, nothing}
 use Rattle.names.specs.Name.{Name, name?, nameForm}
 use Rattle.records.specs.Layout.{layouts, layoutOf, rdataAt, fits?}
 use Rattle.records.specs.Message.{record?, question?, questionForm, recordForm, opt?}
@@ -33,29 +32,16 @@ use Rattle.tokens.specs.declared.Cursor.{Cursor}
 use Rattle.tokens.specs.declared.Amount.{Amount}
 use Rattle.tokens.specs.declared.Span.{Span}
 use Rattle.tokens.specs.declared.Ttl.{Ttl}
-use Rattle.tokens.specs.Cursor.{left-of, Keeps, Passed, Reads, stopped, taken}
-use Rattle.tokens.specs.Step.{Found, found-as, found-lit, found-map, found-behind, found-pair, found-at, Put, put-then, put-from, put-to, put-as, put-emit, Step, step-lit, step-pair, step-behind, step-on, Judged, Emits, emits, emits-over, Over}
-use Rattle.digits.specs.Digits.{Hexes, hexes, paired-hexes, paired-half}
+use Rattle.tokens.specs.Cursor.{Passed}
+use Rattle.tokens.specs.Step.{Found, found-as, found-sound, found-lit, found-map, found-behind, found-pair, found-at, Put, put-then, put-from, put-to, put-as, put-nothing, put-judged, put-emit, Step, step-lit, step-pair, step-behind, step-on, Judged, Emits}
 use Rattle.tokens.specs.Number.{capped, NumberRead}
 use Rattle.tokens.specs.Signed.{Kept, SignedRead}
 use Rattle.tokens.specs.Hex.{HexRun, HexRead}
 use Rattle.tokens.specs.Fields.{Done}
 use Rattle.labels.specs.Name.{NameRead}
+use Rattle.members.specs.Values.{sizeOf, run-octets}
 use Rattle.entries.specs.Meant.{recordMeant?, recordOctets, hides?}
 use Rattle.entries.specs.declared.Entry.{Entry}
-
--- ---- values in the grammar
--- what a codec's parser finds is in its range
-pub found-sound : {A : Type 0} {I : A → Type 0} {f : A → List ℕ} {F : List ℕ → Type 0} (p : Codec I f F) {P : A → Type 0} {t : List ℕ} {c r : Cursor} → Found (p .parse) P t c r → Found (p .parse) (λ a. I a × P a) t c r
-found-sound {A} {I} {f} p {P} {t} {c} {r} x = record { reads = go (c .spelled) (x .reads); moves = x .moves }
-  where
-    one : {o : Parsed A} → ((a : A) (w : List ℕ) → o ≡ took a w → I a) → Reads t P r o → Reads t (λ a. I a × P a) r o
-    one h (stopped g) = stopped g
-    one h (taken {a} g v) = taken g (h a _ refl, v)
-
-    go : (b : Bool) → Reads t P r (and-then (left-of b (drop (c .at) t)) (λ u w. p .parse w)) → Reads t (λ a. I a × P a) r (and-then (left-of b (drop (c .at) t)) (λ u w. p .parse w))
-    go true y = one (λ a w e. exact p (drop (c .at) t) a w e .0) y
-    go false y = one (λ a w e. absurd (took≢stuck (sym e))) y
 
 -- ---- a number of two octets
 abbrev pub WordRead : List ℕ → Cursor → List ℕ → Amount → List ℕ → Type 0
@@ -65,10 +51,6 @@ pub word-read : {t : List ℕ} {c d : Cursor} {n : Amount} {b b′ : List ℕ} �
 word-read x w = found-at (x .found) (w .at) (w .spelled) (w .room) λ m e. (put-from (x .keeps) (w .put m e), e)
 
 -- ---- questions
-and-assoc : (a b c : Bool) → (a && b) && c ≡ a && (b && c)
-and-assoc true b c = refl
-and-assoc false b c = refl
-
 pub question-read : {t b b₁ b₂ b₃ : List ℕ} {c d e f g r : Cursor} {k l : Amount}
     → Passed (ascii "{\"NAME\":\"") t c d → NameRead t d b e b₁ → Passed (ascii ",\"TYPE\":") t e f → WordRead t f b₁ k b₂ → Passed (ascii ",\"CLASS\":") t (k .cursor) g
     → WordRead t g b₂ l b₃ → Passed (ascii "}") t (l .cursor) r → Step question? questionForm (question .parse) t c b r b₃
@@ -89,12 +71,6 @@ pub record RdataRead (kind : ℕ) (t : List ℕ) (c : Cursor) (b : List ℕ) (r 
   pub so-far : List ℕ
   pub run : HexRun t r so-far
   pub still : T (r .cursor .meant) → T (c .meant)
-
--- the span holds digits, two an octet
-pub record Spans (t : List ℕ) (s : Span) : Type 0 where
-  pub digits : Hexes (take (s .end - s .from) (drop (s .from) t))
-  pub ordered : s .from ≤ s .end
-  pub within : s .end ≤ length t
 
 pub kind-over : {v : ℕ} → 65535 < v → 0 ≡ kindOf v
 kind-over {v} h = rw (lt-ltb 65535 v h)
@@ -122,55 +98,25 @@ kind-fits n l = go (ltb 65535 (capped n)) refl
     go true e = fits-same 0 n l (zero-unlisted ∙ sym (unlisted n (omega (arith, ltb→lt 65535 (capped n) (subst T (sym e) tt)))))
     go false e = let k : capped n ≡ n = omega (arith, nltb→le 65535 (capped n) (subst (λ b. T (not b)) (sym e) tt)) in ap (λ m. fits? m l) k
 
--- octets that stand in hexadecimal
-pub emits-hex-over : {h : List ℕ} {c r : Cursor} {b : List ℕ} → c .to ≤ 65535 → Hexes h → 65535 < c .to + length h / 2 → Over c r → Emits (paired h) c b r b
-emits-hex-over {h} {c} k x m o = emits-over k (omega (arith, paired-half h)) o
-
-pub emits-hex : (h : List ℕ) {c r : Cursor} {b b′ : List ℕ} {n m : ℕ} → n ≡ c .to + length h / 2 → n ≤ 65535 → r .at ≡ c .at → r .spelled ≡ c .spelled → r .meant ≡ c .meant → r .small ≡ c .small → r .to ≡ n
-    → Wrote b (c .to) (paired h) b′ m → Emits (paired h) c b r b′
-emits-hex h e k a s m l t w = emits (omega (arith, e, paired-half h)) k a s m l t w
-
--- what was judged where nothing was written
-judged-put : {A : Type 0} {ok : A → Bool} {t : List ℕ} {c d e : Cursor} {f : Bool} (b : List ℕ) (a : A) → Keeps t c d → Judged f d e → f ≡ ok a → Put ok (λ a. []) c b e b a
-judged-put {ok = ok} {c = c} {e = e} b a k j g = record {
-  meant = j .meant ∙ rw (k .meant, g);
-  small = λ m. j .small ∙ k .small ∙ rw (le-leb (c .to + 0) 65535 (omega (arith, k .safe .room, k .to))) (sym (and-true (c .small)));
-  wrote = λ m n. rw (j .to, k .to) (nothing b (c .to));
-}
-  where
-    and-true : (x : Bool) → x && true ≡ x
-    and-true true = refl
-    and-true false = refl
-
--- the slice of the text is the digits of the octets
-pub run-hexes : {t l : List ℕ} {r : Span} → HexRun t r l → Hexes (take (r .end - r .from) (drop (r .from) t))
-run-hexes {l = l} h = rw (h .digits) (hexes l (h .octets))
-
-pub run-spans : {t l : List ℕ} {r : Span} → HexRun t r l → Spans t r
-run-spans h = record { digits = run-hexes h; ordered = h .ordered; within = h .within }
-
-run-paired : {t l : List ℕ} {r : Span} → HexRun t r l → paired (take (r .end - r .from) (drop (r .from) t)) ≡ l
-run-paired {l = l} h = rw (h .digits) (paired-hexes l (h .octets))
-
 -- the same digits, with the cursor elsewhere
 run-at : {t l : List ℕ} {s : Span} (r : Cursor) → HexRun t s l → HexRun t (record { cursor = r; from = s .from; end = s .end }) l
 run-at r h = record { digits = h .digits; octets = h .octets; ordered = h .ordered; within = h .within; long = h .long }
 
 pub rdata-read : {kind f n : ℕ} {t b b₁ b₂ h : List ℕ} {c d e r : Cursor} {s : Span} {ok : Bool} → HexRead t c s → h ≡ take (s .end - s .from) (drop (s .from) t) → f ≡ kindOf kind → ok ≡ fits? f (paired h)
-    → Judged ok (s .cursor) d → n ≡ (s .end - s .from) / 2 → Emits ((n / 256 % 256) ∷ (n % 256) ∷ []) d b e b₁ → Emits (paired h) e b₁ r b₂
+    → Judged ok (s .cursor) d → n ≡ sizeOf s → Emits ((n / 256 % 256) ∷ (n % 256) ∷ []) d b e b₁ → Done (HexRun t s) (λ l. true) (λ l. l) e b₁ r b₂
     → RdataRead kind t c b (record { cursor = r; from = s .from; end = s .end }) b₂
 rdata-read {kind} {f} {n} {t} {b} {b₁} {b₂} {h} {c} {d} {e} {r} {s} {ok} x g k o j i y z = record {
   found = found-at (x .found) (z .at ∙ y .at ∙ j .at) (z .spelled ∙ y .spelled ∙ j .spelled) (z .room) told;
   so-far = x .so-far;
   run = run-at r (x .run);
-  still = λ m. subst T (x .keeps .meant) (and-left (s .cursor .meant) ok (subst T (z .meant ∙ y .meant ∙ j .meant) m));
+  still = λ m. subst T (x .keeps .meant) (and-left (s .cursor .meant) ok (subst T (y .meant ∙ j .meant) (and-left (e .meant) true (subst T (z .put (x .so-far) (x .run) .meant) m))));
 }
   where
     told : (l : List ℕ) → HexRun t s l → ((m : ℕ) → kind ≡ capped m → Put (fits? m) (λ l. two (length l) ++ l) c b r b₂ l) × HexRun t (record { cursor = r; from = s .from; end = s .end }) l
     told l v = (put, run-at r v)
       where
         octets : paired h ≡ l
-        octets = ap paired g ∙ run-paired v
+        octets = ap paired g ∙ run-octets v
 
         size : n ≡ length l
         size = omega (arith, i, v .long)
@@ -178,11 +124,8 @@ rdata-read {kind} {f} {n} {t} {b} {b₁} {b₂} {h} {c} {d} {e} {r} {s} {ok} x g
         judged : (m : ℕ) → kind ≡ capped m → ok ≡ fits? m l
         judged m q = o ∙ rw (k, octets, q) (kind-fits m l)
 
-        wire : two (length l) ++ l ≡ [] ++ (n / 256 % 256) ∷ (n % 256) ∷ [] ++ paired h
-        wire = rw (octets, ← size)
-
         put : (m : ℕ) → kind ≡ capped m → Put (fits? m) (λ l. two (length l) ++ l) c b r b₂ l
-        put m q = put-as {ok = fits? m} {wire = λ a. [] ++ (n / 256 % 256) ∷ (n % 256) ∷ [] ++ paired h} {a = l} refl wire (put-emit (put-emit (judged-put b l (x .keeps) j (judged m q)) y) z)
+        put m q = put-as (sym (and-true (fits? m l))) (rw (← size)) (put-then (put-emit {wire = λ l. []} (put-judged {wire = λ l. []} {ok = λ l. true} {ok′ = fits? m} (put-nothing b {a = l} (x .keeps) refl refl) j (sym (judged m q))) y) (z .put l v))
 
 -- ---- records
 abbrev pub tailParse : List ℕ → Parsed (Signed × List ℕ)
@@ -229,7 +172,7 @@ tail-read {kind} {rcode} {root} {h} {t} {b} {b₁} {b₂} {c} {d} {e} {r} {v} {s
       octets = k .1 .1 .octets;
       opt = refl;
       shown = refl;
-      hidden = λ m. g .shows ∙ rw (run-paired (k .1 .1), k .0 .1 .1 .1 (in-range m));
+      hidden = λ m. g .shows ∙ rw (run-octets (k .1 .1), k .0 .1 .1 .1 (in-range m));
     }
       where
         all : (n : ℕ) → kind ≡ capped n → Put (λ u. ttl? (u .0) && fits? n (u .1)) (λ u. four (unsigned (u .0)) ++ (two (length (u .1)) ++ u .1)) c b r b₂ u

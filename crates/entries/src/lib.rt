@@ -1,37 +1,36 @@
 // Questions, records and elements of a text, and the arrays of them. What is judged and written of each is defined in specs/.
 ghost use mathlib.Core.Path.{_≡_};
-ghost use mathlib.Core.Bool.{_||_};
 ghost use Prim.Native.Nat.{_+_, _≤_, _<_};
 ghost use Rattle.tokens.specs.Cursor.{Safe};
-ghost use Rattle.tokens.specs.Step.{Step, Emits};
-ghost use Rattle.digits.specs.Digits.{Hexes};
-ghost use Rattle.octets.specs.Lists.{paired};
-ghost use Rattle.octets.specs.Fields.{two};
+ghost use Rattle.tokens.specs.Step.{Step};
+ghost use Rattle.members.specs.Values.{Digits};
 ghost use Rattle.records.specs.Message.{question?, questionForm};
 ghost use Rattle.strict.specs.Parser.{question};
-ghost use Rattle.entries.specs.Reading.{WordRead, kindOf, RdataRead, Spans, Shows, TailRead, RecordRead};
-ghost use lib.ListN.{getD};
-ghost use Rattle.entries.specs.Items.{Further, ItemRead};
-ghost use Rattle.entries.specs.Sections.{AskedRead, TitledRead, OneRead, NextRead, OthersRead, Ends, InsideRead, SectionRead, limited, bit};
+ghost use Rattle.entries.specs.Reading.{WordRead, kindOf, RdataRead, Shows, TailRead, RecordRead};
+ghost use Rattle.entries.specs.Items.{ItemRead};
+ghost use Rattle.entries.specs.Sections.{AskedRead, TitledRead, OneRead, NextRead, InsideRead, SectionRead, limited, bit};
 use digits::fits_layout;
 use digits::is_edns;
-use digits::put_octets;
 use labels::name;
+use members::comma;
 use members::edns;
+use members::put_hex;
+use members::size_of;
 use tokens::Amount;
 use tokens::Cursor;
 use tokens::Span;
 use tokens::came;
+use tokens::either;
 use tokens::emit;
+use tokens::further;
 use tokens::hex;
 use tokens::judge;
 use tokens::literal;
 use tokens::number;
-use tokens::over;
+use tokens::octet_at;
 use tokens::put_ttl;
 use tokens::put_word;
 use tokens::signed;
-use tokens::stop;
 
 // What was read of an entry: whether it is of TYPE 41, whether it is an EDNS element, whether it is an ordinary record that could be one.
 pub struct Entry {
@@ -67,27 +66,6 @@ fn question(text: &[u8], c: Cursor, out: &mut [u8]) -> Cursor
     literal(text, class.cursor, b"}")
 }
 
-// Writes octets that stand in hexadecimal, unless they go past the message's limit.
-fn emit_hex(c: Cursor, hex: &[u8], out: &mut [u8]) -> Cursor
-    requires { ⌜ (c .to ≤ 65535) × Hexes (now hex) ⌝ }
-    ensures { λ r. ⌜ Emits (paired (now (hex .entry))) c (now (out .entry)) r (now (out .exit)) ⌝ }
-{
-    let to = c.to;
-    let end = to + hex.len() / 2;
-    if end > 65535 {
-        return over(c);
-    }
-    let small = c.small;
-    let _end = put_octets(out, to, hex);
-    Cursor {
-        at: c.at,
-        to: end,
-        spelled: c.spelled,
-        meant: c.meant,
-        small: small,
-    }
-}
-
 // A TYPE as it is judged; one that is out of range has no layout.
 fn kind_of(value: u64) -> u32
     ensures { λ r. ⌜ r ≡ kindOf value ⌝ }
@@ -106,12 +84,11 @@ fn rdata(text: &[u8], c: Cursor, kind: u64, out: &mut [u8]) -> Span
     let span = hex(text, c);
     let from = span.from;
     let end = span.end;
-    let size = (end - from) / 2;
+    let size = size_of(span);
     let d = judge(span.cursor, fits_layout(kind_of(kind), &text[from..end]));
     let e = emit(d, &[(size / 256 % 256) as u8, (size % 256) as u8], out);
-    let f = emit_hex(e, &text[from..end], out);
     Span {
-        cursor: f,
+        cursor: put_hex(text, span, e, out),
         from: from,
         end: end,
     }
@@ -119,7 +96,7 @@ fn rdata(text: &[u8], c: Cursor, kind: u64, out: &mut [u8]) -> Span
 
 // Whether a record with these fields and the RDATA of this span could be an EDNS element.
 fn shows_edns(text: &[u8], span: Span, kind: u64, root: bool, bits: u32, rcode: u32) -> bool
-    requires { ⌜ Spans (now text) span × (rcode < 16) ⌝ }
+    requires { ⌜ Digits (now text) span × (rcode < 16) ⌝ }
     ensures { λ r. ⌜ Shows kind root bits rcode (now (text .entry)) span r ⌝ }
 {
     if kind != 41 {
@@ -139,9 +116,8 @@ fn tail(text: &[u8], c: Cursor, kind: u64, root: bool, rcode: u32, out: &mut [u8
     let written = put_ttl(ttl.cursor, ttl.bits, ttl.fits, out);
     let title = literal(text, written, b",\"RDATAHEX\":\"");
     let span = rdata(text, title, kind, out);
-    let end = literal(text, span.cursor, b"}");
     Entry {
-        cursor: end,
+        cursor: literal(text, span.cursor, b"}"),
         opt: kind == 41,
         shown: false,
         hidden: shows_edns(text, span, kind, root, ttl.bits, rcode),
@@ -164,20 +140,6 @@ fn record(text: &[u8], c: Cursor, rcode: u32, out: &mut [u8]) -> Entry
     tail(text, title, kind.value, end - start == 2, rcode, out)
 }
 
-// A reader that stopped stops at the further of its place and another.
-fn further(c: Cursor, at: usize) -> Cursor
-    ensures { λ r. ⌜ Further at c r ⌝ }
-{
-    let spelled = c.spelled;
-    if spelled {
-        return c;
-    }
-    if c.at < at {
-        return stop(c, at);
-    }
-    c
-}
-
 // An element of the additional section.
 fn item(text: &[u8], c: Cursor, rcode: u32, out: &mut [u8]) -> Entry
     requires { ⌜ Safe (now text) c × (rcode < 16) ⌝ }
@@ -185,8 +147,7 @@ fn item(text: &[u8], c: Cursor, rcode: u32, out: &mut [u8]) -> Entry
 {
     let ordinary = literal(text, c, b"{\"NAME\":\"");
     let element = literal(text, c, b"{\"EDNS\":{\"Version\":");
-    let shown = element.spelled;
-    if shown {
+    if element.spelled {
         let end = edns(text, element, rcode, out);
         return Entry {
             cursor: further(end, ordinary.at),
@@ -225,9 +186,8 @@ fn asked(text: &[u8], c: Cursor, out: &mut [u8]) -> Entry
     requires { ⌜ Safe (now text) c ⌝ }
     ensures { λ r. ⌜ AskedRead (now (text .entry)) c (now (out .entry)) r (now (out .exit)) ⌝ }
 {
-    let end = question(text, c, out);
     Entry {
-        cursor: end,
+        cursor: question(text, c, out),
         opt: false,
         shown: false,
         hidden: false,
@@ -255,16 +215,6 @@ fn one(text: &[u8], c: Cursor, element: Element, rcode: u32, out: &mut [u8]) -> 
     }
 }
 
-// The octet at a place; past the end, 0.
-fn octet_at(text: &[u8], at: usize) -> u8
-    ensures { λ r. ⌜ r ≡ getD (now (text .entry)) at 0 ⌝ }
-{
-    if at < text.len() {
-        return text[at];
-    }
-    0
-}
-
 // One more, or not.
 fn tally(n: u64, more: bool) -> u64
     requires { ⌜ n ≤ 65536 ⌝ }
@@ -279,36 +229,26 @@ fn tally(n: u64, more: bool) -> u64
     n + 1
 }
 
-// A comma and an entry.
-fn next(text: &[u8], c: Cursor, element: Element, rcode: u32, out: &mut [u8]) -> Entry
+// An entry, and the comma before it; the first has none.
+fn next(text: &[u8], c: Cursor, first: bool, element: Element, rcode: u32, out: &mut [u8]) -> Entry
     requires { ⌜ Safe (now text) c × (rcode < 16) ⌝ }
-    ensures { λ r. ⌜ NextRead element rcode (now (text .entry)) c (now (out .entry)) r (now (out .exit)) ⌝ }
+    ensures { λ r. ⌜ NextRead element first rcode (now (text .entry)) c (now (out .entry)) r (now (out .exit)) ⌝ }
 {
-    let behind = literal(text, c, b",");
-    one(text, behind, element, rcode, out)
+    one(text, comma(text, c, first), element, rcode, out)
 }
 
-// Entries behind the first, a comma before each, and the bracket behind the last; of the first it is known whether it is of TYPE 41, shown or hidden.
-fn others(
-    text: &[u8],
-    c: Cursor,
-    opt: u64,
-    seen: bool,
-    unseen: bool,
-    element: Element,
-    rcode: u32,
-    out: &mut [u8],
-) -> Section
-    requires { ⌜ Safe (now text) c × (rcode < 16) × (opt ≤ 65536) ⌝ }
-    ensures { λ r. ⌜ OthersRead element rcode opt seen unseen (now (text .entry)) c (now (out .entry)) r (now (out .exit)) ⌝ }
+// The entries of an array, and the bracket behind them.
+fn inside(text: &[u8], c: Cursor, element: Element, rcode: u32, out: &mut [u8]) -> Section
+    requires { ⌜ Safe (now text) c × (rcode < 16) ⌝ }
+    ensures { λ r. ⌜ InsideRead element rcode (now (text .entry)) c (now (out .entry)) r (now (out .exit)) ⌝ }
 {
     let mut d = c;
-    let mut count = 1;
-    let mut opts = opt;
-    let mut shown = seen;
-    let mut hidden = unseen;
-    let spelled = d.spelled;
-    if !spelled {
+    let mut first = true;
+    let mut count = 0;
+    let mut opts = 0;
+    let mut shown = false;
+    let mut hidden = false;
+    if !d.spelled {
         return Section {
             cursor: d,
             count: count,
@@ -328,14 +268,13 @@ fn others(
                 hidden: hidden,
             };
         }
-        let entry = next(text, d, element, rcode, out);
+        let entry = next(text, d, first, element, rcode, out);
         d = entry.cursor;
         count = tally(count, true);
         opts = tally(opts, entry.opt);
         shown = either(shown, entry.shown);
         hidden = either(hidden, entry.hidden);
-        let more = d.spelled;
-        if !more {
+        if !d.spelled {
             return Section {
                 cursor: d,
                 count: count,
@@ -344,52 +283,8 @@ fn others(
                 hidden: hidden,
             };
         }
+        first = false;
     }
-}
-
-fn either(a: bool, b: bool) -> bool
-    ensures { λ r. ⌜ r ≡ (a || b) ⌝ }
-{
-    a || b
-}
-
-// Whether the bracket that ends an array stands where the reader is.
-fn ends(text: &[u8], c: Cursor) -> bool
-    ensures { λ r. ⌜ Ends (now (text .entry)) c r ⌝ }
-{
-    let spelled = c.spelled;
-    if !spelled {
-        return false;
-    }
-    octet_at(text, c.at) == b']'
-}
-
-// The entries of an array, and the bracket behind them.
-fn inside(text: &[u8], c: Cursor, element: Element, rcode: u32, out: &mut [u8]) -> Section
-    requires { ⌜ Safe (now text) c × (rcode < 16) ⌝ }
-    ensures { λ r. ⌜ InsideRead element rcode (now (text .entry)) c (now (out .entry)) r (now (out .exit)) ⌝ }
-{
-    if ends(text, c) {
-        return Section {
-            cursor: came(c, c.at + 1),
-            count: 0,
-            opts: 0,
-            shown: false,
-            hidden: false,
-        };
-    }
-    let first = one(text, c, element, rcode, out);
-    let opts = tally(0, first.opt);
-    others(
-        text,
-        first.cursor,
-        opts,
-        first.shown,
-        first.hidden,
-        element,
-        rcode,
-        out,
-    )
 }
 
 // An array of entries.

@@ -10,14 +10,15 @@ use lib.ListN.{length, drop, length-append}
 use Rattle.octets.specs.Parsed.{Parsed, took, stuck, and-then, strip}
 use Rattle.octets.specs.Codec.{Avoids, Codec, several}
 use Rattle.octets.specs.Overlay.{Wrote, then, nothing, before, same-long}
+use Rattle.names.specs.Ways.{labelForm}
 use Rattle.spelling.specs.Spelling.{plain?, spelled}
 use Rattle.strict.specs.Spelt.{spelledAt, spelledOctet, spelled-avoids, label}
 use Rattle.tokens.specs.Cursor.{Got}
 use Rattle.tokens.specs.Many.{run-of, many-once, Going, going-start, going-end, going-more, going-stop}
+use Rattle.tokens.specs.Place.{Byte, inside, one-byte, from-byte, no-strip}
 use Rattle.labels.specs.declared.Letter.{Letter}
 use Rattle.labels.specs.declared.Part.{Part}
-use Rattle.labels.specs.Place.{Byte, inside, one-byte, from-byte, no-strip, Tells, tells-missing, tells-there, tells-bad, tells-got}
-use Rattle.labels.specs.Octet.{LetterAt}
+use Rattle.labels.specs.Octet.{Tells, tells-missing, tells-there, tells-bad, tells-got, LetterAt}
 
 -- ---- one at least, where the octet that ends them does not stand at the front: any number
 module _ {A : Type 0} {I : A → Type 0} {f : A → List ℕ} {F : List ℕ → Type 0} (p : Codec I f F) (stop : ℕ) (avoids : Avoids I f stop) (empty : p .parse [] ≡ stuck [])
@@ -59,10 +60,6 @@ label-quote e d = rw (from-byte e (inside e (omega arith)), d)
 pub label-empty : label .parse [] ≡ stuck []
 unfolding label spelledOctet spelledAt
 label-empty = refl
-
--- a label in a message: its length and its octets
-abbrev pub labelForm : List ℕ → List ℕ
-labelForm l = length l ∷ l
 
 -- a label of this size, written from `to` on, unless it is too long
 pub record Lettered (b : List ℕ) (to n : ℕ) (b′ : List ℕ) (l : List ℕ) : Type 0 where

@@ -1,7 +1,7 @@
 -- A name of a text, and its octets in a message. Assumes nothing.
 use mathlib.Core.Path.{_≡_, refl, sym, _∙_, ap, subst}
 use mathlib.Core.Logic.{⊎-elim}
-use mathlib.Core.Bool.{Bool, true, false, not, cond, _&&_}
+use mathlib.Core.Bool.{Bool, true, false, not, cond, _&&_, and-true}
 use mathlib.Core.List.{List, [], _∷_, _++_, append-assoc}
 use Prim.Native.Nat.{ℕ, _+_, _≤_, _<_}
 use native.Mathlib.Omega.{arith}
@@ -12,37 +12,34 @@ use Rattle.octets.specs.Lists.{none?, all, All, each, ended}
 use Rattle.octets.specs.Bits.{is-true, both, and-left, and-right, all→All, All→all, All-append, All-left, All-right, octets-test}
 use Rattle.octets.specs.Parsed.{took, stuck, strip, strip-sound, held}
 use Rattle.octets.specs.Codec.{Avoids, Any, OneOrMore, Codec, exact, several}
-use Rattle.octets.specs.Overlay.{Wrote, then, nothing, same-long, each-append, each-single}
+use Rattle.octets.specs.Overlay.{Wrote, then, nothing, same-long}
 use Rattle.names.specs.Name.{Name, nameForm, label?, name?}
+use Rattle.names.specs.NameLaws.{label-short}
+use Rattle.names.specs.Ways.{labelForm}
 use Rattle.spelling.specs.Spelling.{plain?, labelText}
 use Rattle.strict.specs.Grammar.{Label}
 use Rattle.strict.specs.Spelt.{label, label-avoids, name}
 use Rattle.tokens.specs.declared.Cursor.{Cursor}
 use Rattle.tokens.specs.Cursor.{left-of, Safe, Passed, Came, Stopped, reads-stop, reads-took, Got}
-use Rattle.tokens.specs.Step.{Found, found-stuck, further, Put, put-from, Emits, Judged}
+use Rattle.tokens.specs.Step.{Found, found-stuck, Put, put-from, each-last, none-last, Held, Emits, Judged}
+use Rattle.tokens.specs.Choice.{further}
 use Rattle.tokens.specs.Many.{le-or-lt, run-of, Going, going-start, going-end, going-more, going-stop}
+use Rattle.tokens.specs.Place.{Byte, inside, one-byte, no-strip}
 use Rattle.labels.specs.declared.Part.{Part}
-use Rattle.labels.specs.Place.{Byte, inside, one-byte, no-strip, Tells, tells-missing, tells-there, tells-bad, tells-got}
-use Rattle.labels.specs.Label.{several-run, label-dot, label-quote, label-empty, labelForm, Lettered, LabelAt}
+use Rattle.labels.specs.Octet.{Tells, tells-missing, tells-there, tells-bad, tells-got}
+use Rattle.labels.specs.Label.{several-run, label-dot, label-quote, label-empty, Lettered, LabelAt}
 
 -- ---- the octets of labels
-and-true : (b : Bool) → b && true ≡ b
-and-true true = refl
-and-true false = refl
-
 name-form : (n : Name) → nameForm n ≡ each labelForm n ++ (0 ∷ [])
 unfolding nameForm each
 name-form [] = refl
-name-form (l ∷ n) = rw (name-form n) (ap (λ z. length l ∷ z) (sym (append-assoc l (each labelForm n) (0 ∷ []))))
-
-each-last : (n : Name) (l : List ℕ) → each labelForm (n ++ (l ∷ [])) ≡ each labelForm n ++ labelForm l
-each-last n l = each-append labelForm n (l ∷ []) ∙ rw (each-single labelForm l)
+name-form (l ∷ n) = rw (name-form n, append-assoc)
 
 form-length : (n : Name) → length (nameForm n) ≡ length (each labelForm n) + 1
 form-length n = rw (name-form n, length-append)
 
 form-last : (n : Name) (l : List ℕ) → length (nameForm (n ++ (l ∷ []))) ≡ length (nameForm n) + 1 + length l
-form-last n l = form-length (n ++ (l ∷ [])) ∙ rw (each-last n l, length-append) (omega (arith, form-length n))
+form-last n l = form-length (n ++ (l ∷ [])) ∙ rw (each-last labelForm n l, length-append) (omega (arith, form-length n))
 
 module _ (n : Name) (l : List ℕ) where
   name-more : T (name? n) → T (label? l) → length (nameForm (n ++ (l ∷ []))) ≤ 255 → T (name? (n ++ (l ∷ [])))
@@ -67,11 +64,7 @@ module _ (n : Name) (l : List ℕ) where
     name-last : T (label? l)
     name-last = All-right (λ x. T (label? x)) n (l ∷ []) name-labels .0
 
--- a label of the grammar, by its size
-label-small : (l : List ℕ) → T (label? l) → length l ≤ 63
-unfolding label?
-label-small l h = leb→le (length l) 63 (and-right (leb 1 (length l)) _ (and-left (leb 1 (length l) && leb (length l) 63) _ h))
-
+-- a label of the grammar that is no longer than 63 octets
 label-fits : (l : List ℕ) → Label l → length l ≤ 63 → T (label? l)
 unfolding label?
 label-fits l h k = both (leb 1 (length l) && leb (length l) 63) _ (both (leb 1 (length l)) _ (le→leb 1 (length l) (filled l (h .1))) (le→leb (length l) 63 k)) (octets-test l (h .0))
@@ -226,7 +219,7 @@ module _ {t : List ℕ} {start : ℕ} {b : List ℕ} {to at size : ℕ} {out : L
         most = k .most;
         within = q .within;
         onward = omega (arith, w .onward, labels-far);
-        some = λ z. (omega (arith, w .onward, q .further (not-false _ g)), filled (w .l));
+        some = λ z. (omega (arith, w .onward, q .further (not-false _ g)), none-last (w .l) a);
         long = q .long ∙ w .long;
       }
         where
@@ -235,10 +228,6 @@ module _ {t : List ℕ} {start : ℕ} {b : List ℕ} {to at size : ℕ} {out : L
 
           is : Label a
           is = exact label (drop at t) a (drop (p .at) t) (got .is) .0
-
-          filled : (n : Name) → none? (n ++ (a ∷ [])) ≡ false
-          filled [] = refl
-          filled (x ∷ n) = refl
 
           fits : s ≤ 254 → T (name? (w .l ++ (a ∷ [])))
           fits h =
@@ -251,12 +240,12 @@ module _ {t : List ℕ} {start : ℕ} {b : List ℕ} {to at size : ℕ} {out : L
               let z = k .fit h in
               let y : size ≤ 254 = omega (arith, z) in
               let e : to + size + 1 + p .size ≡ to + s = omega (arith, z) in
-              rw (each-last (w .l) a, ← e) (then (w .wrote y) (got .holds .wrote (z .0)))
+              rw (each-last labelForm (w .l) a, ← e) (then (w .wrote y) (got .holds .wrote (z .0)))
 
           overs : 254 < s → T (name? (w .l ++ (a ∷ []))) → ⊥
           overs h t =
               let m = got .holds .size in
-              let y = label-small a (name-last (w .l) a t) in
+              let y = label-short a (name-last (w .l) a t) in
               let x = sized (small (name-less (w .l) a t)) in
               omega (arith, k .over h (omega arith), form-last (w .l) a, name-size (w .l) a t)
 
@@ -304,40 +293,6 @@ module _ {t : List ℕ} {c : Cursor} (h : Safe t c) where
           moves = record { safe = record { inside = omega (arith, m .at, q .keeps .safe .inside); room = m .room }; onward = omega (arith, m .at, q .keeps .onward) };
         }
 
--- the place behind octets of this number, unless it is past the message's limit
-pub record Grew (n : ℕ) (c r : Cursor) : Type 0 where
-  pub at : r .at ≡ c .at
-  pub spelled : r .spelled ≡ c .spelled
-  pub room : r .to ≤ 65535
-  pub meant : r .meant ≡ c .meant
-  pub small : r .small ≡ (c .small && leb (c .to + n) 65535)
-  pub to : T (r .small) → r .to ≡ c .to + n
-
-module _ {n : ℕ} {c r : Cursor} (at : r .at ≡ c .at) (spelled : r .spelled ≡ c .spelled) (meant : r .meant ≡ c .meant) where
-  pub grew-over : 65535 < c .to + n → c .to ≤ 65535 → r .to ≡ c .to → r .small ≡ false → Grew n c r
-  grew-over h k to small = record {
-    at = at;
-    spelled = spelled;
-    room = omega (arith, to);
-    meant = meant;
-    small = small ∙ rw (lt-leb (c .to + n) 65535 h) (sym (and-false (c .small)));
-    to = λ t. absurd (subst T small t);
-  }
-    where
-      and-false : (b : Bool) → b && false ≡ false
-      and-false true = refl
-      and-false false = refl
-
-  pub grew : c .to + n ≤ 65535 → r .to ≡ c .to + n → r .small ≡ c .small → Grew n c r
-  grew h to small = record {
-    at = at;
-    spelled = spelled;
-    room = omega (arith, to);
-    meant = meant;
-    small = small ∙ rw (le-leb (c .to + n) 65535 h) (sym (and-true (c .small)));
-    to = λ t. to;
-  }
-
 -- labels
 module _ {t : List ℕ} {c : Cursor} {b b′ : List ℕ} {x : ℕ} {p : Part} (h : Safe t c) (g : not (c .spelled) ≡ false) (e : Byte t (c .at) x) (d : x ≡ 46 → ⊥) (q : LabelsAt t (c .at) b (c .to) p b′) where
   pub name-bad : {r : Cursor} → not (p .found) ≡ true → Stopped c (p .at) r → NameRead t c b r b′
@@ -350,7 +305,7 @@ module _ {t : List ℕ} {c : Cursor} {b b′ : List ℕ} {x : ℕ} {p : Part} (h
       last true f = refl
       last false f = omega (arith, q .onward, ltb-false (c .at) (p .at) f)
 
-  pub name-is : {r s u : Cursor} → not (p .found) ≡ false → Came c (p .at) r → Grew (p .size) r s → Judged (leb (p .size) 255) s u → NameRead t c b u b′
+  pub name-is : {r s u : Cursor} → not (p .found) ≡ false → Came c (p .at) r → Held (p .size) r s → Judged (leb (p .size) 255) s u → NameRead t c b u b′
   name-is {r} {s} {u} k m v j = record {
     reads = reads-took (rw (not-false (c .spelled) g) (name-list (drop (c .at) t) (no-strip 46 (34 ∷ []) e d) (got .is))) (j .spelled ∙ v .spelled ∙ m .is) (j .at ∙ v .at ∙ m .at) (put, far);
     moves = record { safe = record { inside = omega (arith, j .at, v .at, m .at, q .within); room = omega (arith, j .to, v .room) }; onward = omega (arith, j .at, v .at, m .at, q .onward) };

@@ -1,7 +1,7 @@
 -- An octet of a label, as it is spelled in a text. Assumes nothing.
 use mathlib.Core.Path.{_≡_, refl, sym, _∙_, subst}
 use mathlib.Core.Logic.{⊎-elim}
-use mathlib.Core.Bool.{Bool, true, false, not, cond, _&&_, _||_}
+use mathlib.Core.Bool.{Bool, true, false, not, cond, _&&_, and-false, or-false}
 use mathlib.Core.List.{List, [], _∷_}
 use Prim.Native.Nat.{ℕ, zero, suc, _+_, _-_, _*_, _≤_, _<_}
 use native.Mathlib.Omega.{arith}
@@ -12,9 +12,31 @@ use Rattle.octets.specs.Bits.{is-true, is-false, and-left, and-right}
 use Rattle.octets.specs.Parsed.{Parsed, took, stuck, and-then, strip}
 use Rattle.spelling.specs.Spelling.{plain?}
 use Rattle.strict.specs.Spelt.{coded?, coded-from?, leads?, ddd, escape, spelledAt, plain-in}
+use Rattle.tokens.specs.Cursor.{Got, clash}
 use Rattle.tokens.specs.Many.{le-or-lt}
+use Rattle.tokens.specs.Place.{Byte, inside, from-byte, no-strip}
 use Rattle.labels.specs.declared.Letter.{Letter}
-use Rattle.labels.specs.Place.{Byte, inside, from-byte, no-strip, Tells, tells-missing, tells-there}
+
+-- ---- what a reader tells of a place
+-- a value was found and `n` is the place behind it, or nothing goes on at `n`
+pub data Tells {A : Type 0} (t : List ℕ) (P : A → Type 0) (found : Bool) (n : ℕ) : Parsed A → Type 0 where
+  missing : found ≡ false → Tells t P found n (stuck (drop n t))
+  there : {a : A} → found ≡ true → P a → Tells t P found n (took a (drop n t))
+
+module _ {A : Type 0} {t : List ℕ} {P : A → Type 0} {found : Bool} {n : ℕ} where
+  pub tells-missing : {o : Parsed A} → o ≡ stuck (drop n t) → found ≡ false → Tells t P found n o
+  tells-missing e g = rw e (missing g)
+
+  pub tells-there : {o : Parsed A} {a : A} → o ≡ took a (drop n t) → found ≡ true → P a → Tells t P found n o
+  tells-there e g v = rw e (there g v)
+
+  pub tells-bad : {o : Parsed A} → Tells t P found n o → found ≡ false → o ≡ stuck (drop n t)
+  tells-bad (missing g) e = refl
+  tells-bad (there g v) e = clash e g
+
+  pub tells-got : {o : Parsed A} → Tells t P found n o → found ≡ true → Got o P (drop n t)
+  tells-got (missing g) e = clash g e
+  tells-got (there {a} g v) e = record { value = a; is = refl; holds = v }
 
 -- from `at` on the reader found what p finds there
 pub record LetterAt (p : List ℕ → Parsed ℕ) (t : List ℕ) (at : ℕ) (r : Letter) : Type 0 where
@@ -135,10 +157,6 @@ second-table : T (below (λ n. below (λ d. same (leads? 1 n d) (leb (lowest n) 
 unfolding leads? coded-from? coded? plain? lowest highest
 second-table = tt
 
-and-false : (b : Bool) → b && false ≡ false
-and-false true = refl
-and-false false = refl
-
 -- what is no digit leads nowhere
 leads-low : (k n x : ℕ) → x < 48 → leads? k n x ≡ false
 unfolding leads?
@@ -203,10 +221,6 @@ unfolding leads? coded-from?
 third-leads n x v h k e =
     let z : (n * 10 + (x - 48)) * 1 ≡ v = omega arith in
     rw (le-leb 48 x h, lt-ltb x 58 (omega arith), z) (or-false (coded? v))
-  where
-    or-false : (b : Bool) → b || false ≡ b
-    or-false true = refl
-    or-false false = refl
 
 -- ---- the digits of an octet
 module _ {t : List ℕ} {at x : ℕ} (e : Byte t at x) where

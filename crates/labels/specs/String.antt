@@ -1,7 +1,7 @@
 -- A string of a text, and its octets in a message. Assumes nothing.
 use mathlib.Core.Path.{_≡_, refl, sym, _∙_, ap, subst}
 use mathlib.Core.Logic.{⊎-elim}
-use mathlib.Core.Bool.{Bool, true, false, not, _&&_}
+use mathlib.Core.Bool.{Bool, true, false, not}
 use mathlib.Core.List.{List, [], _∷_, _++_}
 use Prim.Native.Nat.{ℕ, _+_, _≤_, _<_}
 use native.Mathlib.Omega.{arith}
@@ -10,16 +10,15 @@ use lib.Dec.{T, eqb}
 use lib.ListN.{length, drop, drop-of-length-le}
 use Rattle.octets.specs.Lists.{none?}
 use Rattle.octets.specs.Parsed.{took, stuck, and-then, strip}
-use Rattle.octets.specs.Overlay.{nothing}
 use Rattle.spelling.specs.Spelling.{printable?}
 use Rattle.strict.specs.Spelt.{bare?, quoted, stringAt, stringChar, stringOctet-avoids, string}
 use Rattle.tokens.specs.declared.Cursor.{Cursor}
-use Rattle.tokens.specs.Cursor.{Safe, Came, Stopped, went-keeps, reads-stop, reads-took, Got}
-use Rattle.tokens.specs.Step.{Found, Moves, found-stuck, Put, put-as, put-to, put-emit, Emits}
+use Rattle.tokens.specs.Cursor.{Safe, keeps-same, Came, Stopped, went-keeps, reads-stop, reads-took, Got}
+use Rattle.tokens.specs.Step.{Found, Moves, found-stuck, Put, put-as, put-to, put-nothing, none-last, put-emit, Emits}
 use Rattle.tokens.specs.Many.{le-or-lt, run-of, Going, going-start, going-end, going-more, going-stop}
+use Rattle.tokens.specs.Place.{Byte, inside, from-byte, no-strip}
 use Rattle.labels.specs.declared.Letter.{Letter}
-use Rattle.labels.specs.Place.{Byte, inside, from-byte, no-strip, tells-bad, tells-got}
-use Rattle.labels.specs.Octet.{LetterAt, nowhere, letter, letter-none, letter-one}
+use Rattle.labels.specs.Octet.{tells-bad, tells-got, LetterAt, nowhere, letter, letter-none, letter-one}
 
 -- ---- which octets stand for themselves
 module _ {x : ℕ} where
@@ -132,20 +131,12 @@ pub record Chars (t : List ℕ) (c : Cursor) (b : List ℕ) (d : Cursor) (out : 
   pub place : none? l ≡ eqb (d .at) (c .at)
   pub long : length out ≡ length b
 
-and-true : (b : Bool) → b && true ≡ b
-and-true true = refl
-and-true false = refl
-
 pub chars-start : (t : List ℕ) (c : Cursor) (b : List ℕ) → Safe t c → not (c .spelled) ≡ false → Chars t c b c b
 chars-start t c b h g = record {
   l = [];
   goes = record { goes = string-run (drop (c .at) t) ∙ going-start (run-of 34 stringChar) t (c .at) .goes };
   spelled = not-false _ g;
-  put = record {
-    meant = sym (and-true (c .meant));
-    small = λ k. rw (le-leb (c .to + 0) 65535 (omega (arith, h .room))) (sym (and-true (c .small)));
-    wrote = λ k m. nothing b (c .to);
-  };
+  put = put-nothing b (keeps-same h) refl refl;
   moves = record { safe = h; onward = omega arith };
   place = sym (eq-eqb (c .at) (c .at) refl);
   long = refl;
@@ -194,13 +185,9 @@ module _ {t : List ℕ} {c : Cursor} {b : List ℕ} {d : Cursor} {out : List ℕ
         spelled = a .emits .spelled ∙ a .came .is;
         put = put-as refl (ap (λ v. w .l ++ (v ∷ [])) (sym (got .holds))) (put-emit (put-to (w .put) keeps) (a .emits));
         moves = record { safe = record { inside = omega (arith, e, q .within); room = a .emits .room }; onward = omega (arith, e, chars-far, w .moves .onward) };
-        place = filled (w .l) ∙ sym (ne-eqb (r .at) (c .at) (λ y. omega (arith, e, chars-far, w .moves .onward)));
+        place = none-last (w .l) (got .value) ∙ sym (ne-eqb (r .at) (c .at) (λ y. omega (arith, e, chars-far, w .moves .onward)));
         long = z;
       }
     where
       got : Got (stringAt (drop (d .at) t)) (λ v. o .value ≡ v) (drop (o .at) t)
       got = tells-got (q .tells) (not-false _ m)
-
-      filled : (l : List ℕ) → none? (l ++ (got .value ∷ [])) ≡ false
-      filled [] = refl
-      filled (x ∷ l) = refl

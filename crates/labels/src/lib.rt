@@ -6,18 +6,20 @@ ghost use lib.ListN.{length};
 ghost use Rattle.spelling.specs.Spelling.{plain?};
 ghost use Rattle.strict.specs.Spelt.{coded?, ddd, escape, spelledAt, bare?, stringAt};
 ghost use Rattle.tokens.specs.Cursor.{Safe};
-ghost use Rattle.labels.specs.Place.{Byte};
+ghost use Rattle.tokens.specs.Place.{Byte};
 ghost use Rattle.labels.specs.Octet.{Lowest, Highest, LetterAt};
 ghost use Rattle.labels.specs.Label.{Stored, LabelAt};
-ghost use Rattle.labels.specs.Name.{Grown, LabelsAt, Grew, NameRead};
+ghost use Rattle.labels.specs.Name.{Grown, LabelsAt, NameRead};
 ghost use Rattle.labels.specs.String.{Added, StringRead};
 use octets::put;
 use octets::wide;
 use tokens::Cursor;
 use tokens::came;
 use tokens::emit;
+use tokens::hold;
 use tokens::judge;
 use tokens::literal;
+use tokens::octet_at;
 use tokens::stop;
 
 // An octet that was read, and the place behind it; or the place at which nothing goes on.
@@ -25,16 +27,6 @@ struct Letter {
     at: usize,
     found: bool,
     value: u8,
-}
-
-// The octet at `i`, 0 past the end.
-fn byte(text: &[u8], i: usize) -> u8
-    ensures { λ r. ⌜ Byte (now (text .entry)) i r ⌝ }
-{
-    if i < text.len() {
-        return text[i];
-    }
-    0
 }
 
 // Whether an octet of a label stands for itself.
@@ -66,8 +58,7 @@ fn is_coded(v: usize) -> bool
     if v > 255 {
         return false;
     }
-    let p = is_plain(v as u8);
-    if p {
+    if is_plain(v as u8) {
         return false;
     }
     if v == 46 {
@@ -108,29 +99,21 @@ fn third_digit(text: &[u8], at: usize, n: u8) -> Letter
     requires { ⌜ (at ≤ length (now text)) × (n < 26) ⌝ }
     ensures { λ r. ⌜ LetterAt (ddd 1 n) (now (text .entry)) at r ⌝ }
 {
-    let x = byte(text, at);
+    let none = Letter {
+        at: at,
+        found: false,
+        value: 0,
+    };
+    let x = octet_at(text, at);
     if x < 48 {
-        return Letter {
-            at: at,
-            found: false,
-            value: 0,
-        };
+        return none;
     }
     if x > 57 {
-        return Letter {
-            at: at,
-            found: false,
-            value: 0,
-        };
+        return none;
     }
     let v = wide(n) * 10 + (wide(x) - 48);
-    let coded = is_coded(v);
-    if !coded {
-        return Letter {
-            at: at,
-            found: false,
-            value: 0,
-        };
+    if !is_coded(v) {
+        return none;
     }
     Letter {
         at: at + 1,
@@ -144,22 +127,19 @@ fn second_digit(text: &[u8], at: usize, n: u8) -> Letter
     requires { ⌜ (at ≤ length (now text)) × (n < 3) ⌝ }
     ensures { λ r. ⌜ LetterAt (ddd 2 n) (now (text .entry)) at r ⌝ }
 {
-    let x = byte(text, at);
+    let none = Letter {
+        at: at,
+        found: false,
+        value: 0,
+    };
+    let x = octet_at(text, at);
     let low = lowest_second(n);
     if x < low {
-        return Letter {
-            at: at,
-            found: false,
-            value: 0,
-        };
+        return none;
     }
     let high = highest_second(n);
     if x > high {
-        return Letter {
-            at: at,
-            found: false,
-            value: 0,
-        };
+        return none;
     }
     third_digit(text, at + 1, n * 10 + (x - 48))
 }
@@ -169,20 +149,17 @@ fn digits(text: &[u8], at: usize) -> Letter
     requires { ⌜ at ≤ length (now text) ⌝ }
     ensures { λ r. ⌜ LetterAt (ddd 3 0) (now (text .entry)) at r ⌝ }
 {
-    let x = byte(text, at);
+    let none = Letter {
+        at: at,
+        found: false,
+        value: 0,
+    };
+    let x = octet_at(text, at);
     if x < 48 {
-        return Letter {
-            at: at,
-            found: false,
-            value: 0,
-        };
+        return none;
     }
     if x > 50 {
-        return Letter {
-            at: at,
-            found: false,
-            value: 0,
-        };
+        return none;
     }
     second_digit(text, at + 1, x - 48)
 }
@@ -192,7 +169,7 @@ fn escaped(text: &[u8], at: usize) -> Letter
     requires { ⌜ at ≤ length (now text) ⌝ }
     ensures { λ r. ⌜ LetterAt escape (now (text .entry)) at r ⌝ }
 {
-    let x = byte(text, at);
+    let x = octet_at(text, at);
     if x == b'.' {
         return Letter {
             at: at + 1,
@@ -201,7 +178,7 @@ fn escaped(text: &[u8], at: usize) -> Letter
         };
     }
     if x == b'\\' {
-        let y = byte(text, at + 1);
+        let y = octet_at(text, at + 1);
         if y != b'\\' {
             return Letter {
                 at: at + 1,
@@ -223,9 +200,8 @@ fn octet(text: &[u8], at: usize) -> Letter
     requires { ⌜ at ≤ length (now text) ⌝ }
     ensures { λ r. ⌜ LetterAt spelledAt (now (text .entry)) at r ⌝ }
 {
-    let x = byte(text, at);
-    let plain = is_plain(x);
-    if plain {
+    let x = octet_at(text, at);
+    if is_plain(x) {
         return Letter {
             at: at + 1,
             found: true,
@@ -239,7 +215,7 @@ fn octet(text: &[u8], at: usize) -> Letter
             value: 0,
         };
     }
-    let second = byte(text, at + 1);
+    let second = octet_at(text, at + 1);
     if second != b'\\' {
         return Letter {
             at: at + 1,
@@ -273,7 +249,7 @@ fn label_at(text: &[u8], start: usize, out: &mut [u8], to: usize) -> Part
     requires { ⌜ (start ≤ length (now text)) × (to < 2 ^ 32) ⌝ }
     ensures { λ r. ⌜ LabelAt (now (text .entry)) start (now (out .entry)) to r (now (out .exit)) ⌝ }
 {
-    let first = byte(text, start);
+    let first = octet_at(text, start);
     if first == b'.' {
         return Part {
             at: start,
@@ -284,7 +260,7 @@ fn label_at(text: &[u8], start: usize, out: &mut [u8], to: usize) -> Part
     let mut at = start;
     let mut n = 0;
     loop {
-        let y = byte(text, at);
+        let y = octet_at(text, at);
         if y == b'.' {
             if n > 63 {
                 return Part {
@@ -301,17 +277,14 @@ fn label_at(text: &[u8], start: usize, out: &mut [u8], to: usize) -> Part
             };
         }
         let o = octet(text, at);
-        let more = o.found;
-        if !more {
-            let k = o.at;
+        if !o.found {
             return Part {
-                at: k,
+                at: o.at,
                 found: false,
                 size: 0,
             };
         }
-        let v = o.value;
-        let _next = store(out, to, n + 1, v);
+        let _next = store(out, to, n + 1, o.value);
         n += 1;
         at = o.at;
     }
@@ -337,7 +310,7 @@ fn labels_at(text: &[u8], start: usize, out: &mut [u8], to: usize) -> Part
     requires { ⌜ (start ≤ length (now text)) × (to ≤ 65535) ⌝ }
     ensures { λ r. ⌜ LabelsAt (now (text .entry)) start (now (out .entry)) to r (now (out .exit)) ⌝ }
 {
-    let x = byte(text, start);
+    let x = octet_at(text, start);
     if x == b'"' {
         return Part {
             at: start,
@@ -348,7 +321,7 @@ fn labels_at(text: &[u8], start: usize, out: &mut [u8], to: usize) -> Part
     let mut at = start;
     let mut size = 0;
     loop {
-        let y = byte(text, at);
+        let y = octet_at(text, at);
         if y == b'"' {
             let _end = put(out, to + size, 0);
             return Part {
@@ -358,17 +331,14 @@ fn labels_at(text: &[u8], start: usize, out: &mut [u8], to: usize) -> Part
             };
         }
         let l = label_at(text, at, out, to + size);
-        let more = l.found;
-        if !more {
-            let k = l.at;
+        if !l.found {
             return Part {
-                at: k,
+                at: l.at,
                 found: false,
                 size: 0,
             };
         }
-        let n = l.size;
-        size = grow(size, n);
+        size = grow(size, l.size);
         at = l.at;
     }
 }
@@ -379,36 +349,10 @@ fn root(text: &[u8], c: Cursor, out: &mut [u8]) -> Cursor
     ensures { λ r. ⌜ NameRead (now (text .entry)) c (now (out .entry)) r (now (out .exit)) ⌝ }
 {
     let r = literal(text, c, b".\"");
-    let spelled = r.spelled;
-    if !spelled {
+    if !r.spelled {
         return r;
     }
     emit(r, &[0], out)
-}
-
-// The place behind `n` octets, unless it is past the message's limit.
-fn behind(c: Cursor, n: usize) -> Cursor
-    requires { ⌜ (c .to ≤ 65535) × (n ≤ 256) ⌝ }
-    ensures { λ r. ⌜ Grew n c r ⌝ }
-{
-    let to = c.to;
-    let end = to + n;
-    if end > 65535 {
-        return Cursor {
-            at: c.at,
-            to: to,
-            spelled: c.spelled,
-            meant: c.meant,
-            small: false,
-        };
-    }
-    Cursor {
-        at: c.at,
-        to: end,
-        spelled: c.spelled,
-        meant: c.meant,
-        small: c.small,
-    }
 }
 
 // A name and the quote behind it.
@@ -416,24 +360,21 @@ pub fn name(text: &[u8], c: Cursor, out: &mut [u8]) -> Cursor
     requires { ⌜ Safe (now text) c ⌝ }
     ensures { λ r. ⌜ NameRead (now (text .entry)) c (now (out .entry)) r (now (out .exit)) ⌝ }
 {
-    let spelled = c.spelled;
-    if !spelled {
+    if !c.spelled {
         return c;
     }
     let start = c.at;
-    let x = byte(text, start);
+    let x = octet_at(text, start);
     if x == b'.' {
         return root(text, c, out);
     }
     let to = c.to;
     let n = labels_at(text, start, out, to);
-    let found = n.found;
-    let at = n.at;
-    if !found {
-        return stop(c, at);
+    if !n.found {
+        return stop(c, n.at);
     }
     let size = n.size;
-    let r = behind(came(c, at), size);
+    let r = hold(came(c, n.at), size);
     judge(r, size <= 255)
 }
 
@@ -461,9 +402,8 @@ fn char_at(text: &[u8], at: usize) -> Letter
     requires { ⌜ at ≤ length (now text) ⌝ }
     ensures { λ r. ⌜ LetterAt stringAt (now (text .entry)) at r ⌝ }
 {
-    let x = byte(text, at);
-    let bare = is_bare(x);
-    if bare {
+    let x = octet_at(text, at);
+    if is_bare(x) {
         return Letter {
             at: at + 1,
             found: true,
@@ -477,7 +417,7 @@ fn char_at(text: &[u8], at: usize) -> Letter
             value: 0,
         };
     }
-    let y = byte(text, at + 1);
+    let y = octet_at(text, at + 1);
     if y == b'"' {
         return Letter {
             at: at + 2,
@@ -504,8 +444,7 @@ fn add(c: Cursor, at: usize, v: u8, out: &mut [u8]) -> Cursor
     requires { ⌜ c .to ≤ 65535 ⌝ }
     ensures { λ r. ⌜ Added c at v (now (out .entry)) r (now (out .exit)) ⌝ }
 {
-    let d = came(c, at);
-    emit(d, &[v], out)
+    emit(came(c, at), &[v], out)
 }
 
 // A string and the quote behind it. Its octets are written as they are read.
@@ -513,24 +452,20 @@ pub fn string(text: &[u8], c: Cursor, out: &mut [u8]) -> Cursor
     requires { ⌜ Safe (now text) c ⌝ }
     ensures { λ r. ⌜ StringRead (now (text .entry)) c (now (out .entry)) r (now (out .exit)) ⌝ }
 {
-    let spelled = c.spelled;
-    if !spelled {
+    if !c.spelled {
         return c;
     }
     let mut d = c;
     loop {
         let at = d.at;
-        let y = byte(text, at);
+        let y = octet_at(text, at);
         if y == b'"' {
             return came(d, at + 1);
         }
         let o = char_at(text, at);
-        let more = o.found;
-        let k = o.at;
-        if !more {
-            return stop(d, k);
+        if !o.found {
+            return stop(d, o.at);
         }
-        let v = o.value;
-        d = add(d, k, v, out);
+        d = add(d, o.at, o.value, out);
     }
 }

@@ -25,13 +25,11 @@ use Rattle.strict.specs.OptionLaws.{key-holds, option-member}
 use Rattle.strict.specs.Meaning.{itemEdns, ednsItem?}
 use Rattle.tokens.specs.declared.Cursor.{Cursor}
 use Rattle.tokens.specs.Cursor.{Keeps, keeps-then, Passed}
-use Rattle.tokens.specs.Step.{Found, Put, Step, Judged, found-at, found-map, found-lit, found-behind, found-pair, put-from, put-as}
+use Rattle.tokens.specs.Step.{Found, Put, Step, Held, Judged, found-at, found-from, found-sound, found-map, found-lit, found-behind, found-pair, put-from, put-as, put-before, put-judged}
 use Rattle.tokens.specs.declared.Amount.{Amount}
 use Rattle.tokens.specs.declared.Row.{Row}
-use Rattle.tokens.specs.Number.{capped, NumberRead}
+use Rattle.tokens.specs.Number.{capped, NumberRead, TillRead}
 use Rattle.tokens.specs.Rows.{RowRead}
-use Rattle.members.specs.Placing.{Held, put-before, put-judged}
-use Rattle.members.specs.Choosing.{found-from, found-sound}
 use Rattle.members.specs.Options.{options?, OptionsStep}
 
 -- ---- the parser behind the title
@@ -65,13 +63,6 @@ unfolding ednsElement ednsRest ednsBehind
 edns-parse w = then-thrice (strip (ascii "{\"EDNS\":{\"Version\":") w) (λ u r. till ",\"FLAGS\":" tt number .parse r) _ _
 
 -- ---- its fields
-pub record VersionRead (t : List ℕ) (c : Cursor) (r : Amount) : Type 0 where
-  pub found : Found (till ",\"FLAGS\":" tt number .parse) (λ n. r .value ≡ capped n) t c (r .cursor)
-  pub keeps : Keeps t c (r .cursor)
-
-pub version-read : {t : List ℕ} {c s : Cursor} {n : Amount} → NumberRead t c n → Passed (ascii ",\"FLAGS\":") t (n .cursor) s → VersionRead t c (record { cursor = s; value = n .value })
-version-read x e = record { found = found-behind (x .found) e; keeps = keeps-then (x .keeps) (e .keeps) }
-
 abbrev pub rcodeCodec : Codec (λ n. T (key? n rcodes)) (λ n. ascii ",\"RCODE\":\"" ++ (textOf n rcodes ++ ascii "\",\"UDPSIZE\":")) Any
 rcodeCodec = ",\"RCODE\":\"" ▷ table rcodes rcodes-distinct ◁ "\",\"UDPSIZE\":"
 
@@ -189,12 +180,12 @@ form-is e = rw (each-option (e .options))
 abbrev pub EdnsStep : ℕ → List ℕ → Cursor → List ℕ → Cursor → List ℕ → Type 0
 EdnsStep rcode t c b r b′ = Step (element? rcode) elementForm ednsRest t c b r b′
 
-pub edns-read : (rcode : ℕ) {t : List ℕ} {c h o j : Cursor} {b b₁ b₂ : List ℕ} {v s : Amount} {f x : Row} {ok : Bool} {e : ℕ} → VersionRead t c v → RowRead (tried flags) t (v .cursor) f → RcodeRead t (f .cursor) x → NumberRead t (x .cursor) s
+pub edns-read : (rcode : ℕ) {t : List ℕ} {c h o j : Cursor} {b b₁ b₂ : List ℕ} {v s : Amount} {f x : Row} {ok : Bool} {e : ℕ} → TillRead (ascii ",\"FLAGS\":") t c v → RowRead (tried flags) t (v .cursor) f → RcodeRead t (f .cursor) x → NumberRead t (x .cursor) s
     → Held 11 (s .cursor) h → OptionsStep (optionMembers .parse) t h b o b₁ → ok ≡ fits? (v .value) (x .key) rcode (s .value) → Judged ok o j
     → OptFronted (s .value) (x .key) (f .key) (s .cursor .to) (j .to) b₁ b₂ e → EdnsStep rcode t c b j b₂
 unfolding ednsRest ednsBehind
 edns-read rcode {t} {c} {h} {o} {j} {b} {b₁} {b₂} {v} {s} {f} {x} {ok} {e = end} version row full size places members fit judged front =
-    found-at (found-sound ednsBehind (λ w. refl) fields) (judged .at) (judged .spelled) (omega (arith, judged .to, members .moves .safe .room)) λ e k. done e (k .0) (k .1)
+    found-at (found-sound ednsBehind fields) (judged .at) (judged .spelled) (omega (arith, judged .to, members .moves .safe .room)) λ e k. done e (k .0) (k .1)
   where
     Q : EdnsItem → Type 0
     Q e = (v .value ≡ capped (e .version)) × ((f .key ≡ e .flags) × ((x .key ≡ e .rcode) × ((s .value ≡ capped (e .size)) × Put options? (each (λ m. optionForm (optionOf m))) h b o b₁ (e .options))))

@@ -12,7 +12,7 @@ use Rattle.octets.specs.Fields.{drop-one}
 use Rattle.tokens.specs.declared.Cursor.{Cursor}
 use Rattle.tokens.specs.Cursor.{left-of, Safe, Keeps, Came, went-keeps, keeps-same, Passed, reads-took, reads-stop, reads-got, reads-bad, Got}
 use Rattle.tokens.specs.Step.{Found, Moves, moves, moves-then, found-there}
-use Rattle.labels.specs.Place.{Byte, inside, no-strip}
+use Rattle.tokens.specs.Place.{Byte, inside, no-strip}
 use Rattle.tokens.specs.Many.{run-of, going-start, going-end, going-more, going-stop}
 
 -- what stands before an item: the first has no comma

@@ -1,7 +1,7 @@
 -- The option members: what each reader shows. Assumes nothing.
 use mathlib.Core.Path.{_≡_, refl, sym, _∙_, ap, subst}
 use mathlib.Core.Logic.{⊎-elim}
-use mathlib.Core.Bool.{Bool, true, false, not, cond, _&&_}
+use mathlib.Core.Bool.{Bool, true, false, not, cond, _&&_, and-true, and-assoc, Bool·not-not}
 use mathlib.Core.List.{List, [], _∷_, _++_, map, append-assoc, tail-eq-of-cons-eq}
 use Prim.Native.Nat.{ℕ, _+_, _-_, _%_, _≤_, _<_}
 use native.Mathlib.Omega.{arith}
@@ -23,8 +23,9 @@ use Rattle.strict.specs.Members.{octetsOf, value?, optionOf, member?}
 use Rattle.strict.specs.OptionLaws.{key-word}
 use Rattle.strict.specs.Parser.{value, members-distinct, member-apart, knownMember, otherMember, member, optionMembers}
 use Rattle.tokens.specs.declared.Cursor.{Cursor}
-use Rattle.tokens.specs.Cursor.{Safe, Keeps, keeps-then, Passed, Came, Stopped, Reads, stopped, reads-got, clash}
-use Rattle.tokens.specs.Step.{Found, Put, Step, Judged, found-as, found-at, found-lit, found-behind, found-pair, found-stuck, found-there, put-from, put-to, put-as, step-behind}
+use Rattle.tokens.specs.Cursor.{Safe, Keeps, keeps-same, keeps-then, Passed, Came, Reads, stopped, reads-got, clash}
+use Rattle.tokens.specs.Step.{Found, Put, Step, Held, Judged, found-as, found-at, found-from, found-by, found-lit, found-behind, found-pair, found-stuck, found-there, put-from, put-to, put-as, put-before, put-judged, put-nothing, put-last, all-last, judged-when, put-when, step-behind}
+use Rattle.tokens.specs.Choice.{Further, either-further, either-second}
 use Rattle.tokens.specs.Many.{le-or-lt}
 use Rattle.tokens.specs.Leaf.{passed-took}
 use Rattle.tokens.specs.declared.Amount.{Amount}
@@ -35,11 +36,9 @@ use Rattle.tokens.specs.Number.{capped, NumberRead}
 use Rattle.tokens.specs.Hex.{HexRun, HexRead}
 use Rattle.tokens.specs.Rows.{RowRead}
 use Rattle.tokens.specs.Fields.{Done}
-use Rattle.labels.specs.Place.{Byte}
-use Rattle.members.specs.Placing.{and-true, and-assoc, Held, put-before, put-judged, judged-when, put-when}
-use Rattle.members.specs.Choosing.{found-from, found-by, either-first, either-second, either-neither}
+use Rattle.tokens.specs.Place.{Byte}
 use Rattle.members.specs.Items.{part-of, item-of, Items, items-start, items-end, items-stop, items-far, items-more}
-use Rattle.members.specs.Values.{run-octets, ValueStep, all-last, put-none, put-last}
+use Rattle.members.specs.Values.{run-octets, ValueStep}
 
 -- ---- code and length in front of a value
 -- they were written at `start`, where the value ends at `to`
@@ -126,12 +125,8 @@ module _ {t : List ℕ} {h : Span} {n : ℕ} where
   pub other-shaped : {shaped : Bool} → n ≤ 65535 → shaped ≡ not (absent? (shape (formOf n) (paired (take (h .end - h .from) (drop (h .from) t))))) → OtherFits t h n (not shaped)
   other-shaped {shaped} d y = record {
     fits = λ k l e x. let z : n ≡ k = omega (arith, e) in
-        rw (lt-ltb k 65536 (omega (arith, z))) (sym (twice (absent? (shape (formOf k) l))) ∙ ap not (sym (y ∙ ap (λ (m : List ℕ). not (absent? (shape (formOf n) m))) (run-octets x) ∙ ap (λ (i : ℕ). not (absent? (shape (formOf i) l))) z)));
+        rw (lt-ltb k 65536 (omega (arith, z))) (sym (Bool·not-not (absent? (shape (formOf k) l))) ∙ ap not (sym (y ∙ ap (λ (m : List ℕ). not (absent? (shape (formOf n) m))) (run-octets x) ∙ ap (λ (i : ℕ). not (absent? (shape (formOf i) l))) z)));
   }
-    where
-      twice : (x : Bool) → not (not x) ≡ x
-      twice true = refl
-      twice false = refl
 
 -- the code, if it is a number of 16 bits
 abbrev pub codeOf : ℕ → ℕ
@@ -194,35 +189,23 @@ module _ {t : List ℕ} {c : Cursor} {n : Row} {b : List ℕ} (x : NameRead t c 
   known-read {r} {b′} y = found-as (found-by (λ code. value (formOf code) .parse) (λ code. Put (value? (formOf code)) (λ v. optionForm (record { code = code; value = octetsOf (formOf code) v })) (n .cursor) b r b′) (n .key) (x .found) y)
       λ u h. (h .0, put-from (x .keeps) (h .1))
 
-  pub member-known : {r : Cursor} {b′ : List ℕ} → KnownStep (n .key) t (n .cursor) b r b′ → r .spelled ≡ true → MemberRead t c b (record { cursor = r; code = n .key }) b′
-  unfolding member member? optionOf
-  member-known {r} {b′} y g = record {
-    found = either-first leftMember rightMember (knownMember .parse) (otherMember .parse) (known-read y) g λ u h. (put-as refl refl (h .1), λ m. h .0);
-  }
-
-  -- no value behind the name, nor `OPT`
-  pub member-unvalued : {r o z : Cursor} {b′ : List ℕ} {code : ℕ} → KnownStep (n .key) t (n .cursor) b r b′ → n .cursor .spelled ≡ true → r .spelled ≡ false → Passed (ascii "\"OPT") t c o
-      → Stopped c (cond (ltb (r .at) (o .at)) (o .at) (r .at)) z → c .to ≤ 65535 → MemberRead t c b (record { cursor = z; code = code }) b′
-  unfolding member otherMember
-  member-unvalued {r} {o} {z} {b′} y g k q e h = record {
-    found = either-neither leftMember rightMember (knownMember .parse) (otherMember .parse) (known-read y) k
+  -- the name stands there, and so `OPT` does not
+  pub member-known : {r o z : Cursor} {b′ : List ℕ} → n .cursor .spelled ≡ true → KnownStep (n .key) t (n .cursor) b r b′ → Passed (ascii "\"OPT") t c o → Further (o .at) r z → MemberRead t c b (record { cursor = z; code = n .key }) b′
+  unfolding member otherMember member? optionOf
+  member-known {r} {o} {z} {b′} g y q f = record {
+    found = either-further leftMember rightMember (knownMember .parse) (otherMember .parse) (known-read y) (λ z. OptionRead t c b (record { cursor = z; code = n .key }) b′)
         (found-pair {Q = λ l. Unit {0}} {q = hex .parse} (found-lit {P = λ m. Unit {0}} {p = till "\":\"" tt number .parse} q (found-stuck _ t o (q .keeps .safe) (name-apart x g q))) (found-stuck _ t o (q .keeps .safe) (name-apart x g q)))
-        (name-apart x g q) e h;
+        (name-apart x g q) f λ u h. (put-as refl refl (h .1), λ m. h .0);
   }
 
-  module _ {o : Coded} {b′ : List ℕ} (g : n .cursor .spelled ≡ false) (y : OtherRead t c b o b′) where
-    unnamed : Found (knownMember .parse) (λ u. Unit {0}) t c (n .cursor)
-    unfolding knownMember
-    unnamed = found-as (found-by (λ code. value (formOf code) .parse) (λ code v. Unit {0}) (n .key) (x .found) (found-stuck _ t (n .cursor) (x .keeps .safe) g)) λ u h. tt
-
-    pub member-other : o .cursor .spelled ≡ true → MemberRead t c b o b′
-    unfolding member member? optionOf
-    member-other k = record { found = either-second leftMember rightMember (knownMember .parse) (otherMember .parse) unnamed g (y .found) k λ u h. (put-as refl refl (h .0), h .1) }
-
-    pub member-none : {z : Cursor} {code : ℕ} → o .cursor .spelled ≡ false → Stopped c (cond (ltb (n .cursor .at) (o .cursor .at)) (o .cursor .at) (n .cursor .at)) z → c .to ≤ 65535
-        → MemberRead t c b (record { cursor = z; code = code }) b′
-    unfolding member
-    member-none k e h = record { found = either-neither leftMember rightMember (knownMember .parse) (otherMember .parse) unnamed g (y .found) k e h }
+  -- no name stands there
+  pub member-other : {o : Coded} {z : Cursor} {b′ : List ℕ} → n .cursor .spelled ≡ false → OtherRead t c b o b′ → Further (n .cursor .at) (o .cursor) z → MemberRead t c b (record { cursor = z; code = o .code }) b′
+  unfolding member knownMember member? optionOf
+  member-other {o} {z} {b′} g y f = record {
+    found = either-second leftMember rightMember (knownMember .parse) (otherMember .parse)
+        (found-as {Q = λ u. Unit {0}} (found-by (λ code. value (formOf code) .parse) (λ code v. Unit {0}) (n .key) (x .found) (found-stuck _ t (n .cursor) (x .keeps .safe) g)) λ u h. tt)
+        (λ z. OptionRead t c b (record { cursor = z; code = o .code }) b′) (y .found) g f λ u h. (put-as refl refl (h .0), h .1);
+  }
 
 -- ---- the members of an object, codes strictly rising
 -- the lowest code that may come behind these members
@@ -313,8 +296,8 @@ OptionsStep p t c b r b′ = Step options? (each (λ m. optionForm (optionOf m))
 
 module _ {t : List ℕ} {c : Cursor} {b : List ℕ} (g : not (c .spelled) ≡ false) where
   pub rising-start : Safe t c → Rising t c b c 0 b
-  unfolding rising?
-  rising-start h = record { items = items-start member 125 member-avoids member-comma t g h (put-none (λ m. optionForm (optionOf m)) c b (h .room) refl, λ y. refl); long = refl }
+  unfolding each rising?
+  rising-start h = record { items = items-start member 125 member-avoids member-comma t g h (put-nothing b (keeps-same h) refl refl, λ y. refl); long = refl }
 
   module _ {d : Cursor} {least : ℕ} {out : List ℕ} (w : Rising t c b d least out) where
     pub rising-end : {x : ℕ} {r : Cursor} → Byte t (d .at) x → x ≡ 125 → Came d (d .at + 1) r → OptionsStep membersParse t c b r out

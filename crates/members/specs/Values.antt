@@ -1,39 +1,40 @@
 -- The values of option members: what each reader shows. Assumes nothing.
 use mathlib.Core.Path.{_≡_, refl, sym, _∙_, ap, subst}
-use mathlib.Core.Bool.{Bool, true, false, not, cond, _&&_}
+use mathlib.Core.Logic.{⊎-elim}
+use mathlib.Core.Bool.{Bool, true, false, not, cond, _&&_, and-true, and-assoc}
 use mathlib.Core.Option.{Option, none}
 use mathlib.Core.List.{List, [], _∷_, _++_}
 use Prim.Native.Nat.{ℕ, min, _+_, _-_, _/_, _^_, _≤_, _<_}
 use Prim.Native.String.{String}
 use native.Mathlib.Omega.{arith}
-use borrow.Author.Tests.{eq-eqb, ne-eqb, le-leb, lt-leb, not-true}
-use lib.Dec.{T, leb, ltb, eqb}
+use borrow.Author.Tests.{eq-eqb, ne-eqb, lt-leb}
+use lib.Dec.{leb, ltb, eqb}
 use lib.ListN.{length, take, drop, replicate, length-take, length-replicate, replicate-append-replicate}
 use Rattle.octets.specs.Lists.{ascii, all, each, none?, octet?, word?, long?, paired, Octets}
 use Rattle.octets.specs.Fields.{two, four}
 use Rattle.octets.specs.Hexadecimal.{hexText, hex}
-use Rattle.octets.specs.Bits.{is-true}
 use Rattle.octets.specs.Decimal.{decimal, natural, number, number-avoids}
 use Rattle.octets.specs.Parsed.{Parsed, took, stuck, and-then, strip}
 use Rattle.octets.specs.Codec.{Avoids, Any, Codec, fronts, _▷_}
-use Rattle.octets.specs.Overlay.{Wrote, nothing, then, each-append, each-single}
+use Rattle.octets.specs.Overlay.{Wrote, nothing, then}
 use Rattle.options.specs.Options.{Form, hexObject, octetList, expiry, hexList, word, padding, wordList, extendedError, unlisted, Value, formOf, zero?}
 use Rattle.strict.specs.Members.{octetsOf, value?, optional, paddingOctets, cookie?, padding?, text?}
 use Rattle.strict.specs.Parser.{value, expiryNumber}
 use Rattle.strict.specs.Spelt.{string}
 use Rattle.tokens.specs.declared.Cursor.{Cursor}
-use Rattle.tokens.specs.Cursor.{left-of, reads-stop, went-keeps, Safe, Passed, Came, Stopped, clash}
-use Rattle.tokens.specs.Step.{Found, Put, Step, Over, Judged, found-as, found-at, found-lit, found-behind, found-pair, put-then, put-from, put-to, put-as, step-lit, step-behind, step-pair, moves}
+use Rattle.tokens.specs.Cursor.{left-of, reads-stop, keeps-same, went-keeps, Safe, Passed, Came, Stopped}
+use Rattle.tokens.specs.Step.{Found, Put, Step, Held, held-room, Judged, found-as, found-at, found-lit, found-behind, found-pair, put-from, put-to, put-as, put-judged, put-nothing, put-last, all-last, step-lit, step-behind, step-pair, moves}
+use Rattle.tokens.specs.Leaf.{found-lits}
+use Rattle.tokens.specs.Many.{le-or-lt}
+use Rattle.tokens.specs.Choice.{Further, maybeParse, maybe-none, maybe-some}
 use Rattle.tokens.specs.declared.Amount.{Amount}
 use Rattle.tokens.specs.declared.Span.{Span}
 use Rattle.tokens.specs.Number.{capped, NumberRead}
 use Rattle.tokens.specs.Hex.{HexRun, HexRead}
-use Rattle.tokens.specs.Fields.{Done}
+use Rattle.tokens.specs.Fields.{Done, done-past, done-held, found-done}
 use Rattle.labels.specs.String.{StringRead}
 use Rattle.digits.specs.Digits.{Hexes, hexes, paired-hexes}
-use Rattle.labels.specs.Place.{Byte}
-use Rattle.members.specs.Placing.{and-true, and-false, and-assoc, Held, held-put, held-none, put-judged, put-nothing, step-done}
-use Rattle.members.specs.Choosing.{found-lits, maybeParse, maybe-none, maybe-some, maybe-stop}
+use Rattle.tokens.specs.Place.{Byte}
 use Rattle.members.specs.Items.{comma-of, part-of, item-of, Items, items-start, items-end, items-stop, items-far, items-more}
 
 -- ---- octets in hexadecimal, where they stand in the text
@@ -43,8 +44,11 @@ pub record Digits (t : List ℕ) (h : Span) : Type 0 where
   pub high : h .end ≤ length t
   pub digits : Hexes (take (h .end - h .from) (drop (h .from) t))
 
+pub run-digits : {t : List ℕ} {h : Span} {l : List ℕ} → HexRun t h l → Digits t h
+run-digits x = record { low = x .ordered; high = x .within; digits = subst Hexes (sym (x .digits)) (hexes _ (x .octets)) }
+
 pub hex-digits : {t : List ℕ} {c : Cursor} {h : Span} → HexRead t c h → Digits t h
-hex-digits x = let r = x .run in record { low = r .ordered; high = r .within; digits = subst Hexes (sym (r .digits)) (hexes _ (r .octets)) }
+hex-digits x = run-digits (x .run)
 
 pub run-octets : {t : List ℕ} {h : Span} {l : List ℕ} → HexRun t h l → paired (take (h .end - h .from) (drop (h .from) t)) ≡ l
 run-octets x = ap paired (x .digits) ∙ paired-hexes _ (x .octets)
@@ -53,32 +57,16 @@ run-octets x = ap paired (x .digits) ∙ paired-hexes _ (x .octets)
 abbrev pub sizeOf : Span → ℕ
 sizeOf h = (h .end - h .from) / 2
 
--- the length of the digits
-pub span-long : (t : List ℕ) (from n to : ℕ) → to + n < 2 ^ 40 → to + length (take n (drop from t)) < 2 ^ 40
-span-long t from n to h = omega (arith, length-take n (drop from t))
-
 -- written from a place on, unless they go past the limit
-module _ {t : List ℕ} {h : Span} {c : Cursor} {b : List ℕ} where
-  pub hex-over : {size : ℕ} {r : Cursor} → c .to ≤ 65535 → size ≡ sizeOf h → 65535 < size → Over c r → Done (HexRun t h) (λ l. true) (λ l. l) c b r b
-  hex-over {size} {r} k e z o = record {
-    at = o .at;
-    spelled = o .spelled;
-    room = omega (arith, o .to);
-    put = λ l x. record {
-      meant = o .meant ∙ sym (and-true (c .meant));
-      small = λ y. o .small ∙ rw (lt-leb (c .to + length l) 65535 (omega (arith, e, x .long))) (sym (and-false (c .small)));
-      wrote = λ y w. clash (o .small) (is-true (r .small) w);
-    };
-  }
+module _ {t : List ℕ} {h : Span} {c r : Cursor} {size : ℕ} (e : size ≡ sizeOf h) (k : Held size c r) where
+  pub hex-room : Digits t h → not (r .small) ≡ false → c .to + length (take (h .end - h .from) (drop (h .from) t)) < 2 ^ 40
+  hex-room d z = omega (arith, e, held-room k z, length-take (h .end - h .from) (drop (h .from) t))
 
-  pub hex-put : {size end : ℕ} {r : Cursor} {b′ : List ℕ} → size ≡ sizeOf h → Held size c r → Wrote b (c .to) (paired (take (h .end - h .from) (drop (h .from) t))) b′ end
-      → Done (HexRun t h) (λ l. true) (λ l. l) c b r b′
-  hex-put {size} {end} {r} {b′} e k w = record {
-    at = k .at;
-    spelled = k .spelled;
-    room = k .room;
-    put = λ l x. held-put k (omega (arith, e, x .long)) (subst (λ (z : List ℕ). Wrote b (c .to) z b′ end) (run-octets x) w);
-  }
+  pub hex-past : {b : List ℕ} → not (r .small) ≡ true → Done (HexRun t h) (λ l. true) (λ l. l) c b r b
+  hex-past z = done-past k z λ l x. let s : length l ≡ size = omega (arith, e, x .long) in rw s
+
+  pub hex-put : {end : ℕ} {b b′ : List ℕ} → Wrote b (c .to) (paired (take (h .end - h .from) (drop (h .from) t))) b′ end → Done (HexRun t h) (λ l. true) (λ l. l) c b r b′
+  hex-put {end} {b} {b′} w = done-held k λ l x. (omega (arith, e, x .long), subst (λ (z : List ℕ). Wrote b (c .to) z b′ end) (run-octets x) w)
 
 pub run-size : {t : List ℕ} {h : Span} {l : List ℕ} → HexRun t h l → sizeOf h ≡ length l
 run-size x = omega (arith, x .long)
@@ -92,30 +80,10 @@ numeralForm wide n = cond wide (two n) (n ∷ [])
 
 module _ {wide : Bool} {t : List ℕ} {c r : Cursor} {n : Amount} {b b′ : List ℕ} (x : NumberRead t c n) where
   pub numeral-wide : wide ≡ true → Done (λ k. n .value ≡ capped k) word? two (n .cursor) b r b′ → Step (numeral? wide) (numeralForm wide) natural t c b r b′
-  numeral-wide e d = rw e (step-done (x .found) (x .keeps) d)
+  numeral-wide e d = rw e (found-done (x .found) (x .keeps) d)
 
   pub numeral-narrow : wide ≡ false → Done (λ k. n .value ≡ capped k) octet? (λ k. k ∷ []) (n .cursor) b r b′ → Step (numeral? wide) (numeralForm wide) natural t c b r b′
-  numeral-narrow e d = rw e (step-done (x .found) (x .keeps) d)
-
--- the list so far and one value more
-pub all-last : {A : Type 0} (ok : A → Bool) (l : List A) (a : A) → all ok (l ++ (a ∷ [])) ≡ all ok l && ok a
-all-last ok [] a = and-true (ok a)
-all-last ok (x ∷ l) a = rw (all-last ok l a) (sym (and-assoc (ok x) (all ok l) (ok a)))
-
-each-last : {A : Type 0} (wire : A → List ℕ) (l : List A) (a : A) → each wire (l ++ (a ∷ [])) ≡ each wire l ++ wire a
-each-last wire l a = rw (each-append wire l (a ∷ []), each-single wire a)
-
-pub put-last : {A : Type 0} {oks : List A → Bool} {ok : A → Bool} {wire : A → List ℕ} {c d r : Cursor} {b b₁ b₂ : List ℕ} (l : List A) (a : A)
-    → oks (l ++ (a ∷ [])) ≡ (oks l && ok a) → Put oks (each wire) c b d b₁ l → Put ok wire d b₁ r b₂ a → Put oks (each wire) c b r b₂ (l ++ (a ∷ []))
-put-last {wire = wire} l a e p q = put-as e (each-last wire l a) (put-then p q)
-
-pub put-none : {A : Type 0} {oks : List A → Bool} (wire : A → List ℕ) (c : Cursor) (b : List ℕ) → c .to ≤ 65535 → oks [] ≡ true → Put oks (each wire) c b c b []
-unfolding each
-put-none wire c b h e = record {
-  meant = rw e (sym (and-true (c .meant)));
-  small = λ y. rw (le-leb (c .to + 0) 65535 (omega arith)) (sym (and-true (c .small)));
-  wrote = λ y z. nothing b (c .to);
-}
+  numeral-narrow e d = rw e (found-done (x .found) (x .keeps) d)
 
 -- numbers with commas between, and the bracket behind them
 abbrev pub numeralsParse : List ℕ → Parsed (List ℕ)
@@ -131,7 +99,8 @@ pub record Numerals (wide : Bool) (t : List ℕ) (c : Cursor) (b : List ℕ) (d 
 
 module _ {wide : Bool} {t : List ℕ} {c : Cursor} {b : List ℕ} (g : not (c .spelled) ≡ false) where
   pub numerals-start : Safe t c → Numerals wide t c b c true b
-  numerals-start h = record { items = items-start number 93 (number-avoids 93 tt) number-apart t g h (put-none (numeralForm wide) c b (h .room) refl); long = refl }
+  unfolding each
+  numerals-start h = record { items = items-start number 93 (number-avoids 93 tt) number-apart t g h (put-nothing b (keeps-same h) refl refl); long = refl }
 
   module _ {d : Cursor} {first : Bool} {out : List ℕ} (w : Numerals wide t c b d first out) where
     pub numerals-end : {x : ℕ} {r : Cursor} → Byte t (d .at) x → x ≡ 93 → Came d (d .at + 1) r → Step (all (numeral? wide)) (each (numeralForm wide)) numeralsParse t c b r out
@@ -182,20 +151,15 @@ module _ {t : List ℕ} {c r : Cursor} {b : List ℕ} (q : Passed (ascii "\"NONE
   unfolding value value? octetsOf expiryNumber
   expiry-none g = maybe-none natural q g (put-nothing b (q .keeps) refl refl)
 
-  module _ {n : Amount} {s : Cursor} {b′ : List ℕ} (g : r .spelled ≡ false) (x : NumberRead t c n) (d : Done (λ k. n .value ≡ capped k) long? four (n .cursor) b s b′) where
-    pub expiry-some : s .spelled ≡ true → ValueStep expiry t c b s b′
-    unfolding value value? octetsOf expiryNumber
-    expiry-some k = maybe-some natural q g (step-done (x .found) (x .keeps) d) k λ n h. put-as refl refl h
-
-    pub expiry-stop : {z : Cursor} → s .spelled ≡ false → Stopped c (cond (ltb (r .at) (s .at)) (s .at) (r .at)) z → c .to ≤ 65535 → ValueStep expiry t c b z b′
-    unfolding value value? octetsOf expiryNumber
-    expiry-stop k e h = maybe-stop natural q g (step-done (x .found) (x .keeps) d) k e h
+  pub expiry-some : {n : Amount} {s z : Cursor} {b′ : List ℕ} → r .spelled ≡ false → NumberRead t c n → Done (λ k. n .value ≡ capped k) long? four (n .cursor) b s b′ → Further (r .at) s z → ValueStep expiry t c b z b′
+  unfolding value value? octetsOf expiryNumber
+  expiry-some {b′ = b′} g x d f = maybe-some natural q (λ z. Put (value? expiry) (octetsOf expiry) c b z b′) g (found-done (x .found) (x .keeps) d) f λ n h. put-as refl refl h
 
 -- NSID
 pub hex-object : {t : List ℕ} {c r s z : Cursor} {b b′ : List ℕ} {h : Span} → Passed (ascii "{\"HEX\":\"") t c r → HexRead t r h → Done (HexRun t h) (λ l. true) (λ l. l) (h .cursor) b s b′
     → Passed (ascii "}") t s z → ValueStep hexObject t c b z b′
 unfolding value value? octetsOf
-hex-object q x d e = step-lit q (step-behind (step-done (x .found) (x .keeps) d) e)
+hex-object q x d e = step-lit q (step-behind (found-done (x .found) (x .keeps) d) e)
 
 -- ---- an object of a number and an end: its brace, or one more member and the brace
 -- the member and the brace
@@ -225,17 +189,13 @@ module _ {t : List ℕ} {c r : Cursor} {b : List ℕ} (q : Passed (ascii "}") t 
   pub error-none : r .spelled ≡ true → Step text? optional errorEnd t c b r b
   error-none g = maybe-none errorLast q g (put-nothing b (q .keeps) refl refl)
 
-  module _ {s : Cursor} {b′ : List ℕ} (g : r .spelled ≡ false) (y : ErrorText t c b s b′) where
-    pub error-some : s .spelled ≡ true → Step text? optional errorEnd t c b s b′
-    error-some k = maybe-some errorLast q g y k λ l h. put-as refl refl h
-
-    pub error-stop : {z : Cursor} → s .spelled ≡ false → Stopped c (cond (ltb (r .at) (s .at)) (s .at) (r .at)) z → c .to ≤ 65535 → Step text? optional errorEnd t c b z b′
-    error-stop k e h = maybe-stop errorLast q g y k e h
+  pub error-some : {s z : Cursor} {b′ : List ℕ} → r .spelled ≡ false → ErrorText t c b s b′ → Further (r .at) s z → Step text? optional errorEnd t c b z b′
+  error-some {b′ = b′} g y f = maybe-some errorLast q (λ z. Put text? optional c b z b′) g y f λ l h. put-as refl refl h
 
 pub extended-error : {t : List ℕ} {c r s z : Cursor} {b b₁ b₂ : List ℕ} {n : Amount} → Passed (ascii "{\"CODE\":") t c r → NumberRead t r n → Done (λ k. n .value ≡ capped k) word? two (n .cursor) b s b₁
     → Step text? optional errorEnd t s b₁ z b₂ → ValueStep extendedError t c b z b₂
 unfolding value value? octetsOf
-extended-error q x d y = step-lit q (step-pair (step-done (x .found) (x .keeps) d) y)
+extended-error q x d y = step-lit q (step-pair (found-done (x .found) (x .keeps) d) y)
 
 -- ---- PADDING
 -- i of n zero octets were written
@@ -259,30 +219,15 @@ module _ {n : ℕ} {b b₁ : List ℕ} {at r i : ℕ} (p : Zeroed n b at i b₁ 
 abbrev pub Zeros : ℕ → Cursor → List ℕ → Cursor → List ℕ → Type 0
 Zeros n = Done (λ k. n ≡ capped k) (λ k. true) (λ k. replicate k 0)
 
-module _ {n : ℕ} {c : Cursor} {b : List ℕ} where
-  pub zeros-over : {r : Cursor} → c .to ≤ 65535 → 65535 < n → Over c r → Zeros n c b r b
-  zeros-over {r} h k o = record {
-    at = o .at;
-    spelled = o .spelled;
-    room = omega (arith, o .to);
-    put = λ m e. record {
-      meant = o .meant ∙ sym (and-true (c .meant));
-      small = λ y. o .small ∙ rw (length-replicate {A = ℕ} m 0, lt-leb (c .to + m) 65535 (omega (arith, e))) (sym (and-false (c .small)));
-      wrote = λ y z. absurd (subst T (o .small) z);
-    };
-  }
+module _ {n : ℕ} {c r : Cursor} {b : List ℕ} (h : Held n c r) where
+  pub zeros-past : not (r .small) ≡ true → Zeros n c b r b
+  zeros-past z = done-past h z λ k e. rw (length-replicate {A = ℕ} k 0) (⊎-elim
+      (λ i. let m : k ≡ n = omega (arith, e) in rw m)
+      (λ i. lt-leb (c .to + k) 65535 (omega arith) ∙ sym (lt-leb (c .to + n) 65535 (omega (arith, e))))
+      (le-or-lt k 65535))
 
-  module _ {r : Cursor} (k : n ≤ 65535) (h : Held n c r) where
-    pub zeros-none : not (r .small) ≡ true → Zeros n c b r b
-    zeros-none z = record { at = h .at; spelled = h .spelled; room = h .room; put = λ m e. held-none h (length-replicate {A = ℕ} m 0 ∙ omega (arith, e)) (not-true (r .small) z) }
-
-    pub zeros-put : {b′ : List ℕ} {end : ℕ} → Wrote b (c .to) (replicate n 0) b′ end → Zeros n c b r b′
-    zeros-put {b′} {end} w = record {
-      at = h .at;
-      spelled = h .spelled;
-      room = h .room;
-      put = λ m e. let z : n ≡ m = omega (arith, e) in held-put h (length-replicate {A = ℕ} m 0 ∙ sym z) (subst (λ (i : ℕ). Wrote b (c .to) (replicate i 0) b′ end) z w);
-    }
+  pub zeros-put : {b′ : List ℕ} {end : ℕ} → not (r .small) ≡ false → Wrote b (c .to) (replicate n 0) b′ end → Zeros n c b r b′
+  zeros-put {b′} {end} z w = done-held h λ k e. let m : n ≡ k = omega (arith, e, held-room h z) in (length-replicate {A = ℕ} k 0 ∙ sym m, subst (λ (i : ℕ). Wrote b (c .to) (replicate i 0) b′ end) m w)
 
 -- the octets are as many as the number says, and not all zero
 pub record PaddingFits (t : List ℕ) (h : Span) (n : ℕ) (ok : Bool) : Type 0 where
@@ -324,12 +269,8 @@ module _ {n : ℕ} {t : List ℕ} {c r : Cursor} {b : List ℕ} (q : Passed (asc
   padding-zeros {s} {b′} g d = found-at (maybe-none paddingLast q {R = λ o. o ≡ none} g refl) (d .at) (d .spelled) (d .room)
       λ o e m v. put-as (rw e) (rw e) (put-from (q .keeps) (d .put m v))
 
-  module _ {s : Cursor} {b′ : List ℕ} (g : r .spelled ≡ false) (y : PaddingHex n t c b s b′) where
-    pub padding-some : s .spelled ≡ true → PaddingEnd n t c b s b′
-    padding-some k = maybe-some paddingLast q g y k λ l h m v. put-as refl refl (h m v)
-
-    pub padding-stop : {z : Cursor} → s .spelled ≡ false → Stopped c (cond (ltb (r .at) (s .at)) (s .at) (r .at)) z → c .to ≤ 65535 → PaddingEnd n t c b z b′
-    padding-stop k e h = maybe-stop paddingLast q g y k e h
+  pub padding-some : {s z : Cursor} {b′ : List ℕ} → r .spelled ≡ false → PaddingHex n t c b s b′ → Further (r .at) s z → PaddingEnd n t c b z b′
+  padding-some {b′ = b′} g y f = maybe-some paddingLast q (λ z o. (k : ℕ) → n ≡ capped k → Put (padding? k) (paddingOctets k) c b z b′ o) g y f λ l h m v. put-as refl refl (h m v)
 
 pub padding-value : {t : List ℕ} {c r z : Cursor} {b b′ : List ℕ} {n : Amount} → Passed (ascii "{\"LENGTH\":") t c r → NumberRead t r n → PaddingEnd (n .value) t (n .cursor) b z b′ → ValueStep padding t c b z b′
 unfolding value value? octetsOf
@@ -405,7 +346,8 @@ cookie-apart a r s h e = fronts tt e
 
 module _ {t : List ℕ} {c : Cursor} {b : List ℕ} (g : not (c .spelled) ≡ false) where
   pub cookies-start : Safe t c → Cookies t c b c true 0 b
-  cookies-start h = record { items = items-start cookieCodec 93 cookie-avoids cookie-apart t g h (put-none (λ h. h) c b (h .room) refl, refl); few = omega arith; long = refl }
+  unfolding each
+  cookies-start h = record { items = items-start cookieCodec 93 cookie-avoids cookie-apart t g h (put-nothing b (keeps-same h) refl refl, refl); few = omega arith; long = refl }
 
   module _ {d : Cursor} {first : Bool} {i : ℕ} {out : List ℕ} (w : Cookies t c b d first i out) where
     pub cookies-end : {x : ℕ} {r j : Cursor} → Byte t (d .at) x → x ≡ 93 → Came d (d .at + 1) r → Judged (ltb 0 i) r j → Step cookie? (each (λ h. h)) cookieParse t c b j out

@@ -1,8 +1,7 @@
 // The option members of the EDNS object and the EDNS element: read, judged and written. The definitions are in specs/.
 ghost use mathlib.Core.Path.{_≡_};
-ghost use mathlib.Core.Bool.{true, cond};
+ghost use mathlib.Core.Bool.{true};
 ghost use Prim.Native.Nat.{_+_, _^_, _<_, _≤_};
-ghost use lib.Dec.{ltb};
 ghost use lib.ListN.{replicate};
 ghost use Rattle.octets.specs.Lists.{all, each};
 ghost use Rattle.octets.specs.Decimal.{natural};
@@ -10,16 +9,14 @@ ghost use Rattle.octets.specs.Overlay.{Wrote};
 ghost use Rattle.options.specs.Options.{hexObject, octetList, expiry, hexList, padding, wordList, extendedError, formOf};
 ghost use Rattle.strict.specs.Members.{cookie?, text?, optional};
 ghost use Rattle.strict.specs.Parser.{optionMembers};
-ghost use Rattle.tokens.specs.Cursor.{Safe, Passed, Stopped};
+ghost use Rattle.tokens.specs.Cursor.{Safe, Passed};
 ghost use Rattle.tokens.specs.Step.{Step};
 ghost use Rattle.tokens.specs.Fields.{Done};
 ghost use Rattle.tokens.specs.Hex.{HexRun};
-ghost use Rattle.labels.specs.Place.{Byte};
-ghost use Rattle.members.specs.Placing.{Held};
 ghost use Rattle.members.specs.Items.{comma-of};
 ghost use Rattle.members.specs.Values.{Digits, sizeOf, numeral?, numeralForm, numeralsParse, ValueStep, part?, next-part, CookieStep, cookieParse, Zeros, PaddingFits, PaddingHex, PaddingEnd, ErrorText, errorEnd};
 ghost use Rattle.members.specs.Options.{NameRead, Fronted, KnownStep, OtherFits, codeOf, OtherHex, OtherRead, MemberRead, RisingRead, OptionsStep, membersParse};
-ghost use Rattle.members.specs.Element.{VersionRead, RcodeRead, fits?, OptFronted, EdnsStep};
+ghost use Rattle.members.specs.Element.{RcodeRead, fits?, OptFronted, EdnsStep};
 use digits::all_zero;
 use digits::has_shape;
 use digits::put_octets;
@@ -27,37 +24,28 @@ use labels::string;
 use octets::put;
 use octets::put_four;
 use octets::put_two;
-use tokens::Amount;
 use tokens::Cursor;
 use tokens::Row;
 use tokens::Span;
 use tokens::came;
 use tokens::flags;
+use tokens::further;
 use tokens::hex;
+use tokens::hold;
 use tokens::judge;
 use tokens::literal;
 use tokens::number;
+use tokens::octet_at;
 use tokens::option_name;
-use tokens::over;
 use tokens::put_long;
 use tokens::put_octet;
 use tokens::put_word;
 use tokens::rcode;
 use tokens::stop;
-
-// ---- places in the text and in the message
-// The octet at a place, or 0 past the end.
-fn octet_at(text: &[u8], at: usize) -> u8
-    ensures { λ r. ⌜ Byte (now (text .entry)) at r ⌝ }
-{
-    if at < text.len() {
-        return text[at];
-    }
-    0
-}
+use tokens::till;
 
 // The comma before an item; the first has none.
-fn comma(text: &[u8], c: Cursor, first: bool) -> Cursor
+pub fn comma(text: &[u8], c: Cursor, first: bool) -> Cursor
     requires { ⌜ Safe (now text) c ⌝ }
     ensures { λ r. ⌜ Passed (comma-of first) (now (text .entry)) c r ⌝ }
 {
@@ -67,37 +55,9 @@ fn comma(text: &[u8], c: Cursor, first: bool) -> Cursor
     literal(text, c, b",")
 }
 
-// Of two places where readers stopped, the reader stops at the further one.
-fn further(c: Cursor, a: usize, b: usize) -> Cursor
-    ensures { λ r. ⌜ Stopped c (cond (ltb a b) b a) r ⌝ }
-{
-    if a < b {
-        return stop(c, b);
-    }
-    stop(c, a)
-}
-
-// Holds places for n octets of the message, unless they go past its limit.
-fn hold(c: Cursor, n: usize) -> Cursor
-    requires { ⌜ (c .to ≤ 65535) × (n ≤ 65535) ⌝ }
-    ensures { λ r. ⌜ Held n c r ⌝ }
-{
-    let to = c.to + n;
-    if to > 65535 {
-        return over(c);
-    }
-    Cursor {
-        at: c.at,
-        to: to,
-        spelled: c.spelled,
-        meant: c.meant,
-        small: c.small,
-    }
-}
-
 // ---- octets in hexadecimal
 // How many octets the digits between two places are.
-fn size_of(h: Span) -> usize
+pub fn size_of(h: Span) -> usize
     ensures { λ r. ⌜ r ≡ sizeOf h ⌝ }
 {
     let from = h.from;
@@ -109,15 +69,14 @@ fn size_of(h: Span) -> usize
 }
 
 // Writes the octets of the digits that were read, unless they go past the limit.
-fn put_hex(text: &[u8], h: Span, c: Cursor, out: &mut [u8]) -> Cursor
+pub fn put_hex(text: &[u8], h: Span, c: Cursor, out: &mut [u8]) -> Cursor
     requires { ⌜ Digits (now text) h × (c .to ≤ 65535) ⌝ }
     ensures { λ r. ⌜ Done (HexRun (now (text .entry)) h) (λ l. true) (λ l. l) c (now (out .entry)) r (now (out .exit)) ⌝ }
 {
-    let size = size_of(h);
-    if size > 65535 {
-        return over(c);
+    let r = hold(c, size_of(h));
+    if !r.small {
+        return r;
     }
-    let r = hold(c, size);
     let from = h.from;
     let end = h.end;
     let to = c.to;
@@ -145,22 +104,19 @@ fn numerals(text: &[u8], c: Cursor, wide: bool, out: &mut [u8]) -> Cursor
     requires { ⌜ Safe (now text) c ⌝ }
     ensures { λ r. ⌜ Step (all (numeral? wide)) (each (numeralForm wide)) numeralsParse (now (text .entry)) c (now (out .entry)) r (now (out .exit)) ⌝ }
 {
-    let spelled = c.spelled;
-    if !spelled {
+    if !c.spelled {
         return c;
     }
     let mut d = c;
     let mut first = true;
     loop {
         let at = d.at;
-        let x = octet_at(text, at);
-        if x == b']' {
+        if octet_at(text, at) == b']' {
             return came(d, at + 1);
         }
         let next = comma(text, d, first);
         d = numeral(text, next, wide, out);
-        let more = d.spelled;
-        if !more {
+        if !d.spelled {
             return d;
         }
         first = false;
@@ -202,17 +158,11 @@ fn expiry(text: &[u8], c: Cursor, out: &mut [u8]) -> Cursor
     ensures { λ r. ⌜ ValueStep expiry (now (text .entry)) c (now (out .entry)) r (now (out .exit)) ⌝ }
 {
     let none = literal(text, c, b"\"NONE\"");
-    let no_number = none.spelled;
-    if no_number {
+    if none.spelled {
         return none;
     }
     let n = number(text, c);
-    let some = put_long(n.cursor, n.value, out);
-    let spelled = some.spelled;
-    if spelled {
-        return some;
-    }
-    further(c, none.at, some.at)
+    further(put_long(n.cursor, n.value, out), none.at)
 }
 
 // ---- COOKIE
@@ -249,8 +199,7 @@ fn cookie_string(text: &[u8], c: Cursor, i: usize, out: &mut [u8]) -> Cursor
     let open = literal(text, c, b"\"");
     let h = hex(text, open);
     let d = put_hex(text, h, h.cursor, out);
-    let size = size_of(h);
-    judge(d, cookie_part(i, size))
+    judge(d, cookie_part(i, size_of(h)))
 }
 
 // Strings with commas between, and the bracket behind them.
@@ -258,8 +207,7 @@ fn cookie_strings(text: &[u8], c: Cursor, out: &mut [u8]) -> Cursor
     requires { ⌜ Safe (now text) c ⌝ }
     ensures { λ r. ⌜ Step cookie? (each (λ h. h)) cookieParse (now (text .entry)) c (now (out .entry)) r (now (out .exit)) ⌝ }
 {
-    let spelled = c.spelled;
-    if !spelled {
+    if !c.spelled {
         return c;
     }
     let mut d = c;
@@ -267,14 +215,12 @@ fn cookie_strings(text: &[u8], c: Cursor, out: &mut [u8]) -> Cursor
     let mut i = 0;
     loop {
         let at = d.at;
-        let x = octet_at(text, at);
-        if x == b']' {
+        if octet_at(text, at) == b']' {
             return judge(came(d, at + 1), i > 0);
         }
         let next = comma(text, d, first);
         d = cookie_string(text, next, i, out);
-        let more = d.spelled;
-        if !more {
+        if !d.spelled {
             return d;
         }
         first = false;
@@ -310,12 +256,8 @@ fn zeros(c: Cursor, n: u64, out: &mut [u8]) -> Cursor
     requires { ⌜ c .to ≤ 65535 ⌝ }
     ensures { λ r. ⌜ Zeros n c (now (out .entry)) r (now (out .exit)) ⌝ }
 {
-    if n > 65535 {
-        return over(c);
-    }
     let r = hold(c, n as usize);
-    let small = r.small;
-    if !small {
+    if !r.small {
         return r;
     }
     let to = c.to;
@@ -328,14 +270,12 @@ fn padding_fits(text: &[u8], h: Span, n: u64) -> bool
     requires { ⌜ Digits (now text) h ⌝ }
     ensures { λ r. ⌜ PaddingFits (now (text .entry)) h n r ⌝ }
 {
-    let size = size_of(h);
-    if n != size as u64 {
+    if n != size_of(h) as u64 {
         return false;
     }
     let from = h.from;
     let end = h.end;
-    let zero = all_zero(&text[from..end]);
-    !zero
+    !all_zero(&text[from..end])
 }
 
 fn padding_hex(text: &[u8], c: Cursor, n: u64, out: &mut [u8]) -> Cursor
@@ -345,8 +285,7 @@ fn padding_hex(text: &[u8], c: Cursor, n: u64, out: &mut [u8]) -> Cursor
     let open = literal(text, c, b",\"HEX\":\"");
     let h = hex(text, open);
     let d = put_hex(text, h, h.cursor, out);
-    let ok = padding_fits(text, h, n);
-    literal(text, judge(d, ok), b"}")
+    literal(text, judge(d, padding_fits(text, h, n)), b"}")
 }
 
 // The end of the object: n zero octets where there is no HEX.
@@ -355,16 +294,10 @@ fn padding_end(text: &[u8], c: Cursor, n: u64, out: &mut [u8]) -> Cursor
     ensures { λ r. ⌜ PaddingEnd n (now (text .entry)) c (now (out .entry)) r (now (out .exit)) ⌝ }
 {
     let none = literal(text, c, b"}");
-    let no_hex = none.spelled;
-    if no_hex {
+    if none.spelled {
         return zeros(none, n, out);
     }
-    let some = padding_hex(text, c, n, out);
-    let spelled = some.spelled;
-    if spelled {
-        return some;
-    }
-    further(c, none.at, some.at)
+    further(padding_hex(text, c, n, out), none.at)
 }
 
 fn padding(text: &[u8], c: Cursor, out: &mut [u8]) -> Cursor
@@ -393,16 +326,10 @@ fn error_end(text: &[u8], c: Cursor, out: &mut [u8]) -> Cursor
     ensures { λ r. ⌜ Step text? optional errorEnd (now (text .entry)) c (now (out .entry)) r (now (out .exit)) ⌝ }
 {
     let none = literal(text, c, b"}");
-    let no_text = none.spelled;
-    if no_text {
+    if none.spelled {
         return none;
     }
-    let some = error_text(text, c, out);
-    let spelled = some.spelled;
-    if spelled {
-        return some;
-    }
-    further(c, none.at, some.at)
+    further(error_text(text, c, out), none.at)
 }
 
 fn extended_error(text: &[u8], c: Cursor, out: &mut [u8]) -> Cursor
@@ -513,8 +440,7 @@ fn other_hex(text: &[u8], c: Cursor, n: u64, out: &mut [u8]) -> Cursor
     let held = hold(d, 4);
     let v = put_hex(text, h, held, out);
     let r = judge(v, other_fits(text, h, n));
-    let code = code_of(n);
-    let _end = put_front(out, d.to, r.to, code);
+    let _end = put_front(out, d.to, r.to, code_of(n));
     r
 }
 
@@ -540,32 +466,18 @@ pub fn member(text: &[u8], c: Cursor, out: &mut [u8]) -> Coded
 {
     let n = member_name(text, c);
     let d = n.cursor;
-    let code = n.key;
-    let named = d.spelled;
-    if named {
-        let v = known(text, d, code, out);
-        let spelled = v.spelled;
-        if spelled {
-            return Coded {
-                cursor: v,
-                code: code,
-            };
-        }
+    if d.spelled {
+        let v = known(text, d, n.key, out);
         let o = literal(text, c, b"\"OPT");
         return Coded {
-            cursor: further(c, v.at, o.at),
-            code: code,
+            cursor: further(v, o.at),
+            code: n.key,
         };
     }
     let o = other(text, c, out);
-    let e = o.cursor;
-    let spelled = e.spelled;
-    if spelled {
-        return o;
-    }
     Coded {
-        cursor: further(c, d.at, e.at),
-        code: code,
+        cursor: further(o.cursor, d.at),
+        code: o.code,
     }
 }
 
@@ -588,26 +500,22 @@ fn option_members(text: &[u8], c: Cursor, out: &mut [u8]) -> Cursor
     requires { ⌜ Safe (now text) c ⌝ }
     ensures { λ r. ⌜ OptionsStep membersParse (now (text .entry)) c (now (out .entry)) r (now (out .exit)) ⌝ }
 {
-    let spelled = c.spelled;
-    if !spelled {
+    if !c.spelled {
         return c;
     }
     let mut d = c;
     let mut least = 0;
     loop {
         let at = d.at;
-        let x = octet_at(text, at);
-        if x == b'}' {
+        if octet_at(text, at) == b'}' {
             return came(d, at + 1);
         }
         let m = rising_member(text, d, least, out);
         d = m.cursor;
-        let more = d.spelled;
-        if !more {
+        if !d.spelled {
             return d;
         }
-        let code = m.code;
-        least = code as u64 + 1;
+        least = m.code as u64 + 1;
     }
 }
 
@@ -621,19 +529,6 @@ pub fn options(text: &[u8], c: Cursor, out: &mut [u8]) -> Cursor
 }
 
 // ---- the EDNS element
-// Version, and the title of FLAGS.
-fn version(text: &[u8], c: Cursor) -> Amount
-    requires { ⌜ Safe (now text) c ⌝ }
-    ensures { λ r. ⌜ VersionRead (now (text .entry)) c r ⌝ }
-{
-    let n = number(text, c);
-    let close = literal(text, n.cursor, b",\"FLAGS\":");
-    Amount {
-        cursor: close,
-        value: n.value,
-    }
-}
-
 // RCODE with its title, and the title of UDPSIZE.
 fn full_rcode(text: &[u8], c: Cursor) -> Row
     requires { ⌜ Safe (now text) c ⌝ }
@@ -684,7 +579,7 @@ pub fn edns(text: &[u8], c: Cursor, rcode: u32, out: &mut [u8]) -> Cursor
     requires { ⌜ Safe (now text) c ⌝ }
     ensures { λ r. ⌜ EdnsStep rcode (now (text .entry)) c (now (out .entry)) r (now (out .exit)) ⌝ }
 {
-    let v = version(text, c);
+    let v = till(text, c, b",\"FLAGS\":");
     let f = flags(text, v.cursor);
     let x = full_rcode(text, f.cursor);
     let s = number(text, x.cursor);

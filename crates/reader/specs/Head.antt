@@ -6,36 +6,24 @@ use Prim.Native.Nat.{ℕ, _+_, _*_, _%_, _≤_}
 use native.Mathlib.Omega.{arith}
 use borrow.Author.Tests.{lt-ltb, le-ltb}
 use lib.Dec.{T, ltb, ltb→lt, nltb→le}
-use Rattle.octets.specs.Lists.{word?}
+use Rattle.octets.specs.Lists.{ascii, word?}
 use Rattle.octets.specs.Fields.{two}
 use Rattle.octets.specs.Bits.{and-left, and-right}
-use Rattle.octets.specs.Parsed.{Parsed, took, and-then, strip}
-use Rattle.octets.specs.Lists.{ascii}
+use Rattle.octets.specs.Parsed.{Parsed}
 use Rattle.octets.specs.Codec.{_⊗_}
-use Rattle.octets.specs.Decimal.{natural, number, till}
+use Rattle.octets.specs.Decimal.{number, till}
 use Rattle.records.specs.Message.{bit?, four-bits?}
 use Rattle.tokens.specs.declared.Cursor.{Cursor}
 use Rattle.tokens.specs.declared.Amount.{Amount}
 use Rattle.tokens.specs.Cursor.{Keeps, keeps-then, Passed}
-use Rattle.tokens.specs.Step.{Found, found-as, found-lit, found-map, found-behind, found-pair, found-at, Put, put-then, put-from, put-as, Judged, Emits}
-use Rattle.tokens.specs.Number.{capped, NumberRead}
-use Rattle.tokens.specs.Fields.{Done}
+use Rattle.tokens.specs.Step.{Found, found-as, found-lit, found-map, found-pair, found-at, Put, put-from, put-as, Judged, Emits}
+use Rattle.tokens.specs.Number.{capped, NumberRead, TillRead}
+use Rattle.tokens.specs.Fields.{Done, done-then}
 use Rattle.strict.specs.Parser.{Head, head}
 use Rattle.entries.specs.Meant.{highMeant?, highOctet, lowMeant?, lowOctet, headMeant?, headOctets}
 use Rattle.reader.specs.declared.head.Flags.{Flags}
 use Rattle.reader.specs.declared.head.Counts.{Counts}
 use Rattle.reader.specs.declared.head.Header.{Header}
-
--- ---- a number and a title
-abbrev pub tillParse : List ℕ → List ℕ → Parsed ℕ
-tillParse title w = and-then (natural w) λ a w. and-then (strip title w) λ u r. took a r
-
-pub record TillRead (title t : List ℕ) (c : Cursor) (r : Amount) : Type 0 where
-  pub found : Found (tillParse title) (λ n. r .value ≡ capped n) t c (r .cursor)
-  pub keeps : Keeps t c (r .cursor)
-
-pub till-read : {title t : List ℕ} {c d : Cursor} {n : Amount} → NumberRead t c n → Passed title t (n .cursor) d → TillRead title t c (record { cursor = d; value = n .value })
-till-read x q = record { found = found-behind (x .found) q; keeps = keeps-then (x .keeps) (q .keeps) }
 
 -- ---- the flags
 abbrev pub Five : Type 0
@@ -106,9 +94,6 @@ bit-in n h = omega (arith, ltb→lt n 2 h)
 four-bits-in : (n : ℕ) → T (four-bits? n) → capped n % 16 ≡ n
 four-bits-in n h = omega (arith, ltb→lt n 16 h)
 
-capFive : Five → Five
-capFive (a, (b, (c, (d, e)))) = (capped a, (capped b, (capped c, (capped d, capped e))))
-
 high-kept : {c : Cursor} {r : Flags} (a b d e f : ℕ) → HighBits c (capped a, (capped b, (capped d, (capped e, capped f)))) r → Kept highMeant? highOctet r (a, (b, (d, (e, f))))
 high-kept a b d e f x = (x .fits ∙ same, λ t. let h = subst T (x .fits ∙ same) t in x .octet ∙ octet h)
   where
@@ -177,12 +162,6 @@ counts-read v w x y = record {
 }
 
 -- ---- what is written
--- one thing after another, at the same place of the text
-pub done-then : {A B : Type 0} {P : A → Type 0} {Q : B → Type 0} {ok : A → Bool} {ok′ : B → Bool} {wire : A → List ℕ} {wire′ : B → List ℕ} {c r s : Cursor} {b b′ b″ : List ℕ}
-    → Done P ok wire c b r b′ → Done Q ok′ wire′ r b′ s b″
-    → Done {A = A × B} (λ u. P (u .0) × Q (u .1)) (λ u. ok (u .0) && ok′ (u .1)) (λ u. wire (u .0) ++ wire′ (u .1)) c b s b″
-done-then p q = record { at = q .at ∙ p .at; spelled = q .spelled ∙ p .spelled; room = q .room; put = λ u h. put-then (p .put (u .0) (h .0)) (q .put (u .1) (h .1)) }
-
 abbrev pub PutFlags : Flags → Flags → Cursor → List ℕ → Cursor → List ℕ → Type 0
 PutFlags high low = Done {A = Five × Four} (λ u. Kept highMeant? highOctet high (u .0) × Kept lowMeant? lowOctet low (u .1)) (λ u. highMeant? (u .0) && lowMeant? (u .1)) (λ u. highOctet (u .0) ∷ lowOctet (u .1) ∷ [])
 

@@ -16,7 +16,7 @@ use Rattle.strict.specs.Parser.{Head, document}
 use Rattle.strict.specs.Meaning.{counts?}
 use Rattle.tokens.specs.declared.Cursor.{Cursor}
 use Rattle.tokens.specs.Cursor.{Passed}
-use Rattle.tokens.specs.Step.{then-then, Found, found-as, found-lit, found-map, found-behind, found-pair, found-at, Put, put-then, put-from, put-to, put-as, Step, Judged}
+use Rattle.tokens.specs.Step.{then-then, Found, found-as, found-lit, found-map, found-behind, found-pair, found-at, Put, put-then, put-from, put-to, put-as, put-judged, Step, Judged}
 use Rattle.tokens.specs.Leaf.{found-same}
 use Rattle.tokens.specs.Number.{capped}
 use Rattle.entries.specs.declared.Element.{Element}
@@ -65,17 +65,6 @@ lone-same n = go (eqb n 1) refl
     go true e = eq-eqb (limited n) 1 (omega (arith, eqb→eq n 1 (subst T (sym e) tt)))
     go false e = ne-eqb (limited n) 1 (λ d. eqb-false n 1 e (omega (arith, d)))
 
-put-judged : {A : Type 0} {ok : A → Bool} {wire : A → List ℕ} {c r s : Cursor} {b b′ : List ℕ} {f : Bool} {a : A} → Put ok wire c b r b′ a → Judged f r s → Put (λ a. ok a && f) wire c b s b′ a
-put-judged {ok = ok} {c = c} {r = r} {f = f} {a = a} p j = record {
-  meant = j .meant ∙ ap (λ x. x && f) (p .meant) ∙ and-assoc (c .meant) (ok a) f;
-  small = λ m. j .small ∙ p .small (and-left (r .meant) f (subst T (j .meant) m));
-  wrote = λ m n. rw (j .to) (p .wrote (and-left (r .meant) f (subst T (j .meant) m)) (subst T (j .small) n));
-}
-  where
-    and-assoc : (a b c : Bool) → (a && b) && c ≡ a && (b && c)
-    and-assoc true b c = refl
-    and-assoc false b c = refl
-
 -- ---- the whole
 abbrev Parts : Type 0
 Parts = Head × (List Question × (List RecordItem × (List RecordItem × List Item)))
@@ -116,7 +105,7 @@ module _ {t b b₁ b₂ b₃ b₄ b₅ : List ℕ} {h : Header} {q a n r : Secti
       told : (u : Parts) → (Put headMeant? headOctets start b (h .cursor) b₁ (u .0) × Told h (u .0)) × (SectionFacts Questions (h .rcode) (h .cursor) b₁ q b₂ (u .1 .0)
           × (SectionFacts Records (h .rcode) (q .cursor) b₂ a b₃ (u .1 .1 .0) × (SectionFacts Records (h .rcode) (a .cursor) b₃ n b₄ (u .1 .1 .1 .0) × SectionFacts Additionals (h .rcode) (n .cursor) b₄ r b₅ (u .1 .1 .1 .1))))
           → Put documentMeant? documentOctets start b d b₅ (documentFrom u)
-      told u k = put-as judged refl (put-judged all-put j)
+      told u k = put-as judged refl (put-judged {ok′ = λ u. partsMeant? (h .rcode) u && f} all-put j refl)
         where
           all-put : Put {A = Parts} (partsMeant? (h .rcode)) partsOctets start b e b₅ u
           all-put = put-as refl refl (put-then (k .0 .0) (put-then (k .1 .0 .put) (put-then (k .1 .1 .0 .put) (put-then (k .1 .1 .1 .0 .put) (put-to (k .1 .1 .1 .1 .put) (l .keeps))))))

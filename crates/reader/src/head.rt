@@ -1,16 +1,15 @@
 // The head of a text: the header's numbers and the counts.
-ghost use mathlib.Core.Path.{_≡_};
-ghost use mathlib.Core.Bool.{_&&_};
 ghost use Prim.Native.Nat.{_≤_, _<_};
 ghost use Rattle.tokens.specs.Cursor.{Safe};
-ghost use Rattle.reader.specs.Head.{TillRead, HighBits, LowBits, HighRead, LowRead, CountsRead, PutFlags, PutCounts, HeadRead};
-use tokens::Amount;
+ghost use Rattle.reader.specs.Head.{HighBits, LowBits, HighRead, LowRead, CountsRead, PutFlags, PutCounts, HeadRead};
 use tokens::Cursor;
+use tokens::both;
 use tokens::emit;
 use tokens::judge;
 use tokens::literal;
 use tokens::number;
 use tokens::put_word;
+use tokens::till;
 
 // The flags of an octet of the header: the octet, and whether each is in range.
 pub struct Flags {
@@ -32,25 +31,6 @@ pub struct Header {
     pub cursor: Cursor,
     pub rcode: u32,
     pub counts: Counts,
-}
-
-// A number and the title of the member behind it.
-fn till(text: &[u8], c: Cursor, title: &[u8]) -> Amount
-    requires { ⌜ Safe (now text) c ⌝ }
-    ensures { λ r. ⌜ TillRead (now (title .entry)) (now (text .entry)) c r ⌝ }
-{
-    let n = number(text, c);
-    Amount {
-        cursor: literal(text, n.cursor, title),
-        value: n.value,
-    }
-}
-
-// Both tests hold.
-pub fn both(a: bool, b: bool) -> bool
-    ensures { λ r. ⌜ r ≡ (a && b) ⌝ }
-{
-    a && b
 }
 
 fn high_bits(c: Cursor, qr: u64, opcode: u64, aa: u64, tc: u64, rd: u64) -> Flags

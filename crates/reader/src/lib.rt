@@ -3,7 +3,6 @@ ghost use mathlib.Core.Path.{_≡_};
 ghost use Rattle.entries.specs.Meant.{documentMeant?, documentOctets};
 ghost use Rattle.strict.specs.Parser.{document};
 ghost use Rattle.tokens.specs.Step.{Step};
-ghost use mathlib.Core.Bool.{_||_};
 ghost use Prim.Native.Nat.{_<_};
 ghost use Rattle.tokens.specs.Cursor.{Safe};
 ghost use Rattle.reader.specs.Whole.{start, ArrayRead, agreement, settledSection};
@@ -13,10 +12,11 @@ use entries::Element;
 use entries::Section;
 use entries::read_section;
 use head::Counts;
-use head::both;
 use head::head;
 use octets::Outcome;
 use tokens::Cursor;
+use tokens::both;
+use tokens::either;
 use tokens::judge;
 use tokens::literal;
 
@@ -60,12 +60,6 @@ fn settled(section: Section) -> bool
     let shown = section.shown;
     let hidden = section.hidden;
     both(either(!shown, lone), !both(hidden, lone))
-}
-
-fn either(a: bool, b: bool) -> bool
-    ensures { λ r. ⌜ r ≡ (a || b) ⌝ }
-{
-    a || b
 }
 
 // Reads the text from its first octet on.

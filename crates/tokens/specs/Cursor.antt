@@ -1,14 +1,12 @@
 -- Where the reader is in a text, and what a reader shows of its way from one place to the next. Assumes nothing.
 use mathlib.Core.Path.{_≡_, refl, sym, _∙_, subst}
 use mathlib.Core.Bool.{Bool, true, false, not}
-use mathlib.Core.List.{List, _∷_}
+use mathlib.Core.List.{List}
 use Prim.Native.Nat.{ℕ, _+_, _≤_, _<_}
-use native.Mathlib.Numerals.{add-one}
 use native.Mathlib.Omega.{arith}
 use borrow.Author.Tests.{eq-eqb, ne-eqb, not-true, not-false}
 use lib.Dec.{T}
 use lib.ListN.{length, drop, getD, drop-of-length-le}
-use lib.Seq.{drop-cons}
 use Rattle.octets.specs.Parsed.{Parsed, took, stuck, and-then, strip}
 use Rattle.octets.specs.Fields.{drop-one}
 use Rattle.tokens.specs.declared.Cursor.{Cursor}

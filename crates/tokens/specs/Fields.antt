@@ -1,24 +1,23 @@
 -- Numbers of one, two and four octets, judged and written. Assumes nothing.
-use mathlib.Core.Path.{_≡_, refl, sym, _∙_, subst}
-use mathlib.Core.Bool.{Bool, true, false, not, _&&_}
-use mathlib.Core.List.{List, [], _∷_}
-use Prim.Native.Nat.{ℕ, _≤_, _<_}
+use mathlib.Core.Path.{_≡_, sym, _∙_, ap, subst}
+use mathlib.Core.Bool.{Bool, true, false, not, _&&_, and-true}
+use mathlib.Core.List.{List, [], _∷_, _++_}
+use Prim.Native.Nat.{ℕ, _+_, _≤_, _<_}
 use native.Mathlib.Omega.{arith}
 use borrow.Author.Tests.{lt-ltb, le-ltb, not-true, not-false}
-use lib.Dec.{T}
+use lib.Dec.{T, leb}
+use lib.ListN.{length}
 use Rattle.octets.specs.Lists.{octet?, word?, long?}
+use Rattle.octets.specs.Bits.{and-right}
 use Rattle.octets.specs.Parsed.{Parsed}
-use Rattle.octets.specs.Decimal.{natural}
 use Rattle.octets.specs.Fields.{two, four}
-use Rattle.strict.specs.Spelt.{signedNumber}
+use Rattle.octets.specs.Overlay.{Wrote}
 use Rattle.strict.specs.Meaning.{ttl?, unsigned}
 use Rattle.tokens.specs.declared.Cursor.{Cursor}
-use Rattle.tokens.specs.declared.Amount.{Amount}
-use Rattle.tokens.specs.declared.Ttl.{Ttl}
 use Rattle.tokens.specs.Cursor.{Keeps}
-use Rattle.tokens.specs.Step.{Found, found-at, Put, put-from, Step, Emits, Judged}
-use Rattle.tokens.specs.Number.{capped, NumberRead}
-use Rattle.tokens.specs.Signed.{Kept, SignedRead}
+use Rattle.tokens.specs.Step.{Found, found-at, Put, put-then, put-from, Step, Held, Emits, Judged}
+use Rattle.tokens.specs.Number.{capped}
+use Rattle.tokens.specs.Signed.{Kept}
 
 -- what was read was judged and written, for every value that it may have been
 pub record Done {A : Type 0} (P : A → Type 0) (ok : A → Bool) (wire : A → List ℕ) (c : Cursor) (b : List ℕ) (r : Cursor) (b′ : List ℕ) : Type 0 where
@@ -36,14 +35,10 @@ module _ {A : Type 0} {P : A → Type 0} {ok : A → Bool} {wire : A → List �
     room = omega (arith, j .to);
     put = λ a p. record {
       meant = rw (out a p) (j .meant);
-      small = λ k. absurd (none (c .meant) (subst T (j .meant) k));
-      wrote = λ k. absurd (none (c .meant) (subst T (j .meant) k));
+      small = λ k. absurd (and-right (c .meant) false (subst T (j .meant) k));
+      wrote = λ k. absurd (and-right (c .meant) false (subst T (j .meant) k));
     };
   }
-    where
-      none : (x : Bool) → T (x && false) → ⊥
-      none true k = k
-      none false k = k
 
   -- in range: these octets
   done-in : {xs : List ℕ} → ((a : A) → P a → (ok a ≡ true) × (wire a ≡ xs)) → Emits xs c b r b′ → Done P ok wire c b r b′
@@ -57,10 +52,30 @@ module _ {A : Type 0} {P : A → Type 0} {ok : A → Bool} {wire : A → List �
       wrote = λ k l. rw (fits a p .1) (e .wrote l);
     };
   }
-    where
-      and-true : (x : Bool) → x && true ≡ x
-      and-true true = refl
-      and-true false = refl
+
+-- octets for which n places were held: past the limit, or written
+module _ {A : Type 0} {P : A → Type 0} {wire : A → List ℕ} {n : ℕ} {c r : Cursor} (h : Held n c r) {b : List ℕ} where
+  pub done-past : not (r .small) ≡ true → ((a : A) → P a → leb (c .to + length (wire a)) 65535 ≡ leb (c .to + n) 65535) → Done P (λ a. true) wire c b r b
+  done-past e same = record {
+    at = h .at;
+    spelled = h .spelled;
+    room = h .room;
+    put = λ a p. record {
+      meant = h .meant ∙ sym (and-true (c .meant));
+      small = λ k. h .small ∙ ap (λ x. c .small && x) (sym (same a p));
+      wrote = λ k s. absurd (subst T (not-true (r .small) e) s);
+    };
+  }
+
+  pub done-held : {b′ : List ℕ} {e : ℕ} → ((a : A) → P a → (length (wire a) ≡ n) × Wrote b (c .to) (wire a) b′ e) → Done P (λ a. true) wire c b r b′
+  done-held w = record {
+    at = h .at;
+    spelled = h .spelled;
+    room = h .room;
+    put = λ a p.
+        let l = w a p .0 in
+        record { meant = h .meant ∙ sym (and-true (c .meant)); small = λ k. rw l (h .small); wrote = λ k s. record { place = h .to s ∙ rw l; text = w a p .1 .text } };
+  }
 
 module _ {v : ℕ} {c r : Cursor} {b b′ : List ℕ} where
   pub octet-out : c .to ≤ 65535 → 255 < v → Judged false c r → Done (λ n. v ≡ capped n) octet? (λ n. n ∷ []) c b r b′
@@ -93,10 +108,8 @@ module _ {A : Type 0} {ok : A → Bool} {wire : A → List ℕ} {t b b′ : List
   pub found-done : {P : A → Type 0} {p : List ℕ → Parsed A} {r : Cursor} → Found p P t c r → Keeps t c r → Done P ok wire r b s b′ → Step ok wire p t c b s b′
   found-done x k d = found-at x (d .at) (d .spelled) (d .room) λ a h. put-from k (d .put a h)
 
-pub number-done : {ok : ℕ → Bool} {wire : ℕ → List ℕ} {t b b′ : List ℕ} {c s : Cursor} {r : Amount}
-    → NumberRead t c r → Done (λ n. r .value ≡ capped n) ok wire (r .cursor) b s b′ → Step ok wire natural t c b s b′
-number-done x d = found-done (x .found) (x .keeps) d
-
-pub signed-done : {t b b′ : List ℕ} {c s : Cursor} {r : Ttl}
-    → SignedRead t c r → Done (Kept (r .fits) (r .bits)) ttl? (λ s. four (unsigned s)) (r .cursor) b s b′ → Step ttl? (λ s. four (unsigned s)) (signedNumber .parse) t c b s b′
-signed-done x d = found-done (x .found) (x .keeps) d
+-- one thing after another, at the same place of the text
+pub done-then : {A B : Type 0} {P : A → Type 0} {Q : B → Type 0} {ok : A → Bool} {ok′ : B → Bool} {wire : A → List ℕ} {wire′ : B → List ℕ} {c r s : Cursor} {b b′ b″ : List ℕ}
+    → Done P ok wire c b r b′ → Done Q ok′ wire′ r b′ s b″
+    → Done {A = A × B} (λ u. P (u .0) × Q (u .1)) (λ u. ok (u .0) && ok′ (u .1)) (λ u. wire (u .0) ++ wire′ (u .1)) c b s b″
+done-then p q = record { at = q .at ∙ p .at; spelled = q .spelled ∙ p .spelled; room = q .room; put = λ u h. put-then (p .put (u .0) (h .0)) (q .put (u .1) (h .1)) }

@@ -1,7 +1,7 @@
 -- How a reader that goes by its own tests shows what it found. Assumes nothing.
 use mathlib.Core.Path.{_≡_, refl, sym, _∙_, ap, subst}
 use mathlib.Core.Bool.{Bool, true, false, cond}
-use mathlib.Core.List.{List, [], _∷_}
+use mathlib.Core.List.{List, [], _∷_, _++_}
 use Prim.Native.Nat.{ℕ, _≤_}
 use native.Mathlib.Omega.{arith}
 use lib.Dec.{eqb}
@@ -9,7 +9,7 @@ use lib.ListN.{length, drop}
 use Rattle.octets.specs.Parsed.{Parsed, took, stuck, and-then, strip, strip-sound, strip-back, held, took≢stuck}
 use Rattle.tokens.specs.declared.Cursor.{Cursor}
 use Rattle.tokens.specs.Cursor.{left-of, Safe, Passed, Came, Stopped, went-keeps, Reads, stopped, taken, reads-took, reads-stop}
-use Rattle.tokens.specs.Step.{Found, moves, found-lit}
+use Rattle.tokens.specs.Step.{then-then, Found, moves, found-lit}
 
 module _ {A : Type 0} {P : A → Type 0} {p : List ℕ → Parsed A} {t : List ℕ} {c r : Cursor} where
   -- it took a value, and came to place n
@@ -52,6 +52,23 @@ module _ {l t : List ℕ} {c r : Cursor} (q : Passed l t c r) where
 
   pub passed-stop : r .spelled ≡ false → c .spelled ≡ true → strip l (drop (c .at) t) ≡ stuck (drop (r .at) t)
   passed-stop g h = sym (rw (g, h) at (q .left))
+
+-- fixed octets in two parts, taken at once
+strip-append : (l m w : List ℕ) → strip (l ++ m) w ≡ and-then (strip l w) (λ u r. strip m r)
+strip-append [] m w = refl
+strip-append (x ∷ l) m [] = refl
+strip-append (x ∷ l) m (y ∷ w) = go (eqb x y) (strip-append l m w)
+  where
+    go : (b : Bool) → strip (l ++ m) w ≡ and-then (strip l w) (λ u r. strip m r)
+        → cond b (strip (l ++ m) w) (stuck (y ∷ w)) ≡ and-then (cond b (strip l w) (stuck (y ∷ w))) (λ u r. strip m r)
+    go true e = e
+    go false e = refl
+
+pub found-lits : {A : Type 0} {P : A → Type 0} {p : List ℕ → Parsed A} {t : List ℕ} {c r s : Cursor} (l m : List ℕ) → Passed (l ++ m) t c r → Found p P t r s
+    → Found (λ w. and-then (strip l w) λ u w. and-then (strip m w) λ v r. p r) P t c s
+found-lits {p = p} {t = t} {c = c} l m q x =
+    let w = drop (c .at) t in
+    found-same _ (λ g. ap (λ (o : Parsed (Unit {0})). and-then o λ v r. p r) (strip-append l m w) ∙ then-then (strip l w) (λ u r. strip m r) (λ v r. p r)) (found-lit q x)
 
 -- one octet: it stands there, or the reader stops before it
 pub strip-first : (x : ℕ) (w r : List ℕ) → strip (x ∷ []) w ≡ took tt r → w ≡ x ∷ r

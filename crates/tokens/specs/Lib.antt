@@ -2,7 +2,9 @@
 pub mod Cursor
 pub mod Step
 pub mod Many
+pub mod Place
 pub mod Leaf
+pub mod Choice
 pub mod Number
 pub mod Signed
 pub mod Hex

@@ -8,13 +8,13 @@ use borrow.Author.Tests.{not-true, not-false}
 use lib.Dec.{T, T-not, not-T, leb, ltb, le→leb, lt→ltb, leb→le, ltb→lt}
 use lib.ListN.{length, drop, getD, drop-of-length-le}
 use Rattle.octets.specs.Bits.{is-true, is-false, both, unequal, and-left, and-right}
-use Rattle.octets.specs.Parsed.{took, stuck, strip}
+use Rattle.octets.specs.Parsed.{Parsed, took, stuck, and-then, strip}
 use Rattle.octets.specs.Decimal.{digit?, digit-in, digit-test, NoDigit, leading?, run, run-digit, run-stop, positive, natural}
 use Rattle.octets.specs.Fields.{drop-one}
 use Rattle.tokens.specs.declared.Cursor.{Cursor}
 use Rattle.tokens.specs.declared.Amount.{Amount}
-use Rattle.tokens.specs.Cursor.{Safe, Keeps, keeps-same, Passed, Came, Stopped, went-keeps}
-use Rattle.tokens.specs.Step.{Found, found-as, found-stuck}
+use Rattle.tokens.specs.Cursor.{Safe, Keeps, keeps-same, keeps-then, Passed, Came, Stopped, went-keeps}
+use Rattle.tokens.specs.Step.{Found, found-as, found-behind, found-stuck}
 use Rattle.tokens.specs.Leaf.{found-took, found-stop, found-same, found-entry, passed-took, passed-stop, strip-first, strip-not}
 
 -- what is kept of a number: one above 2^63 counts as 2^63, which is more than the octets of any text
@@ -159,3 +159,14 @@ module _ {t : List ℕ} {c z : Cursor} (q : Passed (48 ∷ []) t c z) where
     found = found-same natural (λ h. sym (natural-other (drop (c .at) t) _ (passed-stop q g h))) (found-as (y .found) λ n h. h .1);
     keeps = y .keeps;
   }
+
+-- ---- a number and the fixed octets behind it
+abbrev pub tillParse : List ℕ → List ℕ → Parsed ℕ
+tillParse title w = and-then (natural w) λ a w. and-then (strip title w) λ u r. took a r
+
+pub record TillRead (title t : List ℕ) (c : Cursor) (r : Amount) : Type 0 where
+  pub found : Found (tillParse title) (λ n. r .value ≡ capped n) t c (r .cursor)
+  pub keeps : Keeps t c (r .cursor)
+
+pub till-read : {title t : List ℕ} {c d : Cursor} {n : Amount} → NumberRead t c n → Passed title t (n .cursor) d → TillRead title t c (record { cursor = d; value = n .value })
+till-read x q = record { found = found-behind (x .found) q; keeps = keeps-then (x .keeps) (q .keeps) }

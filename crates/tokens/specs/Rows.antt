@@ -2,10 +2,9 @@
 use mathlib.Core.Path.{_≡_, refl}
 use mathlib.Core.Bool.{Bool, true, false}
 use mathlib.Core.List.{List, [], _∷_}
-use Prim.Native.Nat.{ℕ, _≤_, _<_}
+use Prim.Native.Nat.{ℕ}
 use Prim.Native.String.{String}
 use native.Mathlib.Omega.{arith}
-use borrow.Author.Tests.{lt-ltb, le-ltb}
 use lib.ListN.{drop}
 use Rattle.octets.specs.Lists.{ascii}
 use Rattle.octets.specs.Parsed.{Parsed, stuck, and-then}
@@ -14,9 +13,10 @@ use Rattle.options.specs.Options.{members, rows}
 use Rattle.edns.specs.Edns.{flags, rcodes}
 use Rattle.tokens.specs.declared.Cursor.{Cursor}
 use Rattle.tokens.specs.declared.Row.{Row}
-use Rattle.tokens.specs.Cursor.{left-of, Safe, Keeps, Passed, Stopped, went-keeps, Reads, stopped}
-use Rattle.tokens.specs.Step.{Found, moves, choice, found-first, found-second, found-neither}
+use Rattle.tokens.specs.Cursor.{left-of, Safe, Keeps, keeps-then, Passed, Stopped, went-keeps, Reads, stopped}
+use Rattle.tokens.specs.Step.{Found, moves}
 use Rattle.tokens.specs.Leaf.{entry, found-entry}
+use Rattle.tokens.specs.Choice.{choice, found-first, Further, further-keeps, second-further}
 
 -- one of several titles was read, and this is its key
 pub record RowRead (p : List ℕ → Parsed ℕ) (t : List ℕ) (c : Cursor) (r : Row) : Type 0 where
@@ -40,25 +40,13 @@ module _ {title t : List ℕ} {key : ℕ} {c d : Cursor} {later : Row} (q : Pass
   pub row-here : d .spelled ≡ true → OrRow title key t c later (record { cursor = d; key = key })
   row-here g = record { or = λ p y. record { found = found-first (entry title key) p (found-entry q key refl) g; keeps = q .keeps } }
 
-  module _ (g : d .spelled ≡ false) where
-    pub row-later : later .cursor .spelled ≡ true → OrRow title key t c later later
-    row-later k = record { or = λ p y. record { found = found-second (entry title key) p (found-entry q {P = λ n. key ≡ n} key refl) g (y .found) k; keeps = y .keeps } }
-
-    pub row-further : later .cursor .spelled ≡ false → d .at < later .cursor .at → OrRow title key t c later later
-    row-further k h = record {
-      or = λ p y. record {
-        found = found-neither (entry title key) p (found-entry q {P = λ n. key ≡ n} key refl) g (y .found) k k (rw (lt-ltb (d .at) (later .cursor .at) h)) (y .keeps .safe);
-        keeps = y .keeps;
-      };
-    }
-
-    pub row-as-far : later .cursor .spelled ≡ false → later .cursor .at ≤ d .at → OrRow title key t c later (record { cursor = d; key = key })
-    row-as-far k h = record {
-      or = λ p y. record {
-        found = found-neither (entry title key) p (found-entry q {P = λ n. key ≡ n} key refl) g (y .found) k g (rw (le-ltb (d .at) (later .cursor .at) h)) (q .keeps .safe);
-        keeps = q .keeps;
-      };
-    }
+  pub row-other : {r : Cursor} → d .spelled ≡ false → Further (d .at) (later .cursor) r → OrRow title key t c later (record { cursor = r; key = later .key })
+  row-other g f = record {
+    or = λ p y. record {
+      found = second-further (entry title key) p (λ z n. later .key ≡ n) (found-entry q {P = λ n. key ≡ n} key refl) (y .found) g f (λ n h. h);
+      keeps = keeps-then (y .keeps) (further-keeps (y .keeps .safe) (q .keeps .safe .inside) f);
+    };
+  }
 
 -- a title before the rows of a table
 pub row-more : {t : List ℕ} {c : Cursor} {later r : Row} (row : ℕ × String) (rows : List (ℕ × String)) → OrRow (ascii (row .1)) (row .0) t c later r → RowRead (tried rows) t c later → RowRead (tried (row ∷ rows)) t c r

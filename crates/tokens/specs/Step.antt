@@ -1,18 +1,19 @@
 -- Readers one after another, and what they write. Assumes nothing.
 use mathlib.Core.Path.{_≡_, refl, sym, _∙_, subst}
-use mathlib.Core.Bool.{Bool, true, false, not, cond, _&&_}
-use mathlib.Core.List.{List, _++_}
-use Prim.Native.Nat.{ℕ, _+_, _≤_, _<_}
+use mathlib.Core.Bool.{Bool, true, false, not, _&&_, and-true, and-false, and-assoc}
+use mathlib.Core.List.{List, [], _∷_, _++_}
+use Prim.Native.Nat.{ℕ, _+_, _-_, _≤_, _<_}
 use native.Mathlib.Omega.{arith}
-use borrow.Author.Tests.{le-leb, lt-leb, leb-false}
-use lib.Dec.{T, leb, ltb, lt→ltb, ltb→lt, nltb→le}
-use lib.Arith.{le→nltb}
-use lib.ListN.{length, drop, length-append, length-drop}
-use Rattle.octets.specs.Bits.{is-true, is-false, and-left}
-use Rattle.octets.specs.Parsed.{Parsed, took, stuck, and-then, or-else, strip}
-use Rattle.octets.specs.Overlay.{Wrote, then}
+use borrow.Author.Tests.{le-leb, lt-leb, leb-false, not-true, not-false}
+use lib.Dec.{T, leb, leb→le}
+use lib.ListN.{length, drop, length-append}
+use Rattle.octets.specs.Lists.{all, each, none?}
+use Rattle.octets.specs.Bits.{is-true, and-left, and-right}
+use Rattle.octets.specs.Parsed.{Parsed, took, stuck, and-then, strip, took≢stuck}
+use Rattle.octets.specs.Codec.{Codec, exact}
+use Rattle.octets.specs.Overlay.{Wrote, then, nothing, before, each-append, each-single}
 use Rattle.tokens.specs.declared.Cursor.{Cursor}
-use Rattle.tokens.specs.Cursor.{left-of, rest, Safe, Keeps, Passed, Reads, stopped, taken, reads-as, reads-at, clash}
+use Rattle.tokens.specs.Cursor.{left-of, rest, Safe, Keeps, Passed, Reads, stopped, taken, reads-as, reads-at}
 
 -- ---- what is read, whatever is done with it
 pub then-then : {A B C : Type 0} (o : Parsed A) (f : A → List ℕ → Parsed B) (g : B → List ℕ → Parsed C) → and-then (and-then o f) g ≡ and-then o (λ a r. and-then (f a r) g)
@@ -101,82 +102,38 @@ module _ {A : Type 0} {P : A → Type 0} {t : List ℕ} {p : List ℕ → Parsed
       go (stopped g) y = same (rw g at y)
       go (taken {a} g v) y = two v (rw g at y)
 
--- ---- one of two
--- the further of two places at which readers stopped, and what is left there
-pub further : (t : List ℕ) (m n : ℕ) → m ≤ length t → n ≤ length t
-    → cond (ltb (length (drop n t)) (length (drop m t))) (drop n t) (drop m t) ≡ drop (cond (ltb m n) n m) t
-further t m n h k = go (ltb m n) refl
+-- one thing after another, where the first, k, tells what the second is
+pub found-by : {A : Type 0} {B : A → Type 0} {p : List ℕ → Parsed A} {t : List ℕ} {c r s : Cursor} (q : (a : A) → List ℕ → Parsed (B a)) (Q : (a : A) → B a → Type 0) (k : A)
+    → Found p (λ a. k ≡ a) t c r → Found (q k) (Q k) t r s
+    → Found {A = (a : A) × B a} (λ w. and-then (p w) λ a w. and-then (q a w) λ b r. took (a, b) r) (λ u. (k ≡ u .0) × Q (u .0) (u .1)) t c s
+found-by {A} {B} {p} {t} {c} {r} {s} q Q k x y = record { reads = subst (Reads t R s) (then-then (rest t c) (λ u w. p w) _) (go (x .reads) (y .reads)); moves = moves-then (x .moves) (y .moves) }
   where
-    go : (b : Bool) → ltb m n ≡ b → cond (ltb (length (drop n t)) (length (drop m t))) (drop n t) (drop m t) ≡ drop (cond b n m) t
-    go true e = rw (is-true (ltb (length (drop n t)) (length (drop m t))) (lt→ltb (length (drop n t)) (length (drop m t)) (omega (arith, length-drop n t, length-drop m t, ltb→lt m n (subst T (sym e) tt)))))
-    go false e = rw (is-false (ltb (length (drop n t)) (length (drop m t))) (le→nltb (length (drop n t)) (length (drop m t)) (omega (arith, length-drop n t, length-drop m t, nltb→le m n (subst (λ b. T (not b)) (sym e) tt)))))
+    R : (a : A) × B a → Type 0
+    R u = (k ≡ u .0) × Q (u .0) (u .1)
 
--- one parser or the other, from the same text
-abbrev pub choice : {A : Type 0} (p q : List ℕ → Parsed A) → List ℕ → Parsed A
-choice p q w = or-else (p w) (q w)
+    two : (a : A) {o : Parsed (B a)} → k ≡ a → Reads t (Q a) s o → Reads t R s (and-then o λ b r. took (a, b) r)
+    two a e (stopped g) = stopped g
+    two a e (taken g w) = taken g (e, w)
 
-module _ {A : Type 0} {t : List ℕ} (p q : List ℕ → Parsed A) where
-  module _ {P : A → Type 0} {c r : Cursor} (x : Found p P t c r) where
-    -- the first
-    pub found-first : r .spelled ≡ true → Found (choice p q) P t c r
-    found-first g = record { reads = go (c .spelled) (x .reads); moves = x .moves }
-      where
-        first : {o : Parsed A} (u : Parsed A) → Reads t P r o → Reads t P r (or-else o u)
-        first u (stopped k) = clash k g
-        first u (taken k v) = taken k v
+    same : {w : List ℕ} → Reads t (Q k) s (stuck w) → Reads t R s (stuck w)
+    same (stopped g) = stopped g
 
-        go : (b : Bool) → Reads t P r (and-then (left-of b (drop (c .at) t)) (λ u w. p w))
-            → Reads t P r (and-then (left-of b (drop (c .at) t)) (λ u w. choice p q w))
-        go true y = first _ y
-        go false y = y
+    go : {o : Parsed A} → Reads t (λ a. k ≡ a) r o → Reads t (Q k) s (and-then (rest t r) (λ u w. q k w))
+        → Reads t R s (and-then o λ a w. and-then (q a w) λ b r. took (a, b) r)
+    go (stopped g) y = same (rw g at y)
+    go (taken {a} g e) y = two a e (subst (λ (a : A). Reads t (Q a) s (q a (drop (r .at) t))) e (rw g at y))
 
-    module _ {Q : A → Type 0} {s : Cursor} (g : r .spelled ≡ false) (y : Found q Q t c s) where
-      -- the second, where the first stops
-      pub found-second : s .spelled ≡ true → Found (choice p q) Q t c s
-      found-second k = record { reads = go (c .spelled) (x .reads) (y .reads); moves = y .moves }
-        where
-          second : {o u : Parsed A} → Reads t P r o → Reads t Q s u → Reads t Q s (or-else o u)
-          second (taken l v) z = clash g l
-          second (stopped l) (stopped m) = clash m k
-          second (stopped l) (taken m v) = taken m v
+-- what a codec's parser finds is in the grammar
+pub found-sound : {A : Type 0} {I : A → Type 0} {f : A → List ℕ} {F : List ℕ → Type 0} (p : Codec I f F) {P : A → Type 0} {t : List ℕ} {c r : Cursor} → Found (p .parse) P t c r → Found (p .parse) (λ a. I a × P a) t c r
+found-sound {A} {I} p {P} {t} {c} {r} x = record { reads = go (c .spelled) (x .reads); moves = x .moves }
+  where
+    one : {o : Parsed A} → ((a : A) (w : List ℕ) → o ≡ took a w → I a) → Reads t P r o → Reads t (λ a. I a × P a) r o
+    one h (stopped g) = stopped g
+    one h (taken {a} g v) = taken g (h a _ refl, v)
 
-          go : (b : Bool) → Reads t P r (and-then (left-of b (drop (c .at) t)) (λ u w. p w))
-              → Reads t Q s (and-then (left-of b (drop (c .at) t)) (λ u w. q w))
-              → Reads t Q s (and-then (left-of b (drop (c .at) t)) (λ u w. choice p q w))
-          go true a b = second a b
-          go false a b = b
-
-      -- neither: the reader stops at the further place
-      pub found-neither : {R : A → Type 0} {z : Cursor} → s .spelled ≡ false → z .spelled ≡ false → z .at ≡ cond (ltb (r .at) (s .at)) (s .at) (r .at) → Safe t z → Found (choice p q) R t c z
-      found-neither {R} {z} k l e h = record {
-        reads = go (c .spelled) (x .reads) (y .reads);
-        moves = record { safe = h; onward = omega (arith, e, x .moves .onward, y .moves .onward, least (ltb (r .at) (s .at))) };
-      }
-        where
-          least : (b : Bool) → c .at ≤ cond b (s .at) (r .at)
-          least true = y .moves .onward
-          least false = x .moves .onward
-
-          there : Reads t R z (stuck (drop (cond (ltb (r .at) (s .at)) (s .at) (r .at)) t))
-          there = rw (← e) (stopped l)
-
-          both : {o u : Parsed A} → Reads t P r o → Reads t Q s u → Reads t R z (or-else o u)
-          both (taken m v) b = clash g m
-          both (stopped m) (taken n v) = clash k n
-          both (stopped m) (stopped n) = rw (further t (r .at) (s .at) (x .moves .safe .inside) (y .moves .safe .inside)) there
-
-          same : {w : List ℕ} → Reads t P r (stuck w) → Reads t Q s (stuck w) → Reads t R z (stuck w)
-          same {w} a b = subst (λ u. Reads t R z (stuck u)) (one (ltb (length w) (length w))) (both a b)
-            where
-              one : (b : Bool) → cond b w w ≡ w
-              one true = refl
-              one false = refl
-
-          go : (b : Bool) → Reads t P r (and-then (left-of b (drop (c .at) t)) (λ u w. p w))
-              → Reads t Q s (and-then (left-of b (drop (c .at) t)) (λ u w. q w))
-              → Reads t R z (and-then (left-of b (drop (c .at) t)) (λ u w. choice p q w))
-          go true a b = both a b
-          go false a b = same a b
+    go : (b : Bool) → Reads t P r (and-then (left-of b (drop (c .at) t)) (λ u w. p .parse w)) → Reads t (λ a. I a × P a) r (and-then (left-of b (drop (c .at) t)) (λ u w. p .parse w))
+    go true y = one (λ a w e. exact p (drop (c .at) t) a w e .0) y
+    go false y = one (λ a w e. absurd (took≢stuck (sym e))) y
 
 -- ---- what is written of it
 -- Of the value `a` read from c on: whether a message can have it is judged; where all is meant, the octets of `a` were written from `c .to` on,
@@ -186,33 +143,26 @@ pub record Put {A : Type 0} (ok : A → Bool) (wire : A → List ℕ) (c : Curso
   pub small : T (r .meant) → r .small ≡ (c .small && leb (c .to + length (wire a)) 65535)
   pub wrote : T (r .meant) → T (r .small) → Wrote b (c .to) (wire a) b′ (r .to)
 
-and-assoc : (a b c : Bool) → (a && b) && c ≡ a && (b && c)
-and-assoc true b c = refl
-and-assoc false b c = refl
+-- the limit, of some octets and then of more
+limit-then : (x y : Bool) (to to′ m n : ℕ) → y ≡ (x && leb (to + m) 65535) → (T y → to′ ≡ to + m) → (y && leb (to′ + n) 65535) ≡ (x && leb (to + (m + n)) 65535)
+limit-then x true to to′ m n e d =
+    let k : T (x && leb (to + m) 65535) = subst T e tt in
+    let z : to′ + n ≡ to + (m + n) = omega (arith, d tt) in
+    rw (is-true x (and-left x _ k), z)
+limit-then true false to to′ m n e d = sym (lt-leb (to + (m + n)) 65535 (omega (arith, leb-false (to + m) 65535 (sym e))))
+limit-then false false to to′ m n e d = refl
 
 -- one after another
 pub put-then : {A B : Type 0} {ok : A → Bool} {ok′ : B → Bool} {wire : A → List ℕ} {wire′ : B → List ℕ} {c r s : Cursor} {b b′ b″ : List ℕ} {x : A} {y : B} → Put ok wire c b r b′ x → Put ok′ wire′ r b′ s b″ y
     → Put {A = A × B} (λ u. ok (u .0) && ok′ (u .1)) (λ u. wire (u .0) ++ wire′ (u .1)) c b s b″ (x, y)
 put-then {ok = ok} {ok′ = ok′} {wire = wire} {wire′ = wire′} {c = c} {r = r} {s = s} {x = x} {y = y} p q = record {
   meant = q .meant ∙ rw (p .meant) (and-assoc (c .meant) (ok x) (ok′ y));
-  small = λ k. q .small k ∙ size (r .small) (c .small) refl refl (p .small (before k)) (λ h. p .wrote (before k) h .place);
+  small = λ k. q .small k ∙ rw (length-append (wire x) (wire′ y)) (limit-then (c .small) (r .small) (c .to) (r .to) (length (wire x)) (length (wire′ y)) (p .small (before k)) (λ h. p .wrote (before k) h .place));
   wrote = λ k h. then (p .wrote (before k) (and-left (r .small) _ (subst T (q .small k) h))) (q .wrote k h);
 }
   where
     before : T (s .meant) → T (r .meant)
     before k = and-left (r .meant) (ok′ y) (subst T (q .meant) k)
-
-    over : (m : Bool) → m && leb (c .to + length (wire x)) 65535 ≡ false → m && leb (c .to + length (wire x ++ wire′ y)) 65535 ≡ false
-    over true e = rw (length-append (wire x) (wire′ y)) (lt-leb (c .to + (length (wire x) + length (wire′ y))) 65535 (omega (arith, leb-false (c .to + length (wire x)) 65535 e)))
-    over false e = refl
-
-    size : (n m : Bool) → r .small ≡ n → c .small ≡ m → r .small ≡ (c .small && leb (c .to + length (wire x)) 65535) → (T (r .small) → r .to ≡ c .to + length (wire x))
-        → (r .small && leb (r .to + length (wire′ y)) 65535) ≡ (c .small && leb (c .to + length (wire x ++ wire′ y)) 65535)
-    size true m e d f g =
-        let k : T (c .small && leb (c .to + length (wire x)) 65535) = subst T (sym e ∙ f) tt in
-        let z : r .to + length (wire′ y) ≡ c .to + length (wire x ++ wire′ y) = omega (arith, length-append (wire x) (wire′ y), g (subst T (sym e) tt)) in
-        rw (e, is-true (c .small) (and-left (c .small) _ k), z)
-    size false m e d f g = rw e (sym (over (c .small) (sym f ∙ e)))
 
 -- with nothing written before it; with nothing written behind it; of the same value, seen another way
 module _ {A : Type 0} {ok : A → Bool} {wire : A → List ℕ} {t b b′ : List ℕ} {c r s : Cursor} {a : A} where
@@ -232,6 +182,30 @@ module _ {A : Type 0} {ok : A → Bool} {wire : A → List ℕ} {t b b′ : List
 
 pub put-as : {A B : Type 0} {ok : A → Bool} {ok′ : B → Bool} {wire : A → List ℕ} {wire′ : B → List ℕ} {b b′ : List ℕ} {c r : Cursor} {a : A} {a′ : B} → ok′ a′ ≡ ok a → wire′ a′ ≡ wire a → Put ok wire c b r b′ a → Put ok′ wire′ c b r b′ a′
 put-as e d h = record { meant = rw e (h .meant); small = λ k. rw d (h .small k); wrote = λ k l. rw d (h .wrote k l) }
+
+-- a value with no octets
+pub put-nothing : {A : Type 0} {ok : A → Bool} {wire : A → List ℕ} {t : List ℕ} {c r : Cursor} (b : List ℕ) {a : A} → Keeps t c r → ok a ≡ true → wire a ≡ [] → Put ok wire c b r b a
+put-nothing {c = c} {r = r} b k e d = record {
+  meant = k .meant ∙ rw e (sym (and-true (c .meant)));
+  small = λ y. k .small ∙ rw (d, le-leb (c .to + 0) 65535 (omega (arith, k .to, k .safe .room))) (sym (and-true (c .small)));
+  wrote = λ y z. rw (d, k .to) (nothing b (c .to));
+}
+
+-- the list so far and one value more
+pub all-last : {A : Type 0} (ok : A → Bool) (l : List A) (a : A) → all ok (l ++ (a ∷ [])) ≡ all ok l && ok a
+all-last ok [] a = and-true (ok a)
+all-last ok (x ∷ l) a = rw (all-last ok l a) (sym (and-assoc (ok x) (all ok l) (ok a)))
+
+pub each-last : {A : Type 0} (wire : A → List ℕ) (l : List A) (a : A) → each wire (l ++ (a ∷ [])) ≡ each wire l ++ wire a
+each-last wire l a = rw (each-append wire l (a ∷ []), each-single wire a)
+
+pub none-last : {A : Type 0} (l : List A) (a : A) → none? (l ++ (a ∷ [])) ≡ false
+none-last [] a = refl
+none-last (x ∷ l) a = refl
+
+pub put-last : {A : Type 0} {oks : List A → Bool} {ok : A → Bool} {wire : A → List ℕ} {c d r : Cursor} {b b₁ b₂ : List ℕ} (l : List A) (a : A)
+    → oks (l ++ (a ∷ [])) ≡ (oks l && ok a) → Put oks (each wire) c b d b₁ l → Put ok wire d b₁ r b₂ a → Put oks (each wire) c b r b₂ (l ++ (a ∷ []))
+put-last {wire = wire} l a e p q = put-as e (each-last wire l a) (put-then p q)
 
 -- a reader that writes what it finds
 abbrev pub Step : {A : Type 0} (ok : A → Bool) (wire : A → List ℕ) (p : List ℕ → Parsed A) (t : List ℕ) (c : Cursor) (b : List ℕ) (r : Cursor) (b′ : List ℕ) → Type 0
@@ -254,13 +228,39 @@ module _ {A : Type 0} {ok : A → Bool} {wire : A → List ℕ} {p : List ℕ �
   step-pair x y = found-as (found-pair x y) λ u h. put-then (h .0) (h .1)
 
 -- ---- octets written and judgements made where nothing is read
--- the message goes past its limit
-pub record Over (c r : Cursor) : Type 0 where
+-- places for n octets of the message were held, unless they go past its limit
+pub record Held (n : ℕ) (c r : Cursor) : Type 0 where
   pub at : r .at ≡ c .at
   pub spelled : r .spelled ≡ c .spelled
-  pub to : r .to ≡ c .to
+  pub room : r .to ≤ 65535
   pub meant : r .meant ≡ c .meant
-  pub small : r .small ≡ false
+  pub small : r .small ≡ (c .small && leb (c .to + n) 65535)
+  pub to : T (r .small) → r .to ≡ c .to + n
+
+module _ {n : ℕ} {c r : Cursor} (k : c .to ≤ 65535) (at : r .at ≡ c .at) (spelled : r .spelled ≡ c .spelled) (meant : r .meant ≡ c .meant) where
+  pub held-over : 65535 - c .to < n → r .to ≡ c .to → r .small ≡ false → Held n c r
+  held-over h to small = record {
+    at = at;
+    spelled = spelled;
+    room = omega (arith, to);
+    meant = meant;
+    small = small ∙ rw (lt-leb (c .to + n) 65535 (omega arith)) (sym (and-false (c .small)));
+    to = λ t. absurd (subst T small t);
+  }
+
+  pub held : n ≤ 65535 - c .to → r .to ≡ c .to + n → r .small ≡ c .small → Held n c r
+  held h to small = record {
+    at = at;
+    spelled = spelled;
+    room = omega (arith, to);
+    meant = meant;
+    small = small ∙ rw (le-leb (c .to + n) 65535 (omega arith)) (sym (and-true (c .small)));
+    to = λ t. to;
+  }
+
+-- what was held is within the limit
+pub held-room : {n : ℕ} {c r : Cursor} → Held n c r → not (r .small) ≡ false → c .to + n ≤ 65535
+held-room {n} {c} {r} h e = leb→le (c .to + n) 65535 (and-right (c .small) _ (subst T (h .small) (subst T (sym (not-false (r .small) e)) tt)))
 
 -- these octets were written, unless they go past the limit
 pub record Emits (xs : List ℕ) (c : Cursor) (b : List ℕ) (r : Cursor) (b′ : List ℕ) : Type 0 where
@@ -271,34 +271,12 @@ pub record Emits (xs : List ℕ) (c : Cursor) (b : List ℕ) (r : Cursor) (b′ 
   pub small : r .small ≡ (c .small && leb (c .to + length xs) 65535)
   pub wrote : T (r .small) → Wrote b (c .to) xs b′ (r .to)
 
-pub emits-over : {xs : List ℕ} {c r : Cursor} {b : List ℕ} → c .to ≤ 65535 → 65535 < c .to + length xs → Over c r → Emits xs c b r b
-emits-over {xs} {c} {r} {b} h k o = record {
-  at = o .at;
-  spelled = o .spelled;
-  room = omega (arith, o .to);
-  meant = o .meant;
-  small = o .small ∙ rw (lt-leb (c .to + length xs) 65535 k) (sym (and-false (c .small)));
-  wrote = λ t. absurd (subst T (o .small) t);
-}
-  where
-    and-false : (x : Bool) → x && false ≡ false
-    and-false true = refl
-    and-false false = refl
+module _ {xs : List ℕ} {c r : Cursor} (h : Held (length xs) c r) where
+  pub emits-none : (b : List ℕ) → not (r .small) ≡ true → Emits xs c b r b
+  emits-none b e = record { at = h .at; spelled = h .spelled; room = h .room; meant = h .meant; small = h .small; wrote = λ s. absurd (subst T (not-true (r .small) e) s) }
 
-pub emits : {xs : List ℕ} {c r : Cursor} {b b′ : List ℕ} {n m : ℕ} → n ≡ c .to + length xs → n ≤ 65535 → r .at ≡ c .at → r .spelled ≡ c .spelled → r .meant ≡ c .meant → r .small ≡ c .small → r .to ≡ n
-    → Wrote b (c .to) xs b′ m → Emits xs c b r b′
-emits {xs} {c} {r} {b} {b′} {n} {m} e h at spelled meant small to w = record {
-  at = at;
-  spelled = spelled;
-  room = omega (arith, to);
-  meant = meant;
-  small = small ∙ rw (le-leb (c .to + length xs) 65535 (omega (arith, e))) (sym (and-true (c .small)));
-  wrote = λ t. record { place = to ∙ e; text = w .text };
-}
-  where
-    and-true : (x : Bool) → x && true ≡ x
-    and-true true = refl
-    and-true false = refl
+  pub emits : {b b′ : List ℕ} {m : ℕ} → Wrote b (c .to) xs b′ m → Emits xs c b r b′
+  emits w = record { at = h .at; spelled = h .spelled; room = h .room; meant = h .meant; small = h .small; wrote = λ s. record { place = h .to s; text = w .text } }
 
 -- `meant` only if this holds too
 pub record Judged (ok : Bool) (c r : Cursor) : Type 0 where
@@ -308,21 +286,54 @@ pub record Judged (ok : Bool) (c r : Cursor) : Type 0 where
   pub meant : r .meant ≡ (c .meant && ok)
   pub small : r .small ≡ c .small
 
--- what a reader found, with more done at the same place
+-- what a reader found, with more done at the same place; from another cursor at the same place
 pub found-at : {A : Type 0} {P Q : A → Type 0} {p : List ℕ → Parsed A} {t : List ℕ} {c r s : Cursor} → Found p P t c r → s .at ≡ r .at → s .spelled ≡ r .spelled → s .to ≤ 65535 → ((a : A) → P a → Q a) → Found p Q t c s
 found-at x e d h f = record {
   reads = reads-at (x .reads) d e f;
   moves = record { safe = record { inside = omega (arith, e, x .moves .safe .inside); room = h }; onward = omega (arith, e, x .moves .onward) };
 }
 
-module _ {A : Type 0} {ok : A → Bool} {wire : A → List ℕ} {b b′ b″ : List ℕ} {c r s : Cursor} {a : A} where
-  -- octets behind those of a value
-  pub put-emit : {xs : List ℕ} → Put ok wire c b r b′ a → Emits xs r b′ s b″ → Put ok (λ a. wire a ++ xs) c b s b″ a
-  put-emit {xs} p e = put-as {ok = λ (u : A × Unit {0}). ok (u .0) && true} (sym (and-true (ok a))) refl (put-then p (emits-put e))
-    where
-      and-true : (x : Bool) → x && true ≡ x
-      and-true true = refl
-      and-true false = refl
+pub found-from : {A : Type 0} {P : A → Type 0} {p : List ℕ → Parsed A} {t : List ℕ} {c d r : Cursor} → d .at ≡ c .at → d .spelled ≡ c .spelled → Found p P t d r → Found p P t c r
+found-from {A} {P} {p} {t} {c} {d} {r} e f x = record {
+  reads = rw (← e, ← f) (x .reads);
+  moves = record { safe = x .moves .safe; onward = omega (arith, e, x .moves .onward) };
+}
 
-      emits-put : Emits xs r b′ s b″ → Put {A = Unit {0}} (λ u. true) (λ u. xs) r b′ s b″ tt
-      emits-put e = record { meant = e .meant ∙ sym (and-true (r .meant)); small = λ k. e .small; wrote = λ k. e .wrote }
+-- a test that matters only where all is meant so far
+and-when : (x y z : Bool) → (T x → y ≡ z) → (x && y) ≡ (x && z)
+and-when true y z e = e tt
+and-when false y z e = refl
+
+pub judged-when : {k k′ : Bool} {c r : Cursor} → Judged k c r → (T (c .meant) → k ≡ k′) → Judged k′ c r
+judged-when {k} {k′} {c} j e = record { at = j .at; spelled = j .spelled; to = j .to; meant = j .meant ∙ and-when (c .meant) k k′ e; small = j .small }
+
+pub put-when : {A : Type 0} {ok ok′ : A → Bool} {wire : A → List ℕ} {c r : Cursor} {b b′ : List ℕ} {a : A} → (T (c .meant) → ok a ≡ ok′ a) → Put ok wire c b r b′ a → Put ok′ wire c b r b′ a
+put-when {ok = ok} {ok′ = ok′} {c = c} {a = a} e p = record { meant = p .meant ∙ and-when (c .meant) (ok a) (ok′ a) e; small = p .small; wrote = p .wrote }
+
+module _ {A : Type 0} {wire : A → List ℕ} {c : Cursor} {b : List ℕ} {a : A} where
+  -- octets written in front of those of a value, in the places held for them
+  pub put-before : (front : A → List ℕ) {ok : A → Bool} {n e : ℕ} {h r : Cursor} {b₁ b₂ : List ℕ} → Held n c h → length (front a) ≡ n → Put ok wire h b r b₁ a
+      → (T (r .meant) → T (r .small) → Wrote b₁ (c .to) (front a) b₂ e) → Put ok (λ a. front a ++ wire a) c b r b₂ a
+  put-before front {ok} {n} {e} {h} {r} {b₁} {b₂} k l p w = record {
+    meant = p .meant ∙ rw (k .meant);
+    small = λ y. p .small y ∙ rw (length-append (front a) (wire a), l) (limit-then (c .small) (h .small) (c .to) (h .to) n (length (wire a)) (k .small) (k .to));
+    wrote = λ y z. before {n = h .to} (k .to (and-left (h .small) _ (subst T (p .small y) z)) ∙ rw l) (p .wrote y z) (w y z);
+  }
+
+  -- a value that is judged once more
+  pub put-judged : {ok ok′ : A → Bool} {k : Bool} {r s : Cursor} {b′ : List ℕ} → Put ok wire c b r b′ a → Judged k r s → ok′ a ≡ (ok a && k) → Put ok′ wire c b s b′ a
+  put-judged {ok} {ok′} {k} {r} {s} p j e = record {
+    meant = j .meant ∙ rw (p .meant, e) (and-assoc (c .meant) (ok a) k);
+    small = λ y. j .small ∙ p .small (earlier y);
+    wrote = λ y z. let w = p .wrote (earlier y) (subst T (j .small) z) in record { place = j .to ∙ w .place; text = w .text };
+  }
+    where
+      earlier : T (s .meant) → T (r .meant)
+      earlier y = and-left (r .meant) k (subst T (j .meant) y)
+
+  -- octets behind those of a value
+  pub put-emit : {ok : A → Bool} {r s : Cursor} {b′ b″ xs : List ℕ} → Put ok wire c b r b′ a → Emits xs r b′ s b″ → Put ok (λ a. wire a ++ xs) c b s b″ a
+  put-emit {ok} {r} {s} {b′} {b″} {xs} p e = put-as {ok = λ (u : A × Unit {0}). ok (u .0) && true} (sym (and-true (ok a))) refl (put-then p written)
+    where
+      written : Put {A = Unit {0}} (λ u. true) (λ u. xs) r b′ s b″ tt
+      written = record { meant = e .meant ∙ sym (and-true (r .meant)); small = λ k. e .small; wrote = λ k. e .wrote }

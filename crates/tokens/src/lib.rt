@@ -1,6 +1,6 @@
 // The tokens of a text. What each reader finds is what the parsers of the definitions find, and it stops where they stop.
 ghost use mathlib.Core.Path.{_≡_};
-ghost use mathlib.Core.Bool.{true, false, not};
+ghost use mathlib.Core.Bool.{true, false, not, _&&_, _||_};
 ghost use Prim.Native.Nat.{_+_, _-_, _*_, _^_, _<_, _≤_};
 ghost use mathlib.Core.List.{[], _∷_};
 ghost use lib.ListN.{length, drop};
@@ -12,8 +12,10 @@ ghost use Rattle.options.specs.Options.{members};
 ghost use Rattle.edns.specs.Edns.{flags, rcodes};
 ghost use Rattle.strict.specs.Meaning.{ttl?, unsigned};
 ghost use Rattle.tokens.specs.Cursor.{Safe, Passed, Stopped, Came};
-ghost use Rattle.tokens.specs.Step.{Over, Emits, Judged};
-ghost use Rattle.tokens.specs.Number.{capped, NumberRead, PositiveRead, DigitOf};
+ghost use Rattle.tokens.specs.Step.{Held, Emits, Judged};
+ghost use Rattle.tokens.specs.Place.{Byte};
+ghost use Rattle.tokens.specs.Choice.{Further};
+ghost use Rattle.tokens.specs.Number.{capped, NumberRead, TillRead, PositiveRead, DigitOf};
 ghost use Rattle.tokens.specs.Signed.{Kept, SignedRead, Plus, Minus};
 ghost use Rattle.tokens.specs.Hex.{HexTest, HexAt, Quoted, HexRead};
 ghost use Rattle.tokens.specs.Rows.{RowRead, OrRow};
@@ -59,8 +61,7 @@ pub fn literal(text: &[u8], c: Cursor, lit: &[u8]) -> Cursor
     requires { ⌜ Safe (now text) c ⌝ }
     ensures { λ r. ⌜ Passed (now (lit .entry)) (now (text .entry)) c r ⌝ }
 {
-    let spelled = c.spelled;
-    if !spelled {
+    if !c.spelled {
         return c;
     }
     let mut at = c.at;
@@ -78,19 +79,6 @@ pub fn literal(text: &[u8], c: Cursor, lit: &[u8]) -> Cursor
     came(c, at)
 }
 
-// The message goes past its limit.
-pub fn over(c: Cursor) -> Cursor
-    ensures { λ r. ⌜ Over c r ⌝ }
-{
-    Cursor {
-        at: c.at,
-        to: c.to,
-        spelled: c.spelled,
-        meant: c.meant,
-        small: false,
-    }
-}
-
 // `meant` only if this holds too.
 pub fn judge(c: Cursor, ok: bool) -> Cursor
     ensures { λ r. ⌜ Judged ok c r ⌝ }
@@ -105,25 +93,76 @@ pub fn judge(c: Cursor, ok: bool) -> Cursor
     }
 }
 
-// Writes octets of the message, unless they go past its limit.
-pub fn emit(c: Cursor, octets: &[u8], out: &mut [u8]) -> Cursor
-    requires { ⌜ (c .to ≤ 65535) × (length (now octets) ≤ 65535) ⌝ }
-    ensures { λ r. ⌜ Emits (now (octets .entry)) c (now (out .entry)) r (now (out .exit)) ⌝ }
+// Holds places for n octets of the message, unless they go past its limit.
+pub fn hold(c: Cursor, n: usize) -> Cursor
+    requires { ⌜ c .to ≤ 65535 ⌝ }
+    ensures { λ r. ⌜ Held n c r ⌝ }
 {
     let to = c.to;
-    let end = to + octets.len();
-    if end > 65535 {
-        return over(c);
+    if n > 65535 - to {
+        return Cursor {
+            at: c.at,
+            to: to,
+            spelled: c.spelled,
+            meant: c.meant,
+            small: false,
+        };
     }
-    let small = c.small;
-    let _end = put_all(out, to, octets);
     Cursor {
         at: c.at,
-        to: end,
+        to: to + n,
         spelled: c.spelled,
         meant: c.meant,
-        small: small,
+        small: c.small,
     }
+}
+
+// Writes octets of the message, unless they go past its limit.
+pub fn emit(c: Cursor, octets: &[u8], out: &mut [u8]) -> Cursor
+    requires { ⌜ c .to ≤ 65535 ⌝ }
+    ensures { λ r. ⌜ Emits (now (octets .entry)) c (now (out .entry)) r (now (out .exit)) ⌝ }
+{
+    let r = hold(c, octets.len());
+    if !r.small {
+        return r;
+    }
+    let to = c.to;
+    let _end = put_all(out, to, octets);
+    r
+}
+
+// A reader that stopped stops at the further of its place and another.
+pub fn further(c: Cursor, at: usize) -> Cursor
+    ensures { λ r. ⌜ Further at c r ⌝ }
+{
+    if !c.spelled {
+        if c.at < at {
+            return stop(c, at);
+        }
+    }
+    c
+}
+
+// The octet at a place, 0 past the end.
+pub fn octet_at(text: &[u8], at: usize) -> u8
+    ensures { λ r. ⌜ Byte (now (text .entry)) at r ⌝ }
+{
+    if at < text.len() {
+        return text[at];
+    }
+    0
+}
+
+pub fn both(a: bool, b: bool) -> bool
+    ensures { λ r. ⌜ r ≡ (a && b) ⌝ }
+{
+    a && b
+}
+
+pub fn either(a: bool, b: bool) -> bool
+    ensures { λ r. ⌜ r ≡ (a || b) ⌝ }
+{
+    a || b
 }
 
 // A number that was read; one above 2^63 counts as 2^63.
@@ -175,8 +214,7 @@ fn positive(text: &[u8], c: Cursor) -> Amount
     requires { ⌜ Safe (now text) c ⌝ }
     ensures { λ r. ⌜ PositiveRead (now (text .entry)) c r ⌝ }
 {
-    let spelled = c.spelled;
-    if !spelled {
+    if !c.spelled {
         return Amount {
             cursor: c,
             value: 0,
@@ -219,14 +257,25 @@ pub fn number(text: &[u8], c: Cursor) -> Amount
     ensures { λ r. ⌜ NumberRead (now (text .entry)) c r ⌝ }
 {
     let z = literal(text, c, b"0");
-    let zero = z.spelled;
-    if zero {
+    if z.spelled {
         return Amount {
             cursor: z,
             value: 0,
         };
     }
     positive(text, c)
+}
+
+// A number and the fixed octets behind it.
+pub fn till(text: &[u8], c: Cursor, title: &[u8]) -> Amount
+    requires { ⌜ Safe (now text) c ⌝ }
+    ensures { λ r. ⌜ TillRead (now (title .entry)) (now (text .entry)) c r ⌝ }
+{
+    let n = number(text, c);
+    Amount {
+        cursor: literal(text, n.cursor, title),
+        value: n.value,
+    }
 }
 
 // A TTL that was read: whether it is within 32 bits with a sign, and if so its bits.
@@ -289,8 +338,7 @@ pub fn signed(text: &[u8], c: Cursor) -> Ttl
     ensures { λ r. ⌜ SignedRead (now (text .entry)) c r ⌝ }
 {
     let m = literal(text, c, b"-");
-    let negative = m.spelled;
-    if negative {
+    if m.spelled {
         return minus(positive(text, m));
     }
     plus(number(text, c))
@@ -346,8 +394,7 @@ pub fn hex(text: &[u8], c: Cursor) -> Span
     ensures { λ r. ⌜ HexRead (now (text .entry)) c r ⌝ }
 {
     let from = c.at;
-    let spelled = c.spelled;
-    if !spelled {
+    if !c.spelled {
         return Span {
             cursor: c,
             from: from,
@@ -399,26 +446,15 @@ fn or_row(text: &[u8], c: Cursor, title: &[u8], key: u32, later: Row) -> Row
     ensures { λ r. ⌜ OrRow (now (title .entry)) key (now (text .entry)) c later r ⌝ }
 {
     let d = literal(text, c, title);
-    let taken = d.spelled;
-    if taken {
+    if d.spelled {
         return Row {
             cursor: d,
             key: key,
         };
     }
-    let e = later.cursor;
-    let other = e.spelled;
-    if other {
-        return later;
-    }
-    let here = d.at;
-    let there = e.at;
-    if here < there {
-        return later;
-    }
     Row {
-        cursor: d,
-        key: key,
+        cursor: further(later.cursor, d.at),
+        key: later.key,
     }
 }
 

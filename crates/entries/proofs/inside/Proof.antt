@@ -1,45 +1,87 @@
+use Prim.Native.Nat.{_-_}
+use mathlib.Core.Path.{refl, _∙_}
+use native.Mathlib.Omega.{arith}
+use lib.ListN.{length}
 use borrow.Author.Needs.{needs}
-use Rattle.entries.specs.Sections.{inside-none, inside-some}
+use Rattle.entries.specs.Sections.{Gathered, gathered-start, gathered-far, gathered-more, inside-stopped, inside-end, inside-no}
 use Rattle.entries.proofs.inside.Statement.{statement}
 use Rattle.entries.proofs.inside.Tie as tie
 
-ends-requires : tie.Need-ends-requires
-ends-requires c κs = search needs
+abbrev Inv-loop : tie.InvT-loop
+Inv-loop text element rcode out₀ d₀ first₀ count₀ opts₀ shown₀ hidden₀ out d first count opts shown hidden =
+    Gathered element rcode text d₀ out₀ d first count opts shown hidden out
 
-add-came : tie.Need-add-came
+abbrev μ-loop : tie.MeasureT-loop
+μ-loop text element rcode out₀ d₀ first₀ count₀ opts₀ shown₀ hidden₀ out d first count opts shown hidden =
+    length text - d .at
+
+returns : tie.Need-returns Inv-loop μ-loop
+returns c = search (inside-stopped, needs)
+
+loop-holds : tie.Need-loop-holds Inv-loop μ-loop
+loop-holds c = search (gathered-start, needs)
+
+octet-at-requires : tie.Need-octet-at-requires Inv-loop μ-loop
+octet-at-requires c κs = search needs
+
+add-came : tie.Need-add-came Inv-loop μ-loop
 add-came c = search needs
 
-came-requires : tie.Need-came-requires
+came-requires : tie.Need-came-requires Inv-loop μ-loop
 came-requires c κs = search needs
 
-returns : tie.Need-returns
-returns c = search (inside-none, needs)
+same-length : tie.Need-same-length Inv-loop μ-loop
+same-length c = c .before .before .before .loop .inv .long
 
-one-requires : tie.Need-one-requires
-one-requires c κs = search needs
+returns-2 : tie.Need-returns-2 Inv-loop μ-loop
+returns-2 c = inside-end _ (c .before .before .before .before .if1 .left) (c .before .before .before .loop .inv) (c .before .before .octet-at .ensures) (c .before .if2 .taken) (c .came .ensures)
 
-tally-requires : tie.Need-tally-requires
+next-requires : tie.Need-next-requires Inv-loop μ-loop
+next-requires c κs = search needs
+
+tally-requires : tie.Need-tally-requires Inv-loop μ-loop
 tally-requires c κs = search needs
 
-others-requires : tie.Need-others-requires
-others-requires c κs = search needs
+tally-requires-2 : tie.Need-tally-requires-2 Inv-loop μ-loop
+tally-requires-2 c κs = search needs
 
-same-length : tie.Need-same-length
-same-length c = search needs
+either-requires : tie.Need-either-requires Inv-loop μ-loop
+either-requires c κs = search needs
 
-returns-2 : tie.Need-returns-2
-returns-2 c = search (inside-some, needs)
+either-requires-2 : tie.Need-either-requires-2 Inv-loop μ-loop
+either-requires-2 c κs = search needs
+
+same-length-2 : tie.Need-same-length-2 Inv-loop μ-loop
+same-length-2 c = c .before .before .before .before .before .before .before .before .out .given ∙ c .before .before .before .before .before .before .before .before .before .before .before .before .before .loop .inv .long
+
+returns-3 : tie.Need-returns-3 Inv-loop μ-loop
+returns-3 c = inside-no _ (c .before .before .before .before .before .before .before .before .before .before .before .before .before .before .if1 .left) (c .before .before .before .before .before .before .before .before .before .before .before .before .before .loop .inv) (c .before .before .before .before .before .before .before .before .before .next .ensures) (c .before .before .before .before .before .before .before .before .before .before .before .before .octet-at .ensures) (c .before .before .before .before .before .before .before .before .before .before .before .if2 .left) (c .if3 .taken) refl
+
+loop-less : tie.Need-loop-less Inv-loop μ-loop
+loop-less c = omega (arith, gathered-far _ (c .before .before .before .before .before .before .before .before .before .before .before .before .before .before .if1 .left) (c .before .before .before .before .before .before .before .before .before .before .before .before .before .loop .inv) (c .before .before .before .before .before .before .before .before .before .next .ensures) (c .if3 .left), c .before .before .before .before .before .before .before .before .before .next .ensures .moves .safe .inside)
+
+loop-again : tie.Need-loop-again Inv-loop μ-loop
+loop-again c = gathered-more _ (c .before .before .before .before .before .before .before .before .before .before .before .before .before .before .if1 .left) (c .before .before .before .before .before .before .before .before .before .before .before .before .before .loop .inv) (c .before .before .before .before .before .before .before .before .before .next .ensures) (c .if3 .left) (c .before .before .before .before .before .tally .ensures) (c .before .before .before .before .tally2 .ensures) (c .before .before .before .either .ensures) (c .before .before .either2 .ensures) (c .before .before .before .before .before .before .before .before .out .given)
 
 pub inside-spec : {M : Type 1} → statement M
 inside-spec =
     tie.close
     (tie.spec
-    ends-requires
+    Inv-loop
+    μ-loop
+    returns
+    loop-holds
+    octet-at-requires
     add-came
     came-requires
-    returns
-    one-requires
-    tally-requires
-    others-requires
     same-length
-    returns-2)
+    returns-2
+    next-requires
+    tally-requires
+    tally-requires-2
+    either-requires
+    either-requires-2
+    same-length-2
+    returns-3
+    loop-less
+    loop-again)

@@ -1,5 +1,5 @@
 use borrow.Author.Needs.{needs}
-use Rattle.entries.specs.Reading.{run-spans}
+use Rattle.members.specs.Values.{run-digits}
 use Rattle.entries.specs.Reading.{tail-read}
 use Rattle.entries.proofs.tail.Statement.{statement}
 use Rattle.entries.proofs.tail.Tie as tie
@@ -26,7 +26,7 @@ literal-requires-2 : tie.Need-literal-requires-2
 literal-requires-2 c κs = search needs
 
 shows-edns-requires : tie.Need-shows-edns-requires
-shows-edns-requires c κs = (run-spans (c .before .before .before .before .rdata .ensures .run), c .before .before .before .before .before .before .before .before .before .before .before .before .before .before .before .pre .1)
+shows-edns-requires c κs = (run-digits (c .before .before .before .before .rdata .ensures .run), c .before .before .before .before .before .before .before .before .before .before .before .before .before .before .before .pre .1)
 
 same-length : tie.Need-same-length
 same-length c = search needs

@@ -3,14 +3,14 @@ use borrow.Author.Needs.{needs}
 use Rattle.labels.proofs.char_at.Statement.{statement}
 use Rattle.labels.proofs.char_at.Tie as tie
 
-byte-requires : tie.Need-byte-requires
-byte-requires c κs = search needs
+octet-at-requires : tie.Need-octet-at-requires
+octet-at-requires c κs = search needs
 
 is-bare-requires : tie.Need-is-bare-requires
 is-bare-requires c κs = search needs
 
-add-t7 : tie.Need-add-t7
-add-t7 c = search needs
+add-t6 : tie.Need-add-t6
+add-t6 c = search needs
 
 returns : tie.Need-returns
 returns c = search (char-bare, needs)
@@ -18,11 +18,11 @@ returns c = search (char-bare, needs)
 returns-2 : tie.Need-returns-2
 returns-2 c = search (char-other, needs)
 
-add-byte : tie.Need-add-byte
-add-byte c = search needs
+add-octet-at : tie.Need-add-octet-at
+add-octet-at c = search needs
 
-byte-requires-2 : tie.Need-byte-requires-2
-byte-requires-2 c κs = search needs
+octet-at-requires-2 : tie.Need-octet-at-requires-2
+octet-at-requires-2 c κs = search needs
 
 add-t9 : tie.Need-add-t9
 add-t9 c = search needs
@@ -46,13 +46,13 @@ pub char-at-spec : {M : Type 1} → statement M
 char-at-spec =
     tie.close
     (tie.spec
-    byte-requires
+    octet-at-requires
     is-bare-requires
-    add-t7
+    add-t6
     returns
     returns-2
-    add-byte
-    byte-requires-2
+    add-octet-at
+    octet-at-requires-2
     add-t9
     returns-3
     add-t10

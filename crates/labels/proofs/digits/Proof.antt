@@ -1,12 +1,12 @@
 use Rattle.labels.specs.Octet.{first-low, first-high, first-on}
-use Rattle.labels.specs.Place.{inside}
+use Rattle.tokens.specs.Place.{inside}
 use native.Mathlib.Omega.{arith}
 use borrow.Author.Needs.{needs}
 use Rattle.labels.proofs.digits.Statement.{statement}
 use Rattle.labels.proofs.digits.Tie as tie
 
-byte-requires : tie.Need-byte-requires
-byte-requires c κs = search needs
+octet-at-requires : tie.Need-octet-at-requires
+octet-at-requires c κs = search needs
 
 returns : tie.Need-returns
 returns c = search (first-low, needs)
@@ -18,7 +18,7 @@ add-second-digit : tie.Need-add-second-digit
 add-second-digit c = search needs
 
 second-digit-requires : tie.Need-second-digit-requires
-second-digit-requires c κs = (omega (arith, inside (c .before .before .byte .ensures) (omega arith)), omega arith)
+second-digit-requires c κs = (omega (arith, inside (c .before .before .octet-at .ensures) (omega arith)), omega arith)
 
 returns-3 : tie.Need-returns-3
 returns-3 c = search (first-on, needs)
@@ -26,4 +26,4 @@ returns-3 c = search (first-on, needs)
 pub digits-spec : {M : Type 1} → statement M
 digits-spec =
     tie.close
-    (tie.spec byte-requires returns returns-2 add-second-digit second-digit-requires returns-3)
+    (tie.spec octet-at-requires returns returns-2 add-second-digit second-digit-requires returns-3)

@@ -3,8 +3,8 @@ use borrow.Author.Needs.{needs}
 use Rattle.labels.proofs.escaped.Statement.{statement}
 use Rattle.labels.proofs.escaped.Tie as tie
 
-byte-requires : tie.Need-byte-requires
-byte-requires c κs = search needs
+octet-at-requires : tie.Need-octet-at-requires
+octet-at-requires c κs = search needs
 
 add-t6 : tie.Need-add-t6
 add-t6 c = search needs
@@ -12,11 +12,11 @@ add-t6 c = search needs
 returns : tie.Need-returns
 returns c = search (escape-dot, needs)
 
-add-byte : tie.Need-add-byte
-add-byte c = search needs
+add-octet-at : tie.Need-add-octet-at
+add-octet-at c = search needs
 
-byte-requires-2 : tie.Need-byte-requires-2
-byte-requires-2 c κs = search needs
+octet-at-requires-2 : tie.Need-octet-at-requires-2
+octet-at-requires-2 c κs = search needs
 
 add-t9 : tie.Need-add-t9
 add-t9 c = search needs
@@ -40,11 +40,11 @@ pub escaped-spec : {M : Type 1} → statement M
 escaped-spec =
     tie.close
     (tie.spec
-    byte-requires
+    octet-at-requires
     add-t6
     returns
-    add-byte
-    byte-requires-2
+    add-octet-at
+    octet-at-requires-2
     add-t9
     returns-2
     add-t7

@@ -12,8 +12,8 @@ Inv-loop text start out₀ to x at₀ n₀ out at n = Letters text start out₀ 
 abbrev μ-loop : tie.MeasureT-loop
 μ-loop text start out₀ to x at₀ n₀ out at n = length text - at
 
-byte-requires : tie.Need-byte-requires Inv-loop μ-loop
-byte-requires c κs = search needs
+octet-at-requires : tie.Need-octet-at-requires Inv-loop μ-loop
+octet-at-requires c κs = search needs
 
 returns : tie.Need-returns Inv-loop μ-loop
 returns c = search (label-none, needs)
@@ -21,11 +21,11 @@ returns c = search (label-none, needs)
 loop-holds : tie.Need-loop-holds Inv-loop μ-loop
 loop-holds c = search (letters-start, needs)
 
-byte-requires-2 : tie.Need-byte-requires-2 Inv-loop μ-loop
-byte-requires-2 c κs = search needs
+octet-at-requires-2 : tie.Need-octet-at-requires-2 Inv-loop μ-loop
+octet-at-requires-2 c κs = search needs
 
-add-t18 : tie.Need-add-t18 Inv-loop μ-loop
-add-t18 c = search needs
+add-t15 : tie.Need-add-t15 Inv-loop μ-loop
+add-t15 c = search needs
 
 same-length : tie.Need-same-length Inv-loop μ-loop
 same-length c = search needs
@@ -39,8 +39,8 @@ cast-put c = search needs
 put-requires : tie.Need-put-requires Inv-loop μ-loop
 put-requires c κs = search needs
 
-add-t22 : tie.Need-add-t22 Inv-loop μ-loop
-add-t22 c = search needs
+add-t19 : tie.Need-add-t19 Inv-loop μ-loop
+add-t19 c = search needs
 
 same-length-2 : tie.Need-same-length-2 Inv-loop μ-loop
 same-length-2 c = search needs
@@ -67,7 +67,7 @@ add-n : tie.Need-add-n Inv-loop μ-loop
 add-n c = search needs
 
 loop-less : tie.Need-loop-less Inv-loop μ-loop
-loop-less c = omega (arith, letters-far (c .before .before .before .before .before .before .before .before .loop .inv) (c .before .before .before .before .before .before .before .byte2 .ensures) (c .before .before .before .before .before .before .if2 .left) (c .before .before .before .before .before .octet .ensures) (c .before .before .before .before .if4 .left))
+loop-less c = omega (arith, letters-far (c .before .before .before .before .before .before .before .before .before .loop .inv) (c .before .before .before .before .before .before .before .before .octet-at2 .ensures) (c .before .before .before .before .before .before .before .if2 .left) (c .before .before .before .before .before .before .octet .ensures) (c .before .before .before .before .if4 .left))
 
 loop-again : tie.Need-loop-again Inv-loop μ-loop
 loop-again c = search (letters-more, needs)
@@ -78,16 +78,16 @@ label-at-spec =
     (tie.spec
     Inv-loop
     μ-loop
-    byte-requires
+    octet-at-requires
     returns
     loop-holds
-    byte-requires-2
-    add-t18
+    octet-at-requires-2
+    add-t15
     same-length
     returns-2
     cast-put
     put-requires
-    add-t22
+    add-t19
     same-length-2
     returns-3
     octet-requires

@@ -12,8 +12,8 @@ Inv-loop text start out₀ to x at₀ size₀ out at size = Labels text start ou
 abbrev μ-loop : tie.MeasureT-loop
 μ-loop text start out₀ to x at₀ size₀ out at size = length text - at
 
-byte-requires : tie.Need-byte-requires Inv-loop μ-loop
-byte-requires c κs = search needs
+octet-at-requires : tie.Need-octet-at-requires Inv-loop μ-loop
+octet-at-requires c κs = search needs
 
 returns : tie.Need-returns Inv-loop μ-loop
 returns c = search (labels-none, needs)
@@ -21,8 +21,8 @@ returns c = search (labels-none, needs)
 loop-holds : tie.Need-loop-holds Inv-loop μ-loop
 loop-holds c = search (labels-start, needs)
 
-byte-requires-2 : tie.Need-byte-requires-2 Inv-loop μ-loop
-byte-requires-2 c κs = search needs
+octet-at-requires-2 : tie.Need-octet-at-requires-2 Inv-loop μ-loop
+octet-at-requires-2 c κs = search needs
 
 add-put : tie.Need-add-put Inv-loop μ-loop
 add-put c = search needs
@@ -30,11 +30,11 @@ add-put c = search needs
 put-requires : tie.Need-put-requires Inv-loop μ-loop
 put-requires c κs = search needs
 
-add-t18 : tie.Need-add-t18 Inv-loop μ-loop
-add-t18 c = search needs
+add-t15 : tie.Need-add-t15 Inv-loop μ-loop
+add-t15 c = search needs
 
-add-t19 : tie.Need-add-t19 Inv-loop μ-loop
-add-t19 c = search needs
+add-t16 : tie.Need-add-t16 Inv-loop μ-loop
+add-t16 c = search needs
 
 same-length : tie.Need-same-length Inv-loop μ-loop
 same-length c = search needs
@@ -58,7 +58,7 @@ grow-requires : tie.Need-grow-requires Inv-loop μ-loop
 grow-requires c κs = search needs
 
 loop-less : tie.Need-loop-less Inv-loop μ-loop
-loop-less c = omega (arith, labels-far (c .before .before .before .before .before .before .before .before .loop .inv) (c .before .before .before .before .before .before .before .byte2 .ensures) (c .before .before .before .before .before .before .if2 .left) (c .before .before .before .before .label-at .ensures) (c .before .if3 .left))
+loop-less c = omega (arith, labels-far (c .before .before .before .before .before .before .before .before .before .loop .inv) (c .before .before .before .before .before .before .before .before .octet-at2 .ensures) (c .before .before .before .before .before .before .before .if2 .left) (c .before .before .before .before .before .label-at .ensures) (c .before .if3 .left))
 
 loop-again : tie.Need-loop-again Inv-loop μ-loop
 loop-again c = search (labels-more, needs)
@@ -69,14 +69,14 @@ labels-at-spec =
     (tie.spec
     Inv-loop
     μ-loop
-    byte-requires
+    octet-at-requires
     returns
     loop-holds
-    byte-requires-2
+    octet-at-requires-2
     add-put
     put-requires
-    add-t18
-    add-t19
+    add-t15
+    add-t16
     same-length
     returns-2
     add-label-at

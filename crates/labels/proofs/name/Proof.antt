@@ -1,5 +1,5 @@
 use borrow.Author.Tests.{not-false}
-use Rattle.labels.specs.Place.{byte-as}
+use Rattle.tokens.specs.Place.{byte-as}
 use Rattle.labels.specs.Name.{name-stuck, name-bad, name-is}
 use borrow.Author.Needs.{needs}
 use Rattle.labels.proofs.name.Statement.{statement}
@@ -8,11 +8,11 @@ use Rattle.labels.proofs.name.Tie as tie
 returns : tie.Need-returns
 returns c = search (name-stuck, needs)
 
-byte-requires : tie.Need-byte-requires
-byte-requires c κs = search needs
+octet-at-requires : tie.Need-octet-at-requires
+octet-at-requires c κs = search needs
 
 root-requires : tie.Need-root-requires
-root-requires c κs = (search needs, (not-false _ (c .before .before .before .if1 .left), byte-as (c .before .before .byte .ensures) (c .before .if2 .taken)))
+root-requires c κs = (search needs, (not-false _ (c .before .before .before .if1 .left), byte-as (c .before .before .octet-at .ensures) (c .before .if2 .taken)))
 
 same-length : tie.Need-same-length
 same-length c = search needs
@@ -35,8 +35,8 @@ returns-3 c = search (name-bad, needs)
 came-requires : tie.Need-came-requires
 came-requires c κs = search needs
 
-behind-requires : tie.Need-behind-requires
-behind-requires c κs = search needs
+hold-requires : tie.Need-hold-requires
+hold-requires c κs = search needs
 
 judge-requires : tie.Need-judge-requires
 judge-requires c κs = search needs
@@ -52,7 +52,7 @@ name-spec =
     tie.close
     (tie.spec
     returns
-    byte-requires
+    octet-at-requires
     root-requires
     same-length
     returns-2
@@ -61,7 +61,7 @@ name-spec =
     same-length-2
     returns-3
     came-requires
-    behind-requires
+    hold-requires
     judge-requires
     same-length-3
     returns-4)

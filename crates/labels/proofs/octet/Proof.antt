@@ -1,18 +1,18 @@
 use Rattle.labels.specs.Octet.{letter-plain, letter-other, letter-single, letter-escape}
-use Rattle.labels.specs.Place.{inside}
+use Rattle.tokens.specs.Place.{inside}
 use native.Mathlib.Omega.{arith}
 use borrow.Author.Needs.{needs}
 use Rattle.labels.proofs.octet.Statement.{statement}
 use Rattle.labels.proofs.octet.Tie as tie
 
-byte-requires : tie.Need-byte-requires
-byte-requires c κs = search needs
+octet-at-requires : tie.Need-octet-at-requires
+octet-at-requires c κs = search needs
 
 is-plain-requires : tie.Need-is-plain-requires
 is-plain-requires c κs = search needs
 
-add-t7 : tie.Need-add-t7
-add-t7 c = search needs
+add-t6 : tie.Need-add-t6
+add-t6 c = search needs
 
 returns : tie.Need-returns
 returns c = search (letter-plain, needs)
@@ -20,11 +20,11 @@ returns c = search (letter-plain, needs)
 returns-2 : tie.Need-returns-2
 returns-2 c = search (letter-other, needs)
 
-add-byte : tie.Need-add-byte
-add-byte c = search needs
+add-octet-at : tie.Need-add-octet-at
+add-octet-at c = search needs
 
-byte-requires-2 : tie.Need-byte-requires-2
-byte-requires-2 c κs = search needs
+octet-at-requires-2 : tie.Need-octet-at-requires-2
+octet-at-requires-2 c κs = search needs
 
 add-t9 : tie.Need-add-t9
 add-t9 c = search needs
@@ -36,7 +36,7 @@ add-escaped : tie.Need-add-escaped
 add-escaped c = search needs
 
 escaped-requires : tie.Need-escaped-requires
-escaped-requires c κs = omega (arith, inside (c .before .byte2 .ensures) (omega arith))
+escaped-requires c κs = omega (arith, inside (c .before .octet-at2 .ensures) (omega arith))
 
 returns-4 : tie.Need-returns-4
 returns-4 c = search (letter-escape, needs)
@@ -45,13 +45,13 @@ pub octet-spec : {M : Type 1} → statement M
 octet-spec =
     tie.close
     (tie.spec
-    byte-requires
+    octet-at-requires
     is-plain-requires
-    add-t7
+    add-t6
     returns
     returns-2
-    add-byte
-    byte-requires-2
+    add-octet-at
+    octet-at-requires-2
     add-t9
     returns-3
     add-escaped

@@ -1,12 +1,12 @@
 use Rattle.labels.specs.Octet.{second-low, second-high, second-on}
-use Rattle.labels.specs.Place.{inside}
+use Rattle.tokens.specs.Place.{inside}
 use native.Mathlib.Omega.{arith}
 use borrow.Author.Needs.{needs}
 use Rattle.labels.proofs.second_digit.Statement.{statement}
 use Rattle.labels.proofs.second_digit.Tie as tie
 
-byte-requires : tie.Need-byte-requires
-byte-requires c κs = search needs
+octet-at-requires : tie.Need-octet-at-requires
+octet-at-requires c κs = search needs
 
 lowest-second-requires : tie.Need-lowest-second-requires
 lowest-second-requires c κs = search needs
@@ -33,7 +33,7 @@ add-third-digit-2 : tie.Need-add-third-digit-2
 add-third-digit-2 c = search needs
 
 third-digit-requires : tie.Need-third-digit-requires
-third-digit-requires c κs = (omega (arith, inside (c .before .before .before .before .byte .ensures) (omega arith)), omega (arith, c .before .highest-second .ensures))
+third-digit-requires c κs = (omega (arith, inside (c .before .before .before .before .octet-at .ensures) (omega arith)), omega (arith, c .before .highest-second .ensures))
 
 returns-3 : tie.Need-returns-3
 returns-3 c = search (second-on, needs)
@@ -42,7 +42,7 @@ pub second-digit-spec : {M : Type 1} → statement M
 second-digit-spec =
     tie.close
     (tie.spec
-    byte-requires
+    octet-at-requires
     lowest-second-requires
     returns
     highest-second-requires

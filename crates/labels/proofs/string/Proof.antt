@@ -7,10 +7,10 @@ use Rattle.labels.proofs.string.Statement.{statement}
 use Rattle.labels.proofs.string.Tie as tie
 
 abbrev Inv-loop : tie.InvT-loop
-Inv-loop text out₀ spelled d₀ out d = Chars text d₀ out₀ d out
+Inv-loop text out₀ d₀ out d = Chars text d₀ out₀ d out
 
 abbrev μ-loop : tie.MeasureT-loop
-μ-loop text out₀ spelled d₀ out d = length text - d .at
+μ-loop text out₀ d₀ out d = length text - d .at
 
 returns : tie.Need-returns Inv-loop μ-loop
 returns c = search (string-stuck, needs)
@@ -18,8 +18,8 @@ returns c = search (string-stuck, needs)
 loop-holds : tie.Need-loop-holds Inv-loop μ-loop
 loop-holds c = search (chars-start, needs)
 
-byte-requires : tie.Need-byte-requires Inv-loop μ-loop
-byte-requires c κs = search needs
+octet-at-requires : tie.Need-octet-at-requires Inv-loop μ-loop
+octet-at-requires c κs = search needs
 
 add-came : tie.Need-add-came Inv-loop μ-loop
 add-came c = search needs
@@ -49,10 +49,10 @@ add-requires : tie.Need-add-requires Inv-loop μ-loop
 add-requires c κs = search needs
 
 loop-less : tie.Need-loop-less Inv-loop μ-loop
-loop-less c = omega (arith, chars-far (c .before .before .before .before .before .before .before .before .loop .inv) (c .before .before .before .before .before .char-at .ensures) (c .before .before .before .before .if3 .left), c .before .before .add .ensures .emits .at, c .before .before .add .ensures .came .at)
+loop-less c = omega (arith, chars-far (c .before .before .before .before .before .before .before .before .before .loop .inv) (c .before .before .before .before .before .before .char-at .ensures) (c .before .before .before .before .if3 .left), c .before .before .add .ensures .emits .at, c .before .before .add .ensures .came .at)
 
 loop-again : tie.Need-loop-again Inv-loop μ-loop
-loop-again c = chars-more (c .before .before .before .before .before .before .before .before .loop .inv) (c .before .before .before .before .before .char-at .ensures) (c .before .before .before .before .if3 .left) (c .before .before .add .ensures) (search needs)
+loop-again c = chars-more (c .before .before .before .before .before .before .before .before .before .loop .inv) (c .before .before .before .before .before .before .char-at .ensures) (c .before .before .before .before .if3 .left) (c .before .before .add .ensures) (search needs)
 
 pub string-spec : {M : Type 1} → statement M
 string-spec =
@@ -62,7 +62,7 @@ string-spec =
     μ-loop
     returns
     loop-holds
-    byte-requires
+    octet-at-requires
     add-came
     came-requires
     same-length

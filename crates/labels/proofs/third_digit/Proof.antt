@@ -4,8 +4,8 @@ use borrow.Author.Needs.{needs}
 use Rattle.labels.proofs.third_digit.Statement.{statement}
 use Rattle.labels.proofs.third_digit.Tie as tie
 
-byte-requires : tie.Need-byte-requires
-byte-requires c κs = search needs
+octet-at-requires : tie.Need-octet-at-requires
+octet-at-requires c κs = search needs
 
 returns : tie.Need-returns
 returns c = search (third-low, needs)
@@ -32,22 +32,22 @@ is-coded-requires : tie.Need-is-coded-requires
 is-coded-requires c κs = search needs
 
 returns-3 : tie.Need-returns-3
-returns-3 c = third-no (c .before .before .before .before .before .before .byte .ensures) _ (c .before .before .before .before .before .if1 .left) (c .before .before .before .before .if2 .left) (omega arith) (c .before .is-coded .ensures) (c .if3 .taken) (search needs)
+returns-3 c = third-no (c .before .before .before .before .before .before .octet-at .ensures) _ (c .before .before .before .before .before .if1 .left) (c .before .before .before .before .if2 .left) (omega arith) (c .before .is-coded .ensures) (c .if3 .taken) (search needs)
 
 add-t11 : tie.Need-add-t11
 add-t11 c = search needs
 
-cast-t12 : tie.Need-cast-t12
-cast-t12 c = search (coded-small, needs)
+cast-t13 : tie.Need-cast-t13
+cast-t13 c = search (coded-small, needs)
 
 returns-4 : tie.Need-returns-4
-returns-4 c = third-is (c .before .before .before .before .before .before .byte .ensures) _ (c .before .before .before .before .before .if1 .left) (c .before .before .before .before .if2 .left) (omega arith) (c .before .is-coded .ensures) (c .if3 .left)
+returns-4 c = third-is (c .before .before .before .before .before .before .octet-at .ensures) _ (c .before .before .before .before .before .if1 .left) (c .before .before .before .before .if2 .left) (omega arith) (c .before .is-coded .ensures) (c .if3 .left)
 
 pub third-digit-spec : {M : Type 1} → statement M
 third-digit-spec =
     tie.close
     (tie.spec
-    byte-requires
+    octet-at-requires
     returns
     returns-2
     wide-requires
@@ -58,5 +58,5 @@ third-digit-spec =
     is-coded-requires
     returns-3
     add-t11
-    cast-t12
+    cast-t13
     returns-4)

@@ -11,10 +11,10 @@ use Rattle.members.proofs.cookie_strings.Statement.{statement}
 use Rattle.members.proofs.cookie_strings.Tie as tie
 
 abbrev Inv-loop : tie.InvT-loop
-Inv-loop text out₀ spelled d₀ first₀ i₀ out d first i = Cookies text d₀ out₀ d first i out
+Inv-loop text out₀ d₀ first₀ i₀ out d first i = Cookies text d₀ out₀ d first i out
 
 abbrev μ-loop : tie.MeasureT-loop
-μ-loop text out₀ spelled d₀ first₀ i₀ out d first i = length text - d .at
+μ-loop text out₀ d₀ first₀ i₀ out d first i = length text - d .at
 
 returns : tie.Need-returns Inv-loop μ-loop
 returns c = found-stuck cookieParse _ _ (search needs) (not-true _ (c .if1 .taken))
@@ -56,7 +56,7 @@ next-part-requires : tie.Need-next-part-requires Inv-loop μ-loop
 next-part-requires c κs = search needs
 
 loop-less : tie.Need-loop-less Inv-loop μ-loop
-loop-less c = omega (arith, cookies-far (c .before .before .before .before .before .before .before .before .before .before .if1 .left) (c .before .before .before .before .before .before .before .before .before .loop .inv) (c .before .before .before .before .before .before .comma .ensures) (c .before .before .before .before .cookie-string .ensures) (c .before .if3 .left))
+loop-less c = omega (arith, cookies-far (c .before .before .before .before .before .before .before .before .before .before .before .if1 .left) (c .before .before .before .before .before .before .before .before .before .before .loop .inv) (c .before .before .before .before .before .before .before .comma .ensures) (c .before .before .before .before .before .cookie-string .ensures) (c .before .if3 .left))
 
 loop-again : tie.Need-loop-again Inv-loop μ-loop
 loop-again c = search (cookies-more, needs)

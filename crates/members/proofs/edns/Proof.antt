@@ -6,8 +6,11 @@ use Rattle.members.specs.Element.{edns-read}
 use Rattle.members.proofs.edns.Statement.{statement}
 use Rattle.members.proofs.edns.Tie as tie
 
-version-requires : tie.Need-version-requires
-version-requires c κs = search needs
+slice-aggregate-till : tie.Need-slice-aggregate-till
+slice-aggregate-till c = search needs
+
+till-requires : tie.Need-till-requires
+till-requires c κs = search needs
 
 flags-requires : tie.Need-flags-requires
 flags-requires c κs = search needs
@@ -37,13 +40,14 @@ same-length : tie.Need-same-length
 same-length c = search needs
 
 returns : tie.Need-returns
-returns c = edns-read (c .before .before .before .before .before .before .before .before .before .before .before .before .before .before .before .before .before .before .args .rcode) (c .before .before .before .before .before .before .before .before .before .before .before .before .before .before .before .version .ensures) (c .before .before .before .before .before .before .before .before .before .before .before .before .before .before .flags .ensures) (c .before .before .before .before .before .before .before .before .before .before .before .before .before .full-rcode .ensures) (c .before .before .before .before .before .before .before .before .before .before .before .before .number .ensures) (c .before .before .before .before .before .before .before .before .before .before .hold .ensures) (c .before .before .before .before .before .before .before .before .options .ensures) (c .before .before .before .before .before .edns-fits .ensures) (c .before .before .before .before .judge .ensures) (c .before .before .put-opt .ensures)
+returns c = edns-read (c .before .before .before .before .before .before .before .before .before .before .before .before .before .before .before .before .before .before .before .args .rcode) (c .before .before .before .before .before .before .before .before .before .before .before .before .before .before .before .till .ensures) (c .before .before .before .before .before .before .before .before .before .before .before .before .before .before .flags .ensures) (c .before .before .before .before .before .before .before .before .before .before .before .before .before .full-rcode .ensures) (c .before .before .before .before .before .before .before .before .before .before .before .before .number .ensures) (c .before .before .before .before .before .before .before .before .before .before .hold .ensures) (c .before .before .before .before .before .before .before .before .options .ensures) (c .before .before .before .before .before .edns-fits .ensures) (c .before .before .before .before .judge .ensures) (c .before .before .put-opt .ensures)
 
 pub edns-spec : {M : Type 1} → statement M
 edns-spec =
     tie.close
     (tie.spec
-    version-requires
+    slice-aggregate-till
+    till-requires
     flags-requires
     full-rcode-requires
     number-requires

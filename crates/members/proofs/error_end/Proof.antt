@@ -1,7 +1,5 @@
--- `members::error_end` meets its contract: the brace, TEXT, and where neither goes on.
--- Assumes nothing.
 use borrow.Author.Needs.{needs}
-use Rattle.members.specs.Values.{error-none, error-some, error-stop}
+use Rattle.members.specs.Values.{error-none, error-some}
 use Rattle.members.proofs.error_end.Statement.{statement}
 use Rattle.members.proofs.error_end.Tie as tie
 
@@ -17,20 +15,14 @@ returns c = error-none (c .before .literal .ensures) (c .if1 .taken)
 error-text-requires : tie.Need-error-text-requires
 error-text-requires c κs = search needs
 
+further-requires : tie.Need-further-requires
+further-requires c κs = search needs
+
 same-length : tie.Need-same-length
 same-length c = search needs
 
 returns-2 : tie.Need-returns-2
-returns-2 c = error-some (c .before .before .before .before .before .before .literal .ensures) (c .before .before .before .before .before .if1 .left) (c .before .before .before .error-text .ensures) (c .if2 .taken)
-
-further-requires : tie.Need-further-requires
-further-requires c κs = search needs
-
-same-length-2 : tie.Need-same-length-2
-same-length-2 c = search needs
-
-returns-3 : tie.Need-returns-3
-returns-3 c = error-stop (c .before .before .before .before .before .before .before .literal .ensures) (c .before .before .before .before .before .before .if1 .left) (c .before .before .before .before .error-text .ensures) (c .before .if2 .left) (c .further .ensures) (search needs)
+returns-2 c = error-some (c .before .before .before .before .before .before .literal .ensures) (c .before .before .before .before .before .if1 .left) (c .before .before .before .error-text .ensures) (c .further .ensures)
 
 pub error-end-spec : {M : Type 1} → statement M
 error-end-spec =
@@ -40,8 +32,6 @@ error-end-spec =
     literal-requires
     returns
     error-text-requires
-    same-length
-    returns-2
     further-requires
-    same-length-2
-    returns-3)
+    same-length
+    returns-2)

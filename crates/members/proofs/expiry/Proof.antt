@@ -1,7 +1,5 @@
--- `members::expiry` meets its contract: `"NONE"`, a number, and where neither goes on.
--- Assumes nothing.
 use borrow.Author.Needs.{needs}
-use Rattle.members.specs.Values.{expiry-none, expiry-some, expiry-stop}
+use Rattle.members.specs.Values.{expiry-none, expiry-some}
 use Rattle.members.proofs.expiry.Statement.{statement}
 use Rattle.members.proofs.expiry.Tie as tie
 
@@ -20,20 +18,14 @@ number-requires c κs = search needs
 put-long-requires : tie.Need-put-long-requires
 put-long-requires c κs = search needs
 
+further-requires : tie.Need-further-requires
+further-requires c κs = search needs
+
 same-length : tie.Need-same-length
 same-length c = search needs
 
 returns-2 : tie.Need-returns-2
-returns-2 c = expiry-some (c .before .before .before .before .before .before .before .literal .ensures) (c .before .before .before .before .before .before .if1 .left) (c .before .before .before .before .before .number .ensures) (c .before .before .before .put-long .ensures) (c .if2 .taken)
-
-further-requires : tie.Need-further-requires
-further-requires c κs = search needs
-
-same-length-2 : tie.Need-same-length-2
-same-length-2 c = search needs
-
-returns-3 : tie.Need-returns-3
-returns-3 c = expiry-stop (c .before .before .before .before .before .before .before .before .literal .ensures) (c .before .before .before .before .before .before .before .if1 .left) (c .before .before .before .before .before .before .number .ensures) (c .before .before .before .before .put-long .ensures) (c .before .if2 .left) (c .further .ensures) (search needs)
+returns-2 c = expiry-some (c .before .before .before .before .before .before .before .literal .ensures) (c .before .before .before .before .before .before .if1 .left) (c .before .before .before .before .before .number .ensures) (c .before .before .before .put-long .ensures) (c .further .ensures)
 
 pub expiry-spec : {M : Type 1} → statement M
 expiry-spec =
@@ -44,8 +36,6 @@ expiry-spec =
     returns
     number-requires
     put-long-requires
-    same-length
-    returns-2
     further-requires
-    same-length-2
-    returns-3)
+    same-length
+    returns-2)

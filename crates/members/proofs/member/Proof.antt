@@ -1,7 +1,5 @@
--- `members::member` meets its contract: a member of the table, one that is not, and where neither goes on.
--- Assumes nothing.
 use borrow.Author.Needs.{needs}
-use Rattle.members.specs.Options.{member-known, member-unvalued, member-other, member-none, name-word}
+use Rattle.members.specs.Options.{member-known, member-other, name-word}
 use Rattle.members.proofs.member.Statement.{statement}
 use Rattle.members.proofs.member.Tie as tie
 
@@ -10,12 +8,6 @@ member-name-requires c κs = search needs
 
 known-requires : tie.Need-known-requires
 known-requires c κs = (search needs, name-word (c .before .before .before .member-name .ensures) (c .before .if1 .taken))
-
-same-length : tie.Need-same-length
-same-length c = search needs
-
-returns : tie.Need-returns
-returns c = member-known (c .before .before .before .before .before .before .before .member-name .ensures) (c .before .before .before .known .ensures) (c .if2 .taken)
 
 slice-aggregate-literal : tie.Need-slice-aggregate-literal
 slice-aggregate-literal c = search needs
@@ -26,29 +18,23 @@ literal-requires c κs = search needs
 further-requires : tie.Need-further-requires
 further-requires c κs = search needs
 
-same-length-2 : tie.Need-same-length-2
-same-length-2 c = search needs
+same-length : tie.Need-same-length
+same-length c = search needs
 
-returns-2 : tie.Need-returns-2
-returns-2 c = member-unvalued (c .before .before .before .before .before .before .before .before .before .before .member-name .ensures) (c .before .before .before .before .before .before .known .ensures) (c .before .before .before .before .before .before .before .before .if1 .taken) (c .before .before .before .if2 .left) (c .before .literal .ensures) (c .further .ensures) (search needs)
+returns : tie.Need-returns
+returns c = member-known (c .before .before .before .before .before .before .before .before .before .member-name .ensures) (c .before .before .before .before .before .before .before .if1 .taken) (c .before .before .before .before .before .known .ensures) (c .before .literal .ensures) (c .further .ensures)
 
 other-requires : tie.Need-other-requires
 other-requires c κs = search needs
 
-same-length-3 : tie.Need-same-length-3
-same-length-3 c = search needs
-
-returns-3 : tie.Need-returns-3
-returns-3 c = member-other (c .before .before .before .before .before .before .before .before .member-name .ensures) (c .before .before .before .before .before .before .if1 .left) (c .before .before .before .before .other .ensures) (c .if3 .taken)
-
 further-requires-2 : tie.Need-further-requires-2
 further-requires-2 c κs = search needs
 
-same-length-4 : tie.Need-same-length-4
-same-length-4 c = search needs
+same-length-2 : tie.Need-same-length-2
+same-length-2 c = search needs
 
-returns-4 : tie.Need-returns-4
-returns-4 c = member-none (c .before .before .before .before .before .before .before .before .before .member-name .ensures) (c .before .before .before .before .before .before .before .if1 .left) (c .before .before .before .before .before .other .ensures) (c .before .if3 .left) (c .further2 .ensures) (search needs)
+returns-2 : tie.Need-returns-2
+returns-2 c = member-other (c .before .before .before .before .before .before .before .member-name .ensures) (c .before .before .before .before .before .if1 .left) (c .before .before .before .other .ensures) (c .further2 .ensures)
 
 pub member-spec : {M : Type 1} → statement M
 member-spec =
@@ -56,16 +42,12 @@ member-spec =
     (tie.spec
     member-name-requires
     known-requires
-    same-length
-    returns
     slice-aggregate-literal
     literal-requires
     further-requires
-    same-length-2
-    returns-2
+    same-length
+    returns
     other-requires
-    same-length-3
-    returns-3
     further-requires-2
-    same-length-4
-    returns-4)
+    same-length-2
+    returns-2)

@@ -11,10 +11,10 @@ use Rattle.members.proofs.numerals.Statement.{statement}
 use Rattle.members.proofs.numerals.Tie as tie
 
 abbrev Inv-loop : tie.InvT-loop
-Inv-loop text wide out₀ spelled d₀ first₀ out d first = Numerals wide text d₀ out₀ d first out
+Inv-loop text wide out₀ d₀ first₀ out d first = Numerals wide text d₀ out₀ d first out
 
 abbrev μ-loop : tie.MeasureT-loop
-μ-loop text wide out₀ spelled d₀ first₀ out d first = length text - d .at
+μ-loop text wide out₀ d₀ first₀ out d first = length text - d .at
 
 returns : tie.Need-returns Inv-loop μ-loop
 returns c = found-stuck numeralsParse _ _ (search needs) (not-true _ (c .if1 .taken))
@@ -50,7 +50,7 @@ returns-3 : tie.Need-returns-3 Inv-loop μ-loop
 returns-3 c = search (numerals-stop, needs)
 
 loop-less : tie.Need-loop-less Inv-loop μ-loop
-loop-less c = omega (arith, numerals-far (c .before .before .before .before .before .before .before .before .before .if1 .left) (c .before .before .before .before .before .before .before .before .loop .inv) (c .before .before .before .before .before .comma .ensures) (c .before .before .before .numeral .ensures) (c .if3 .left))
+loop-less c = omega (arith, numerals-far (c .before .before .before .before .before .before .before .before .before .before .if1 .left) (c .before .before .before .before .before .before .before .before .before .loop .inv) (c .before .before .before .before .before .before .comma .ensures) (c .before .before .before .before .numeral .ensures) (c .if3 .left))
 
 loop-again : tie.Need-loop-again Inv-loop μ-loop
 loop-again c = search (numerals-more, needs)

@@ -12,10 +12,10 @@ use Rattle.members.proofs.option_members.Statement.{statement}
 use Rattle.members.proofs.option_members.Tie as tie
 
 abbrev Inv-loop : tie.InvT-loop
-Inv-loop text out₀ spelled d₀ least₀ out d least = Rising text d₀ out₀ d least out
+Inv-loop text out₀ d₀ least₀ out d least = Rising text d₀ out₀ d least out
 
 abbrev μ-loop : tie.MeasureT-loop
-μ-loop text out₀ spelled d₀ least₀ out d least = length text - d .at
+μ-loop text out₀ d₀ least₀ out d least = length text - d .at
 
 returns : tie.Need-returns Inv-loop μ-loop
 returns c = found-stuck membersParse _ _ (search needs) (not-true _ (c .if1 .taken))
@@ -45,7 +45,7 @@ same-length-2 : tie.Need-same-length-2 Inv-loop μ-loop
 same-length-2 c = search needs
 
 returns-3 : tie.Need-returns-3 Inv-loop μ-loop
-returns-3 c = rising-stop (c .before .before .before .before .before .before .before .before .before .if1 .left) (c .before .before .before .before .before .before .before .before .loop .inv) (c .before .before .before .before .rising-member .ensures) (c .before .before .before .before .before .before .before .octet-at .ensures) (c .before .before .before .before .before .before .if2 .left) (c .if3 .taken)
+returns-3 c = rising-stop (c .before .before .before .before .before .before .before .before .before .before .if1 .left) (c .before .before .before .before .before .before .before .before .before .loop .inv) (c .before .before .before .before .before .rising-member .ensures) (c .before .before .before .before .before .before .before .before .octet-at .ensures) (c .before .before .before .before .before .before .before .if2 .left) (c .if3 .taken)
 
 cast-least : tie.Need-cast-least Inv-loop μ-loop
 cast-least c = search needs
@@ -54,10 +54,10 @@ add-least : tie.Need-add-least Inv-loop μ-loop
 add-least c = search needs
 
 loop-less : tie.Need-loop-less Inv-loop μ-loop
-loop-less c = omega (arith, rising-far (c .before .before .before .before .before .before .before .before .before .if1 .left) (c .before .before .before .before .before .before .before .before .loop .inv) (c .before .before .before .before .rising-member .ensures) (c .if3 .left))
+loop-less c = omega (arith, rising-far (c .before .before .before .before .before .before .before .before .before .before .before .if1 .left) (c .before .before .before .before .before .before .before .before .before .before .loop .inv) (c .before .before .before .before .before .before .rising-member .ensures) (c .before .if3 .left))
 
 loop-again : tie.Need-loop-again Inv-loop μ-loop
-loop-again c = rising-more (c .before .before .before .before .before .before .before .before .before .if1 .left) (c .before .before .before .before .before .before .before .before .loop .inv) (c .before .before .before .before .rising-member .ensures) (c .if3 .left) (search needs) refl
+loop-again c = rising-more (c .before .before .before .before .before .before .before .before .before .before .before .if1 .left) (c .before .before .before .before .before .before .before .before .before .before .loop .inv) (c .before .before .before .before .before .before .rising-member .ensures) (c .before .if3 .left) (search needs) refl
 
 pub option-members-spec : {M : Type 1} → statement M
 option-members-spec =

@@ -31,7 +31,7 @@ same-length : tie.Need-same-length
 same-length c = search needs
 
 returns : tie.Need-returns
-returns c = other-hex (c .before .before .before .before .before .before .before .before .before .before .before .before .before .hex .ensures) (c .before .before .before .before .before .before .before .before .before .before .before .hold .ensures) (c .before .before .before .before .before .before .before .before .before .put-hex .ensures) (c .before .before .before .before .before .before .other-fits .ensures) (c .before .before .before .before .before .judge .ensures) (c .before .before .before .before .code-of .ensures) (c .before .before .put-front .ensures)
+returns c = other-hex (c .before .before .before .before .before .before .before .before .before .before .before .before .before .hex .ensures) (c .before .before .before .before .before .before .before .before .before .before .before .hold .ensures) (c .before .before .before .before .before .before .before .before .before .put-hex .ensures) (c .before .before .before .before .before .before .other-fits .ensures) (c .before .before .before .before .before .judge .ensures) (c .before .before .before .code-of .ensures) (c .before .before .put-front .ensures)
 
 pub other-hex-spec : {M : Type 1} → statement M
 other-hex-spec =

@@ -1,7 +1,5 @@
--- `members::padding_end` meets its contract: the brace, HEX, and where neither goes on.
--- Assumes nothing.
 use borrow.Author.Needs.{needs}
-use Rattle.members.specs.Values.{padding-zeros, padding-some, padding-stop}
+use Rattle.members.specs.Values.{padding-zeros, padding-some}
 use Rattle.members.proofs.padding_end.Statement.{statement}
 use Rattle.members.proofs.padding_end.Tie as tie
 
@@ -23,20 +21,14 @@ returns c = padding-zeros (c .before .before .before .before .before .literal .e
 padding-hex-requires : tie.Need-padding-hex-requires
 padding-hex-requires c κs = search needs
 
+further-requires : tie.Need-further-requires
+further-requires c κs = search needs
+
 same-length-2 : tie.Need-same-length-2
 same-length-2 c = search needs
 
 returns-2 : tie.Need-returns-2
-returns-2 c = padding-some (c .before .before .before .before .before .before .literal .ensures) (c .before .before .before .before .before .if1 .left) (c .before .before .before .padding-hex .ensures) (c .if2 .taken)
-
-further-requires : tie.Need-further-requires
-further-requires c κs = search needs
-
-same-length-3 : tie.Need-same-length-3
-same-length-3 c = search needs
-
-returns-3 : tie.Need-returns-3
-returns-3 c = padding-stop (c .before .before .before .before .before .before .before .literal .ensures) (c .before .before .before .before .before .before .if1 .left) (c .before .before .before .before .padding-hex .ensures) (c .before .if2 .left) (c .further .ensures) (search needs)
+returns-2 c = padding-some (c .before .before .before .before .before .before .literal .ensures) (c .before .before .before .before .before .if1 .left) (c .before .before .before .padding-hex .ensures) (c .further .ensures)
 
 pub padding-end-spec : {M : Type 1} → statement M
 padding-end-spec =
@@ -48,8 +40,6 @@ padding-end-spec =
     same-length
     returns
     padding-hex-requires
-    same-length-2
-    returns-2
     further-requires
-    same-length-3
-    returns-3)
+    same-length-2
+    returns-2)

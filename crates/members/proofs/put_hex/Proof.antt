@@ -1,22 +1,16 @@
--- `members::put_hex` meets its contract.
--- Assumes nothing.
-use Prim.Native.Nat.{_-_}
 use borrow.Author.Needs.{needs}
-use Rattle.members.specs.Values.{hex-over, hex-put, span-long}
+use Rattle.members.specs.Values.{hex-past, hex-put, hex-room}
 use Rattle.members.proofs.put_hex.Statement.{statement}
 use Rattle.members.proofs.put_hex.Tie as tie
 
 size-of-requires : tie.Need-size-of-requires
 size-of-requires c κs = search needs
 
-over-requires : tie.Need-over-requires
-over-requires c κs = search needs
-
-returns : tie.Need-returns
-returns c = search (hex-over, needs)
-
 hold-requires : tie.Need-hold-requires
 hold-requires c κs = search needs
+
+returns : tie.Need-returns
+returns c = search (hex-past, needs)
 
 sub-put-octets : tie.Need-sub-put-octets
 sub-put-octets c = search needs
@@ -28,22 +22,21 @@ part-put-octets-end : tie.Need-part-put-octets-end
 part-put-octets-end c = search needs
 
 put-octets-requires : tie.Need-put-octets-requires
-put-octets-requires c κs = (c .before .before .before .before .before .before .before .pre .0 .digits, span-long (c .before .before .before .before .before .before .before .args .text .now) (c .before .before .before .before .before .before .before .args .h .from) (c .before .before .before .before .before .before .before .args .h .end - c .before .before .before .before .before .before .before .args .h .from) (c .before .before .before .before .before .before .before .args .c .to) (search needs))
+put-octets-requires c κs = (c .before .before .before .before .before .before .before .before .pre .0 .digits, hex-room (c .before .before .before .before .before .size-of .ensures) (c .before .before .before .before .hold .ensures) (c .before .before .before .before .before .before .before .before .pre .0) (c .before .before .if1 .left))
 
 same-length : tie.Need-same-length
 same-length c = search needs
 
 returns-2 : tie.Need-returns-2
-returns-2 c = search (hex-put, needs)
+returns-2 c = hex-put (c .before .before .before .before .before .before .before .before .size-of .ensures) (c .before .before .before .before .before .before .before .hold .ensures) (c .before .before .put-octets .ensures)
 
 pub put-hex-spec : {M : Type 1} → statement M
 put-hex-spec =
     tie.close
     (tie.spec
     size-of-requires
-    over-requires
-    returns
     hold-requires
+    returns
     sub-put-octets
     part-put-octets-start
     part-put-octets-end

@@ -1,19 +1,17 @@
+use native.Mathlib.Omega.{arith}
 use borrow.Author.Needs.{needs}
-use Rattle.tokens.specs.Step.{emits, emits-over}
+use Rattle.tokens.specs.Step.{emits, emits-none, held-room}
 use Rattle.tokens.proofs.emit.Statement.{statement}
 use Rattle.tokens.proofs.emit.Tie as tie
 
-add-end : tie.Need-add-end
-add-end c = search needs
-
-over-requires : tie.Need-over-requires
-over-requires c κs = search needs
+hold-requires : tie.Need-hold-requires
+hold-requires c κs = search needs
 
 returns : tie.Need-returns
-returns c = search (emits-over, needs)
+returns c = search (emits-none, needs)
 
 put-all-requires : tie.Need-put-all-requires
-put-all-requires c κs = search needs
+put-all-requires c κs = omega (arith, held-room (c .before .before .before .hold .ensures) (c .before .if1 .left))
 
 same-length : tie.Need-same-length
 same-length c = search needs
@@ -22,5 +20,4 @@ returns-2 : tie.Need-returns-2
 returns-2 c = search (emits, needs)
 
 pub emit-spec : {M : Type 1} → statement M
-emit-spec =
-    tie.close (tie.spec add-end over-requires returns put-all-requires same-length returns-2)
+emit-spec = tie.close (tie.spec hold-requires returns put-all-requires same-length returns-2)

@@ -9,10 +9,10 @@ use Rattle.tokens.proofs.hex.Statement.{statement}
 use Rattle.tokens.proofs.hex.Tie as tie
 
 abbrev Inv-loop : tie.InvT-loop
-Inv-loop text c from spelled at₀ at = Pairs text c at
+Inv-loop text c from at₀ at = Pairs text c at
 
 abbrev μ-loop : tie.MeasureT-loop
-μ-loop text c from spelled at₀ at = length text - at
+μ-loop text c from at₀ at = length text - at
 
 returns : tie.Need-returns Inv-loop μ-loop
 returns c = search (hex-stuck, needs)

@@ -6,10 +6,10 @@ use Rattle.tokens.proofs.literal.Statement.{statement}
 use Rattle.tokens.proofs.literal.Tie as tie
 
 abbrev Inv-loop : tie.InvT-loop
-Inv-loop text c lit good at₀ i₀ at i = Matching lit text c at i
+Inv-loop text c lit at₀ i₀ at i = Matching lit text c at i
 
 abbrev μ-loop : tie.MeasureT-loop
-μ-loop text c lit good at₀ i₀ at i = length lit - i
+μ-loop text c lit at₀ i₀ at i = length lit - i
 
 returns : tie.Need-returns Inv-loop μ-loop
 returns c = search (passed-stuck, needs)

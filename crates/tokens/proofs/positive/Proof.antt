@@ -9,10 +9,10 @@ use Rattle.tokens.proofs.positive.Statement.{statement}
 use Rattle.tokens.proofs.positive.Tie as tie
 
 abbrev Inv-loop : tie.InvT-loop
-Inv-loop text c spelled at₀ value₀ at value = Digits text c at value
+Inv-loop text c at₀ value₀ at value = Digits text c at value
 
 abbrev μ-loop : tie.MeasureT-loop
-μ-loop text c spelled at₀ value₀ at value = length text - at
+μ-loop text c at₀ value₀ at value = length text - at
 
 returns : tie.Need-returns Inv-loop μ-loop
 returns c = search (positive-stuck, needs)

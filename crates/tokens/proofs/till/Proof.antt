@@ -1,7 +1,7 @@
 use borrow.Author.Needs.{needs}
-use Rattle.reader.specs.Head.{till-read}
-use Rattle.reader.proofs.head.till.Statement.{statement}
-use Rattle.reader.proofs.head.till.Tie as tie
+use Rattle.tokens.specs.Number.{till-read}
+use Rattle.tokens.proofs.till.Statement.{statement}
+use Rattle.tokens.proofs.till.Tie as tie
 
 number-requires : tie.Need-number-requires
 number-requires c κs = search needs

@@ -1,9 +1,7 @@
--- `members::octet_at` meets its contract.
--- Assumes nothing.
+use Rattle.tokens.specs.Place.{byte-past}
 use borrow.Author.Needs.{needs}
-use Rattle.members.proofs.octet_at.Statement.{statement}
-use Rattle.members.proofs.octet_at.Tie as tie
-use Rattle.labels.specs.Place.{byte-past}
+use Rattle.tokens.proofs.octet_at.Statement.{statement}
+use Rattle.tokens.proofs.octet_at.Tie as tie
 
 shared-slice-read-result : tie.Need-shared-slice-read-result
 shared-slice-read-result c = search needs

@@ -1,16 +1,14 @@
--- What a reader tells of a place in a text. Assumes nothing.
-use mathlib.Core.Path.{_≡_, refl, sym, _∙_}
+-- The octet at a place of a text. Assumes nothing.
+use mathlib.Core.Path.{_≡_, sym, _∙_}
 use mathlib.Core.Logic.{⊎-elim}
-use mathlib.Core.Bool.{Bool, true, false}
 use mathlib.Core.List.{List, _∷_}
 use Prim.Native.Nat.{ℕ, _+_, _≤_, _<_}
 use native.Mathlib.Omega.{arith}
 use borrow.Author.Tests.{ne-eqb}
 use lib.ListN.{length, drop, getD, drop-of-length-le, List·getD-eq-default}
-use Rattle.octets.specs.Parsed.{Parsed, took, stuck, strip}
+use Rattle.octets.specs.Parsed.{stuck, strip}
 use Rattle.octets.specs.Fields.{drop-one}
-use Rattle.tokens.specs.Cursor.{Got, clash}
 use Rattle.tokens.specs.Many.{le-or-lt}
 
 -- the octet at a place, 0 past the end
 pub record Byte (t : List ℕ) (i x : ℕ) : Type 0 where
@@ -43,23 +41,3 @@ no-strip {t} {at} {x} y l e d = ⊎-elim end other (le-or-lt (length t) at)
 
     other : at < length t → strip (y ∷ l) (drop at t) ≡ stuck (drop at t)
     other q = rw (from-byte e q, ne-eqb y x (λ k. d (sym k)))
-
--- a value was found and `n` is the place behind it, or nothing goes on at `n`
-pub data Tells {A : Type 0} (t : List ℕ) (P : A → Type 0) (found : Bool) (n : ℕ) : Parsed A → Type 0 where
-  missing : found ≡ false → Tells t P found n (stuck (drop n t))
-  there : {a : A} → found ≡ true → P a → Tells t P found n (took a (drop n t))
-
-module _ {A : Type 0} {t : List ℕ} {P : A → Type 0} {found : Bool} {n : ℕ} where
-  pub tells-missing : {o : Parsed A} → o ≡ stuck (drop n t) → found ≡ false → Tells t P found n o
-  tells-missing e g = rw e (missing g)
-
-  pub tells-there : {o : Parsed A} {a : A} → o ≡ took a (drop n t) → found ≡ true → P a → Tells t P found n o
-  tells-there e g v = rw e (there g v)
-
-  pub tells-bad : {o : Parsed A} → Tells t P found n o → found ≡ false → o ≡ stuck (drop n t)
-  tells-bad (missing g) e = refl
-  tells-bad (there g v) e = clash e g
-
-  pub tells-got : {o : Parsed A} → Tells t P found n o → found ≡ true → Got o P (drop n t)
-  tells-got (missing g) e = clash g e
-  tells-got (there {a} g v) e = record { value = a; is = refl; holds = v }
