@@ -11,7 +11,6 @@ use lib.Seq.{take-all}
 use Rattle.octets.specs.Lists.{digitValue, paired, All, Octets, each}
 use Rattle.octets.specs.Hexadecimal.{hexOf, hexDigit, hexOctet, hexDigit-in}
 use Rattle.octets.specs.Overlay.{Wrote, past, copy-step}
-use Rattle.octets.specs.Writing.{each-hex-length}
 
 -- h is hexadecimal digits, two an octet: its octets are `paired h`
 pub record Hexes (h : List ℕ) : Type 0 where
@@ -54,9 +53,6 @@ pub paired-half : (h : List ℕ) → length (paired h) ≡ length h / 2
 paired-half [] = refl
 paired-half (x ∷ []) = refl
 paired-half (x ∷ y ∷ l) = let e = paired-half l in omega arith
-
-pub hexes-length : {h : List ℕ} → Hexes h → length h ≡ 2 * length (paired h)
-hexes-length {h} x = ap length (x .spelled) ∙ each-hex-length (paired h)
 
 -- by the code's division
 pub half : (h : List ℕ) {n : ℕ} → n ≡ length h → n / 2 ≡ length (paired h)

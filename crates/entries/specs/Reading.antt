@@ -34,7 +34,7 @@ use Rattle.tokens.specs.declared.Span.{Span}
 use Rattle.tokens.specs.declared.Ttl.{Ttl}
 use Rattle.tokens.specs.Cursor.{Passed}
 use Rattle.tokens.specs.Step.{Found, found-as, found-sound, found-lit, found-map, found-behind, found-pair, found-at, Put, put-then, put-from, put-to, put-as, put-nothing, put-judged, put-emit, Step, step-lit, step-pair, step-behind, step-on, Judged, Emits}
-use Rattle.tokens.specs.Number.{capped, NumberRead}
+use Rattle.tokens.specs.Number.{capped, capped-is, NumberRead}
 use Rattle.tokens.specs.Signed.{Kept, SignedRead}
 use Rattle.tokens.specs.Hex.{HexRun, HexRead}
 use Rattle.tokens.specs.Fields.{Done}
@@ -219,13 +219,6 @@ RecordFacts rcode = Facts recordMeant? recordOctets (λ r. opt? (itemRecord r)) 
 abbrev pub RecordRead : ℕ → List ℕ → Cursor → List ℕ → Entry → List ℕ → Type 0
 RecordRead rcode t c b r b′ = Found recordRest (RecordFacts rcode c b r b′) t c (r .cursor)
 
-capped-eqb : (n : ℕ) → eqb (capped n) 41 ≡ eqb n 41
-capped-eqb n = go (eqb n 41) refl
-  where
-    go : (b : Bool) → eqb n 41 ≡ b → eqb (capped n) 41 ≡ b
-    go true e = eq-eqb (capped n) 41 (omega (arith, eqb→eq n 41 (subst T (sym e) tt)))
-    go false e = ne-eqb (capped n) 41 (λ d. eqb-false n 41 e (omega (arith, d)))
-
 present-same : {A : Type 0} (o : Option A) → present? o ≡ not (absent? o)
 present-same none = refl
 present-same (some a) = refl
@@ -271,14 +264,14 @@ record-read {rcode} {root} {t} {b} {b₁} {b₂} {b₃} {b₄} {c} {d} {f} {g} {
         chain a b c d e f = simp append-assoc
 
     hides : (u : Fields) → none? (u .0) ≡ root → k .value ≡ capped (u .1 .0) → (eqb (k .value) 41 && showsEdns root (unsigned (u .1 .1 .1 .0)) rcode (u .1 .1 .1 .1)) ≡ hides? rcode (recordFrom u)
-    hides u e d = rw (d, capped-eqb (u .1 .0), ← e) (ap (λ x. eqb (u .1 .0) 41 && x) (shows-edns rcode (itemRecord (recordFrom u)) ∙ present-same (ednsOf rcode (itemRecord (recordFrom u)))))
+    hides u e d = rw (d, capped-is (u .1 .0) 41 (omega arith), ← e) (ap (λ x. eqb (u .1 .0) 41 && x) (shows-edns rcode (itemRecord (recordFrom u)) ∙ present-same (ednsOf rcode (itemRecord (recordFrom u)))))
 
     told : (u : Fields) → (Put name? nameForm c b d b₁ (u .0) × (none? (u .0) ≡ eqb (d .at) (c .at + 2)))
         × ((Put word? two f b₁ (k .cursor) b₂ (u .1 .0) × (k .value ≡ capped (u .1 .0))) × ((Put word? two g b₂ (l .cursor) b₃ (u .1 .1 .0) × (l .value ≡ capped (u .1 .1 .0))) × Tail (k .value) root rcode h b₃ r b₄ (u .1 .1 .1)))
         → RecordFacts rcode c b r b₄ (recordFrom u)
     told u v = record {
       put = put-as (record-judged u (v .1 .1 .1 .signed) (v .1 .1 .1 .octets)) (wire u) all;
-      is-opt = v .1 .1 .1 .opt ∙ rw (v .1 .0 .1) (capped-eqb (u .1 .0));
+      is-opt = v .1 .1 .1 .opt ∙ rw (v .1 .0 .1) (capped-is (u .1 .0) 41 (omega arith));
       is-shown = v .1 .1 .1 .shown;
       is-hidden = λ m. v .1 .1 .1 .hidden m ∙ hides u (v .0 .1 ∙ sym (two-behind (c .at) (d .at) (n .moves .onward)) ∙ sym e) (v .1 .0 .1);
     }

@@ -21,7 +21,7 @@ use Rattle.tokens.specs.Cursor.{Safe, keeps-same, Passed, Came}
 use Rattle.tokens.specs.Step.{Found, found-as, found-lit, found-stuck, Put, put-from, put-to, put-nothing, put-last, all-last, Step}
 use Rattle.tokens.specs.Leaf.{found-same}
 use Rattle.tokens.specs.Place.{Byte}
-use Rattle.members.specs.Items.{comma-of, part-of, item-of, Items, items-start, items-end, items-stop, items-far, items-more}
+use Rattle.tokens.specs.Items.{comma-of, part-of, item-of, Items, items-start, items-end, items-stop, items-far, items-more}
 use Rattle.entries.specs.Meant.{any, recordMeant?, recordOctets, hides?, itemMeant?, itemOctets, itemOpt?, itemShown?, itemHides?}
 use Rattle.entries.specs.Reading.{entry-parse, Facts, RecordRead}
 use Rattle.entries.specs.Items.{ItemRead}

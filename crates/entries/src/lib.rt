@@ -12,7 +12,6 @@ ghost use Rattle.entries.specs.Sections.{AskedRead, TitledRead, OneRead,
 use digits::fits_layout;
 use digits::is_edns;
 use labels::name;
-use members::comma;
 use members::edns;
 use members::put_hex;
 use members::size_of;
@@ -20,6 +19,7 @@ use tokens::Amount;
 use tokens::Cursor;
 use tokens::Span;
 use tokens::came;
+use tokens::comma;
 use tokens::either;
 use tokens::emit;
 use tokens::further;

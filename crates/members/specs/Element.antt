@@ -4,7 +4,7 @@ use mathlib.Core.Bool.{Bool, true, false, _&&_}
 use mathlib.Core.List.{List, [], _∷_, _++_, map}
 use Prim.Native.Nat.{ℕ, _+_, _-_, _*_, _/_, _%_, _≤_, _<_}
 use native.Mathlib.Omega.{arith}
-use borrow.Author.Tests.{eqb-true, eqb-false, eq-eqb, ne-eqb, lt-ltb, le-ltb, ltb-true, ltb-false}
+use borrow.Author.Tests.{eqb-true, lt-ltb}
 use lib.Dec.{T, ltb, eqb, ltb→lt}
 use lib.ListN.{length}
 use Rattle.octets.specs.Lists.{ascii, all, All, each, octet?, key?, textOf}
@@ -28,7 +28,7 @@ use Rattle.tokens.specs.Cursor.{Keeps, keeps-then, Passed}
 use Rattle.tokens.specs.Step.{Found, Put, Step, Held, Judged, found-at, found-from, found-sound, found-map, found-lit, found-behind, found-pair, put-from, put-as, put-before, put-judged}
 use Rattle.tokens.specs.declared.Amount.{Amount}
 use Rattle.tokens.specs.declared.Row.{Row}
-use Rattle.tokens.specs.Number.{capped, NumberRead, TillRead}
+use Rattle.tokens.specs.Number.{capped, capped-below, capped-is, NumberRead, TillRead}
 use Rattle.tokens.specs.Rows.{RowRead}
 use Rattle.members.specs.Options.{options?, OptionsStep}
 
@@ -76,20 +76,6 @@ rcode-read q x e = record { found = found-lit q (found-behind (x .found) e); kee
 -- ---- what they must be
 abbrev pub fits? : ℕ → ℕ → ℕ → ℕ → Bool
 fits? version full rcode size = eqb version 0 && eqb (full % 16) rcode && ltb size 65536
-
-capped-zero : (v n : ℕ) → v ≡ capped n → eqb v 0 ≡ eqb n 0
-capped-zero v n e = go (eqb n 0) refl
-  where
-    go : (b : Bool) → eqb n 0 ≡ b → eqb v 0 ≡ b
-    go true d = eq-eqb v 0 (omega (arith, e, eqb-true n 0 d))
-    go false d = ne-eqb v 0 (λ z. eqb-false n 0 d (omega (arith, e, z)))
-
-capped-word : (v n : ℕ) → v ≡ capped n → ltb v 65536 ≡ ltb n 65536
-capped-word v n e = go (ltb n 65536) refl
-  where
-    go : (b : Bool) → ltb n 65536 ≡ b → ltb v 65536 ≡ b
-    go true d = lt-ltb v 65536 (omega (arith, e, ltb-true n 65536 d))
-    go false d = le-ltb v 65536 (omega (arith, e, ltb-false n 65536 d))
 
 -- the rest of the conditions follows from the grammar
 abbrev pub element? : ℕ → EdnsItem → Bool
@@ -200,7 +186,7 @@ edns-read rcode {t} {c} {h} {o} {j} {b} {b₁} {b₂} {v} {s} {f} {x} {ok} {e = 
     done e i q = put-from (keeps-then (version .keeps) (keeps-then (row .keeps) (keeps-then (full .keeps) (size .keeps)))) (put-as refl (form-is e) (put-before frontOf places refl p before))
       where
         fits : ok ≡ fits? (e .version) (e .rcode) rcode (e .size)
-        fits = fit ∙ rw (capped-zero (v .value) (e .version) (q .0), q .1 .1 .0, capped-word (s .value) (e .size) (q .1 .1 .1 .0))
+        fits = fit ∙ rw (q .0, capped-is (e .version) 0 (omega arith), q .1 .1 .0, q .1 .1 .1 .0, capped-below (e .size) 65536 (omega arith))
 
         p : Put (element? rcode) rdataOf h b j b₁ e
         p = put-judged (put-as {ok′ = λ e. options? (e .options)} {wire′ = rdataOf} {a′ = e} refl refl (q .1 .1 .1 .1)) judged (element-is rcode e i ∙ ap (λ (k : Bool). options? (e .options) && k) (sym fits))

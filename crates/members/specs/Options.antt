@@ -37,7 +37,7 @@ use Rattle.tokens.specs.Hex.{HexRun, HexRead}
 use Rattle.tokens.specs.Rows.{RowRead}
 use Rattle.tokens.specs.Fields.{Done}
 use Rattle.tokens.specs.Place.{Byte}
-use Rattle.members.specs.Items.{part-of, item-of, Items, items-start, items-end, items-stop, items-far, items-more}
+use Rattle.tokens.specs.Items.{part-of, item-of, Items, items-start, items-end, items-stop, items-far, items-more}
 use Rattle.members.specs.Values.{run-octets, ValueStep}
 
 -- ---- code and length in front of a value

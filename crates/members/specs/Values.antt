@@ -35,7 +35,7 @@ use Rattle.tokens.specs.Fields.{Done, done-past, done-held, found-done}
 use Rattle.labels.specs.String.{StringRead}
 use Rattle.digits.specs.Digits.{Hexes, hexes, paired-hexes}
 use Rattle.tokens.specs.Place.{Byte}
-use Rattle.members.specs.Items.{comma-of, part-of, item-of, Items, items-start, items-end, items-stop, items-far, items-more}
+use Rattle.tokens.specs.Items.{comma-of, part-of, item-of, Items, items-start, items-end, items-stop, items-far, items-more}
 
 -- ---- octets in hexadecimal, where they stand in the text
 -- digits, two an octet, from one place of the text to another

@@ -9,11 +9,10 @@ ghost use Rattle.octets.specs.Overlay.{Wrote};
 ghost use Rattle.options.specs.Options.{hexObject, octetList, expiry, hexList, padding, wordList, extendedError, formOf};
 ghost use Rattle.strict.specs.Members.{cookie?, text?, optional};
 ghost use Rattle.strict.specs.Parser.{optionMembers};
-ghost use Rattle.tokens.specs.Cursor.{Safe, Passed};
+ghost use Rattle.tokens.specs.Cursor.{Safe};
 ghost use Rattle.tokens.specs.Step.{Step};
 ghost use Rattle.tokens.specs.Fields.{Done};
 ghost use Rattle.tokens.specs.Hex.{HexRun};
-ghost use Rattle.members.specs.Items.{comma-of};
 ghost use Rattle.members.specs.Values.{Digits, sizeOf, numeral?, numeralForm, numeralsParse, ValueStep, part?, next-part, CookieStep, cookieParse, Zeros, PaddingFits, PaddingHex, PaddingEnd, ErrorText, errorEnd};
 ghost use Rattle.members.specs.Options.{NameRead, Fronted, KnownStep, OtherFits, codeOf, OtherHex, OtherRead, MemberRead, RisingRead, OptionsStep, membersParse};
 ghost use Rattle.members.specs.Element.{RcodeRead, fits?, OptFronted, EdnsStep};
@@ -28,6 +27,7 @@ use tokens::Cursor;
 use tokens::Row;
 use tokens::Span;
 use tokens::came;
+use tokens::comma;
 use tokens::flags;
 use tokens::further;
 use tokens::hex;
@@ -43,17 +43,6 @@ use tokens::put_word;
 use tokens::rcode;
 use tokens::stop;
 use tokens::till;
-
-// The comma before an item; the first has none.
-pub fn comma(text: &[u8], c: Cursor, first: bool) -> Cursor
-    requires { ⌜ Safe (now text) c ⌝ }
-    ensures { λ r. ⌜ Passed (comma-of first) (now (text .entry)) c r ⌝ }
-{
-    if first {
-        return c;
-    }
-    literal(text, c, b",")
-}
 
 // ---- octets in hexadecimal
 // How many octets the digits between two places are.

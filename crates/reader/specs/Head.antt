@@ -1,11 +1,10 @@
 -- The head of a text: how its numbers are read, judged and written. Assumes nothing.
 use mathlib.Core.Path.{_≡_, refl, sym, _∙_, subst}
-use mathlib.Core.Bool.{Bool, true, false, not, _&&_}
+use mathlib.Core.Bool.{Bool, true, false, _&&_}
 use mathlib.Core.List.{List, [], _∷_, _++_}
-use Prim.Native.Nat.{ℕ, _+_, _*_, _%_, _≤_}
+use Prim.Native.Nat.{ℕ, _+_, _*_, _%_}
 use native.Mathlib.Omega.{arith}
-use borrow.Author.Tests.{lt-ltb, le-ltb}
-use lib.Dec.{T, ltb, ltb→lt, nltb→le}
+use lib.Dec.{T, ltb→lt}
 use Rattle.octets.specs.Lists.{ascii, word?}
 use Rattle.octets.specs.Fields.{two}
 use Rattle.octets.specs.Bits.{and-left, and-right}
@@ -17,7 +16,7 @@ use Rattle.tokens.specs.declared.Cursor.{Cursor}
 use Rattle.tokens.specs.declared.Amount.{Amount}
 use Rattle.tokens.specs.Cursor.{Keeps, keeps-then, Passed}
 use Rattle.tokens.specs.Step.{Found, found-as, found-lit, found-map, found-pair, found-at, Put, put-from, put-as, Judged, Emits}
-use Rattle.tokens.specs.Number.{capped, NumberRead, TillRead}
+use Rattle.tokens.specs.Number.{capped, capped-below, NumberRead, TillRead}
 use Rattle.tokens.specs.Fields.{Done, done-then}
 use Rattle.strict.specs.Parser.{Head, head}
 use Rattle.entries.specs.Meant.{highMeant?, highOctet, lowMeant?, lowOctet, headMeant?, headOctets}
@@ -74,19 +73,12 @@ HighRead = FlagsRead highParse highMeant? highOctet
 abbrev pub LowRead : List ℕ → Cursor → Flags → Type 0
 LowRead = FlagsRead lowParse lowMeant? lowOctet
 
--- a test of a number below 2^32 is the same of what was kept of it
-capped-test : (n k : ℕ) → k ≤ 4294967296 → ltb (capped n) k ≡ ltb n k
-capped-test n k h = go (ltb n k) refl
-  where
-    go : (b : Bool) → ltb n k ≡ b → ltb (capped n) k ≡ b
-    go true e = lt-ltb (capped n) k (omega (arith, ltb→lt n k (subst T (sym e) tt)))
-    go false e = le-ltb (capped n) k (omega (arith, nltb→le n k (subst (λ b. T (not b)) (sym e) tt)))
-
+-- what was kept of the numbers
 bit-kept : (n : ℕ) → bit? (capped n) ≡ bit? n
-bit-kept n = capped-test n 2 (omega arith)
+bit-kept n = capped-below n 2 (omega arith)
 
 four-bits-kept : (n : ℕ) → four-bits? (capped n) ≡ four-bits? n
-four-bits-kept n = capped-test n 16 (omega arith)
+four-bits-kept n = capped-below n 16 (omega arith)
 
 bit-in : (n : ℕ) → T (bit? n) → capped n % 2 ≡ n
 bit-in n h = omega (arith, ltb→lt n 2 h)

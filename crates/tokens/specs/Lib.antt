@@ -4,6 +4,7 @@ pub mod Step
 pub mod Many
 pub mod Place
 pub mod Leaf
+pub mod Items
 pub mod Choice
 pub mod Number
 pub mod Signed

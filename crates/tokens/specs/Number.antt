@@ -1,11 +1,11 @@
 -- Numbers of any size: what is kept of them, and how a reader goes through one. Assumes nothing.
 use mathlib.Core.Path.{_≡_, refl, sym, _∙_, ap, subst}
-use mathlib.Core.Bool.{true, false, not}
+use mathlib.Core.Bool.{Bool, true, false, not}
 use mathlib.Core.List.{List, [], _∷_}
 use Prim.Native.Nat.{ℕ, _+_, _-_, _*_, _≤_, _<_, min}
 use native.Mathlib.Omega.{arith}
-use borrow.Author.Tests.{not-true, not-false}
-use lib.Dec.{T, T-not, not-T, leb, ltb, le→leb, lt→ltb, leb→le, ltb→lt}
+use borrow.Author.Tests.{not-true, not-false, lt-ltb, le-ltb, ltb-true, ltb-false, eq-eqb, ne-eqb, eqb-true, eqb-false}
+use lib.Dec.{T, eqb, T-not, not-T, leb, ltb, le→leb, lt→ltb, leb→le, ltb→lt}
 use lib.ListN.{length, drop, getD, drop-of-length-le}
 use Rattle.octets.specs.Bits.{is-true, is-false, both, unequal, and-left, and-right}
 use Rattle.octets.specs.Parsed.{Parsed, took, stuck, and-then, strip}
@@ -20,6 +20,21 @@ use Rattle.tokens.specs.Leaf.{found-took, found-stop, found-same, found-
 -- what is kept of a number: one above 2^63 counts as 2^63, which is more than the octets of any text
 abbrev pub capped : ℕ → ℕ
 capped n = min n 9223372036854775808
+
+-- a test against a small number is the same of what was kept
+pub capped-below : (n k : ℕ) → k ≤ 4294967296 → ltb (capped n) k ≡ ltb n k
+capped-below n k h = go (ltb n k) refl
+  where
+    go : (b : Bool) → ltb n k ≡ b → ltb (capped n) k ≡ b
+    go true e = lt-ltb (capped n) k (omega (arith, ltb-true n k e))
+    go false e = le-ltb (capped n) k (omega (arith, ltb-false n k e))
+
+pub capped-is : (n k : ℕ) → k ≤ 4294967296 → eqb (capped n) k ≡ eqb n k
+capped-is n k h = go (eqb n k) refl
+  where
+    go : (b : Bool) → eqb n k ≡ b → eqb (capped n) k ≡ b
+    go true e = eq-eqb (capped n) k (omega (arith, eqb-true n k e))
+    go false e = ne-eqb (capped n) k (λ d. eqb-false n k e (omega (arith, d)))
 
 -- a number was read
 pub record NumberRead (t : List ℕ) (c : Cursor) (r : Amount) : Type 0 where

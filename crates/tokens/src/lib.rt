@@ -14,6 +14,7 @@ ghost use Rattle.strict.specs.Meaning.{ttl?, unsigned};
 ghost use Rattle.tokens.specs.Cursor.{Safe, Passed, Stopped, Came};
 ghost use Rattle.tokens.specs.Step.{Held, Emits, Judged};
 ghost use Rattle.tokens.specs.Place.{Byte};
+ghost use Rattle.tokens.specs.Items.{comma-of};
 ghost use Rattle.tokens.specs.Choice.{Further};
 ghost use Rattle.tokens.specs.Number.{capped, NumberRead, TillRead, PositiveRead, DigitOf};
 ghost use Rattle.tokens.specs.Signed.{Kept, SignedRead, Plus, Minus};
@@ -77,6 +78,17 @@ pub fn literal(text: &[u8], c: Cursor, lit: &[u8]) -> Cursor
         i += 1;
     }
     came(c, at)
+}
+
+// The comma before an item; the first has none.
+pub fn comma(text: &[u8], c: Cursor, first: bool) -> Cursor
+    requires { ⌜ Safe (now text) c ⌝ }
+    ensures { λ r. ⌜ Passed (comma-of first) (now (text .entry)) c r ⌝ }
+{
+    if first {
+        return c;
+    }
+    literal(text, c, b",")
 }
 
 // `meant` only if this holds too.

@@ -1,5 +1,5 @@
 use Prim.Native.Nat.{_-_}
-use mathlib.Core.Path.{refl, _∙_}
+use mathlib.Core.Path.{_∙_}
 use native.Mathlib.Omega.{arith}
 use lib.ListN.{length}
 use borrow.Author.Needs.{needs}
@@ -31,10 +31,10 @@ came-requires : tie.Need-came-requires Inv-loop μ-loop
 came-requires c κs = search needs
 
 same-length : tie.Need-same-length Inv-loop μ-loop
-same-length c = c .before .before .before .loop .inv .long
+same-length c = search (c, needs)
 
 returns-2 : tie.Need-returns-2 Inv-loop μ-loop
-returns-2 c = inside-end _ (c .before .before .before .before .if1 .left) (c .before .before .before .loop .inv) (c .before .before .octet-at .ensures) (c .before .if2 .taken) (c .came .ensures)
+returns-2 c = search (inside-end, needs)
 
 next-requires : tie.Need-next-requires Inv-loop μ-loop
 next-requires c κs = search needs
@@ -55,13 +55,13 @@ same-length-2 : tie.Need-same-length-2 Inv-loop μ-loop
 same-length-2 c = c .before .before .before .before .before .before .before .before .out .given ∙ c .before .before .before .before .before .before .before .before .before .before .before .before .before .loop .inv .long
 
 returns-3 : tie.Need-returns-3 Inv-loop μ-loop
-returns-3 c = inside-no _ (c .before .before .before .before .before .before .before .before .before .before .before .before .before .before .if1 .left) (c .before .before .before .before .before .before .before .before .before .before .before .before .before .loop .inv) (c .before .before .before .before .before .before .before .before .before .next .ensures) (c .before .before .before .before .before .before .before .before .before .before .before .before .octet-at .ensures) (c .before .before .before .before .before .before .before .before .before .before .before .if2 .left) (c .if3 .taken) refl
+returns-3 c = search (inside-no, needs)
 
 loop-less : tie.Need-loop-less Inv-loop μ-loop
 loop-less c = omega (arith, gathered-far _ (c .before .before .before .before .before .before .before .before .before .before .before .before .before .before .if1 .left) (c .before .before .before .before .before .before .before .before .before .before .before .before .before .loop .inv) (c .before .before .before .before .before .before .before .before .before .next .ensures) (c .if3 .left), c .before .before .before .before .before .before .before .before .before .next .ensures .moves .safe .inside)
 
 loop-again : tie.Need-loop-again Inv-loop μ-loop
-loop-again c = gathered-more _ (c .before .before .before .before .before .before .before .before .before .before .before .before .before .before .if1 .left) (c .before .before .before .before .before .before .before .before .before .before .before .before .before .loop .inv) (c .before .before .before .before .before .before .before .before .before .next .ensures) (c .if3 .left) (c .before .before .before .before .before .tally .ensures) (c .before .before .before .before .tally2 .ensures) (c .before .before .before .either .ensures) (c .before .before .either2 .ensures) (c .before .before .before .before .before .before .before .before .out .given)
+loop-again c = search (gathered-more, needs)
 
 pub inside-spec : {M : Type 1} → statement M
 inside-spec =

@@ -25,7 +25,7 @@ same-length : tie.Need-same-length
 same-length c = search needs
 
 returns : tie.Need-returns
-returns c = item-edns (c .before .before .before .before .before .before .before .before .literal .ensures) (c .before .before .before .before .before .before .literal2 .ensures) _ (c .before .before .before .before .before .if1 .taken) (c .before .before .before .edns .ensures) (c .further .ensures)
+returns c = search (item-edns, needs)
 
 record-requires : tie.Need-record-requires
 record-requires c κs = search needs
@@ -37,7 +37,7 @@ same-length-2 : tie.Need-same-length-2
 same-length-2 c = search needs
 
 returns-2 : tie.Need-returns-2
-returns-2 c = item-record (c .before .before .before .before .before .before .before .before .literal .ensures) (c .before .before .before .before .before .before .literal2 .ensures) _ (c .before .before .before .before .before .if1 .left) (c .before .before .before .«record» .ensures) (c .further2 .ensures)
+returns-2 c = search (item-record, needs)
 
 pub item-spec : {M : Type 1} → statement M
 item-spec =

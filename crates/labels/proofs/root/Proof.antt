@@ -1,4 +1,3 @@
-use mathlib.Core.Path.{refl}
 use Rattle.labels.specs.Name.{root-bad, root-is}
 use borrow.Author.Needs.{needs}
 use Rattle.labels.proofs.root.Statement.{statement}
@@ -11,7 +10,7 @@ literal-requires : tie.Need-literal-requires
 literal-requires c κs = search needs
 
 returns : tie.Need-returns
-returns c = root-bad (c .before .before .before .before .before .before .pre .0) (c .before .before .before .before .before .before .pre .1 .0) (c .before .before .before .before .before .before .pre .1 .1) refl (c .before .before .literal .ensures) (c .if1 .taken)
+returns c = search (root-bad, needs)
 
 slice-aggregate-emit : tie.Need-slice-aggregate-emit
 slice-aggregate-emit c = search needs
@@ -23,7 +22,7 @@ same-length : tie.Need-same-length
 same-length c = search needs
 
 returns-2 : tie.Need-returns-2
-returns-2 c = root-is (c .before .before .before .before .before .before .before .before .before .before .before .pre .0) (c .before .before .before .before .before .before .before .before .before .before .before .pre .1 .0) (c .before .before .before .before .before .before .before .before .before .before .before .pre .1 .1) refl (c .before .before .before .before .before .before .before .literal .ensures) (c .before .before .before .before .before .if1 .left) (c .before .before .emit .ensures)
+returns-2 c = search (root-is, needs)
 
 pub root-spec : {M : Type 1} → statement M
 root-spec =

@@ -18,7 +18,7 @@ same-length : tie.Need-same-length
 same-length c = search needs
 
 returns : tie.Need-returns
-returns c = cookie-value (c .before .before .before .before .literal .ensures) (c .before .before .cookie-strings .ensures)
+returns c = search (cookie-value, needs)
 
 pub cookie-spec : {M : Type 1} → statement M
 cookie-spec =

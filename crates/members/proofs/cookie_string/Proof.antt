@@ -30,7 +30,7 @@ same-length : tie.Need-same-length
 same-length c = search needs
 
 returns : tie.Need-returns
-returns c = cookie-string (c .before .before .before .before .before .before .before .before .before .before .before .before .args .i) (c .before .before .before .before .before .before .before .before .literal .ensures) (c .before .before .before .before .before .before .before .hex .ensures) (c .before .before .before .before .before .put-hex .ensures) (c .before .before .size-of .ensures) (c .before .cookie-part .ensures) (c .judge .ensures)
+returns c = search (cookie-string, needs)
 
 pub cookie-string-spec : {M : Type 1} → statement M
 cookie-string-spec =

@@ -22,7 +22,7 @@ same-length : tie.Need-same-length
 same-length c = search needs
 
 returns-2 : tie.Need-returns-2
-returns-2 c = error-some (c .before .before .before .before .before .before .literal .ensures) (c .before .before .before .before .before .if1 .left) (c .before .before .before .error-text .ensures) (c .further .ensures)
+returns-2 c = search (error-some, needs)
 
 pub error-end-spec : {M : Type 1} → statement M
 error-end-spec =

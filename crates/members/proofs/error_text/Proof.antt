@@ -1,6 +1,5 @@
 -- `members::error_text` meets its contract.
 -- Assumes nothing.
-use mathlib.Core.Path.{refl}
 use borrow.Author.Needs.{needs}
 use Rattle.members.specs.Values.{error-last}
 use Rattle.members.proofs.error_text.Statement.{statement}
@@ -31,7 +30,7 @@ same-length : tie.Need-same-length
 same-length c = search needs
 
 returns : tie.Need-returns
-returns c = error-last (c .before .before .before .before .before .before .before .before .before .literal .ensures) (c .before .before .before .before .before .before .before .string .ensures) (c .before .before .judge .ensures) refl (c .literal2 .ensures)
+returns c = search (error-last, needs)
 
 pub error-text-spec : {M : Type 1} → statement M
 error-text-spec =

@@ -25,7 +25,7 @@ same-length : tie.Need-same-length
 same-length c = search needs
 
 returns-2 : tie.Need-returns-2
-returns-2 c = expiry-some (c .before .before .before .before .before .before .before .literal .ensures) (c .before .before .before .before .before .before .if1 .left) (c .before .before .before .before .before .number .ensures) (c .before .before .before .put-long .ensures) (c .further .ensures)
+returns-2 c = search (expiry-some, needs)
 
 pub expiry-spec : {M : Type 1} → statement M
 expiry-spec =

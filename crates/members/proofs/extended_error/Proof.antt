@@ -24,7 +24,7 @@ same-length : tie.Need-same-length
 same-length c = search needs
 
 returns : tie.Need-returns
-returns c = extended-error (c .before .before .before .before .before .before .before .before .before .literal .ensures) (c .before .before .before .before .before .before .before .before .number .ensures) (c .before .before .before .before .before .before .put-word .ensures) (c .before .before .error-end .ensures)
+returns c = search (extended-error, needs)
 
 pub extended-error-spec : {M : Type 1} → statement M
 extended-error-spec =

@@ -21,7 +21,7 @@ literal-requires-2 : tie.Need-literal-requires-2
 literal-requires-2 c κs = search needs
 
 returns : tie.Need-returns
-returns c = rcode-read (c .before .before .before .literal .ensures) (c .before .before .rcode .ensures) (c .literal2 .ensures)
+returns c = search (rcode-read, needs)
 
 pub full-rcode-spec : {M : Type 1} → statement M
 full-rcode-spec =

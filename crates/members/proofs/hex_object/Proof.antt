@@ -27,7 +27,7 @@ same-length : tie.Need-same-length
 same-length c = search needs
 
 returns : tie.Need-returns
-returns c = hex-object (c .before .before .before .before .before .before .before .literal .ensures) (c .before .before .before .before .before .before .hex .ensures) (c .before .before .before .before .put-hex .ensures) (c .literal2 .ensures)
+returns c = search (hex-object, needs)
 
 pub hex-object-spec : {M : Type 1} → statement M
 hex-object-spec =

@@ -18,7 +18,7 @@ same-length : tie.Need-same-length
 same-length c = search needs
 
 returns : tie.Need-returns
-returns c = known-value (c .before .before .before .before .before .before .before .before .before .before .before .args .code) (search needs) (c .before .before .before .before .before .before .before .before .hold .ensures) (c .before .before .before .before .before .before .value .ensures) (c .before .before .put-front .ensures)
+returns c = search (known-value, needs)
 
 pub known-spec : {M : Type 1} → statement M
 known-spec =

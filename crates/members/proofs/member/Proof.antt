@@ -22,7 +22,7 @@ same-length : tie.Need-same-length
 same-length c = search needs
 
 returns : tie.Need-returns
-returns c = member-known (c .before .before .before .before .before .before .before .before .before .member-name .ensures) (c .before .before .before .before .before .before .before .if1 .taken) (c .before .before .before .before .before .known .ensures) (c .before .literal .ensures) (c .further .ensures)
+returns c = search (member-known, needs)
 
 other-requires : tie.Need-other-requires
 other-requires c κs = search needs
@@ -34,7 +34,7 @@ same-length-2 : tie.Need-same-length-2
 same-length-2 c = search needs
 
 returns-2 : tie.Need-returns-2
-returns-2 c = member-other (c .before .before .before .before .before .before .before .member-name .ensures) (c .before .before .before .before .before .if1 .left) (c .before .before .before .other .ensures) (c .further2 .ensures)
+returns-2 c = search (member-other, needs)
 
 pub member-spec : {M : Type 1} → statement M
 member-spec =

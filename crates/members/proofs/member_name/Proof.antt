@@ -21,7 +21,7 @@ literal-requires-2 : tie.Need-literal-requires-2
 literal-requires-2 c κs = search needs
 
 returns : tie.Need-returns
-returns c = name-read (c .before .before .before .literal .ensures) (c .before .before .option-name .ensures) (c .literal2 .ensures)
+returns c = search (name-read, needs)
 
 pub member-name-spec : {M : Type 1} → statement M
 member-name-spec =

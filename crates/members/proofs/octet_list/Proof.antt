@@ -18,7 +18,7 @@ same-length : tie.Need-same-length
 same-length c = search needs
 
 returns : tie.Need-returns
-returns c = octet-list (c .before .before .before .before .literal .ensures) (c .before .before .numerals .ensures)
+returns c = search (octet-list, needs)
 
 pub octet-list-spec : {M : Type 1} → statement M
 octet-list-spec =

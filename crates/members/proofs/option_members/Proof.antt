@@ -1,6 +1,5 @@
 -- `members::option_members` meets its contract: a member a turn.
 -- Assumes nothing.
-use mathlib.Core.Path.{refl}
 use Prim.Native.Nat.{_-_}
 use native.Mathlib.Omega.{arith}
 use borrow.Author.Needs.{needs}
@@ -45,7 +44,7 @@ same-length-2 : tie.Need-same-length-2 Inv-loop μ-loop
 same-length-2 c = search needs
 
 returns-3 : tie.Need-returns-3 Inv-loop μ-loop
-returns-3 c = rising-stop (c .before .before .before .before .before .before .before .before .before .before .if1 .left) (c .before .before .before .before .before .before .before .before .before .loop .inv) (c .before .before .before .before .before .rising-member .ensures) (c .before .before .before .before .before .before .before .before .octet-at .ensures) (c .before .before .before .before .before .before .before .if2 .left) (c .if3 .taken)
+returns-3 c = search (rising-stop, needs)
 
 cast-least : tie.Need-cast-least Inv-loop μ-loop
 cast-least c = search needs
@@ -57,7 +56,7 @@ loop-less : tie.Need-loop-less Inv-loop μ-loop
 loop-less c = omega (arith, rising-far (c .before .before .before .before .before .before .before .before .before .before .before .if1 .left) (c .before .before .before .before .before .before .before .before .before .before .loop .inv) (c .before .before .before .before .before .before .rising-member .ensures) (c .before .if3 .left))
 
 loop-again : tie.Need-loop-again Inv-loop μ-loop
-loop-again c = rising-more (c .before .before .before .before .before .before .before .before .before .before .before .if1 .left) (c .before .before .before .before .before .before .before .before .before .before .loop .inv) (c .before .before .before .before .before .before .rising-member .ensures) (c .before .if3 .left) (search needs) refl
+loop-again c = search (rising-more, needs)
 
 pub option-members-spec : {M : Type 1} → statement M
 option-members-spec =

@@ -18,7 +18,7 @@ same-length : tie.Need-same-length
 same-length c = search needs
 
 returns : tie.Need-returns
-returns c = options-read (c .before .before .before .before .option-members .ensures) (c .literal .ensures)
+returns c = search (options-read, needs)
 
 pub options-spec : {M : Type 1} → statement M
 options-spec =

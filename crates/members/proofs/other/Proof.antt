@@ -30,7 +30,7 @@ same-length : tie.Need-same-length
 same-length c = search needs
 
 returns : tie.Need-returns
-returns c = other-read (c .before .before .before .before .before .before .before .before .literal .ensures) (c .before .before .before .before .before .before .before .number .ensures) (c .before .before .before .before .before .literal2 .ensures) (c .before .before .before .other-hex .ensures) (c .code-of .ensures)
+returns c = search (other-read, needs)
 
 pub other-spec : {M : Type 1} → statement M
 other-spec =

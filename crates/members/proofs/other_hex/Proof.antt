@@ -16,7 +16,7 @@ put-hex-requires : tie.Need-put-hex-requires
 put-hex-requires c κs = (hex-digits (c .before .before .before .hex .ensures), search needs)
 
 other-fits-requires : tie.Need-other-fits-requires
-other-fits-requires c κs = hex-digits (c .before .before .before .before .before .before .hex .ensures)
+other-fits-requires c κs = search (hex-digits, needs)
 
 judge-requires : tie.Need-judge-requires
 judge-requires c κs = search needs
@@ -31,7 +31,7 @@ same-length : tie.Need-same-length
 same-length c = search needs
 
 returns : tie.Need-returns
-returns c = other-hex (c .before .before .before .before .before .before .before .before .before .before .before .before .before .hex .ensures) (c .before .before .before .before .before .before .before .before .before .before .before .hold .ensures) (c .before .before .before .before .before .before .before .before .before .put-hex .ensures) (c .before .before .before .before .before .before .other-fits .ensures) (c .before .before .before .before .before .judge .ensures) (c .before .before .before .code-of .ensures) (c .before .before .put-front .ensures)
+returns c = search (other-hex, needs)
 
 pub other-hex-spec : {M : Type 1} → statement M
 other-hex-spec =

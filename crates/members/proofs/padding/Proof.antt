@@ -21,7 +21,7 @@ same-length : tie.Need-same-length
 same-length c = search needs
 
 returns : tie.Need-returns
-returns c = padding-value (c .before .before .before .before .before .literal .ensures) (c .before .before .before .before .number .ensures) (c .before .before .padding-end .ensures)
+returns c = search (padding-value, needs)
 
 pub padding-spec : {M : Type 1} → statement M
 padding-spec =

@@ -16,7 +16,7 @@ same-length : tie.Need-same-length
 same-length c = search needs
 
 returns : tie.Need-returns
-returns c = padding-zeros (c .before .before .before .before .before .literal .ensures) (c .before .before .before .before .if1 .taken) (c .before .before .zeros .ensures)
+returns c = search (padding-zeros, needs)
 
 padding-hex-requires : tie.Need-padding-hex-requires
 padding-hex-requires c κs = search needs
@@ -28,7 +28,7 @@ same-length-2 : tie.Need-same-length-2
 same-length-2 c = search needs
 
 returns-2 : tie.Need-returns-2
-returns-2 c = padding-some (c .before .before .before .before .before .before .literal .ensures) (c .before .before .before .before .before .if1 .left) (c .before .before .before .padding-hex .ensures) (c .further .ensures)
+returns-2 c = search (padding-some, needs)
 
 pub padding-end-spec : {M : Type 1} → statement M
 padding-end-spec =

@@ -18,7 +18,7 @@ put-hex-requires : tie.Need-put-hex-requires
 put-hex-requires c κs = (hex-digits (c .before .hex .ensures), search needs)
 
 padding-fits-requires : tie.Need-padding-fits-requires
-padding-fits-requires c κs = hex-digits (c .before .before .before .before .hex .ensures)
+padding-fits-requires c κs = search (hex-digits, needs)
 
 judge-requires : tie.Need-judge-requires
 judge-requires c κs = search needs
@@ -33,7 +33,7 @@ same-length : tie.Need-same-length
 same-length c = search needs
 
 returns : tie.Need-returns
-returns c = padding-hex (c .before .before .before .before .before .before .before .before .before .literal .ensures) (c .before .before .before .before .before .before .before .before .hex .ensures) (c .before .before .before .before .before .before .put-hex .ensures) (c .before .before .before .padding-fits .ensures) (c .before .before .judge .ensures) (c .literal2 .ensures)
+returns c = search (padding-hex, needs)
 
 pub padding-hex-spec : {M : Type 1} → statement M
 padding-hex-spec =

@@ -1,6 +1,5 @@
 -- `members::put_front` meets its contract.
 -- Assumes nothing.
-use mathlib.Core.Path.{refl}
 use borrow.Author.Needs.{needs}
 use Rattle.members.specs.Options.{fronted-none, fronted}
 use Rattle.members.proofs.put_front.Statement.{statement}
@@ -31,7 +30,7 @@ same-length : tie.Need-same-length
 same-length c = search needs
 
 returns-2 : tie.Need-returns-2
-returns-2 c = fronted refl refl (c .before .before .before .before .before .before .put-two .ensures) (c .before .before .put-two2 .ensures)
+returns-2 c = search (fronted, needs)
 
 pub put-front-spec : {M : Type 1} → statement M
 put-front-spec =

@@ -28,7 +28,7 @@ same-length : tie.Need-same-length
 same-length c = search needs
 
 returns-2 : tie.Need-returns-2
-returns-2 c = hex-put (c .before .before .before .before .before .before .before .before .size-of .ensures) (c .before .before .before .before .before .before .before .hold .ensures) (c .before .before .put-octets .ensures)
+returns-2 c = search (hex-put, needs)
 
 pub put-hex-spec : {M : Type 1} → statement M
 put-hex-spec =

@@ -24,7 +24,7 @@ same-length : tie.Need-same-length
 same-length c = search needs
 
 returns : tie.Need-returns
-returns c = rising-read (c .before .before .before .before .before .literal .ensures) (c .before .before .before .member .ensures) (c .judge .ensures)
+returns c = search (rising-read, needs)
 
 pub rising-member-spec : {M : Type 1} → statement M
 rising-member-spec =

@@ -47,42 +47,42 @@ same-length c = search needs
 
 returns : tie.Need-returns
 unfolding lookup rows formOf
-returns c = at-form (c .before .before .before .before .before .before .before .args .code) 3 (c .before .before .before .before .match .keys1) refl (c .before .before .hex-object .ensures)
+returns c = search (at-form, needs)
 
 same-length-2 : tie.Need-same-length-2
 same-length-2 c = search needs
 
 returns-2 : tie.Need-returns-2
 unfolding lookup rows formOf
-returns-2 c = at-form (c .before .before .before .before .before .before .before .args .code) 5 (c .before .before .before .before .match .keys2) refl (c .before .before .octet-list .ensures)
+returns-2 c = search (at-form, needs)
 
 same-length-3 : tie.Need-same-length-3
 same-length-3 c = search needs
 
 returns-3 : tie.Need-returns-3
 unfolding lookup rows formOf
-returns-3 c = at-form (c .before .before .before .before .before .before .before .args .code) 6 (c .before .before .before .before .match .keys3) refl (c .before .before .octet-list2 .ensures)
+returns-3 c = search (at-form, needs)
 
 same-length-4 : tie.Need-same-length-4
 same-length-4 c = search needs
 
 returns-4 : tie.Need-returns-4
 unfolding lookup rows formOf
-returns-4 c = at-form (c .before .before .before .before .before .before .before .args .code) 7 (c .before .before .before .before .match .keys4) refl (c .before .before .octet-list3 .ensures)
+returns-4 c = search (at-form, needs)
 
 same-length-5 : tie.Need-same-length-5
 same-length-5 c = search needs
 
 returns-5 : tie.Need-returns-5
 unfolding lookup rows formOf
-returns-5 c = at-form (c .before .before .before .before .before .before .before .args .code) 9 (c .before .before .before .before .match .keys5) refl (c .before .before .expiry .ensures)
+returns-5 c = search (at-form, needs)
 
 same-length-6 : tie.Need-same-length-6
 same-length-6 c = search needs
 
 returns-6 : tie.Need-returns-6
 unfolding lookup rows formOf
-returns-6 c = at-form (c .before .before .before .before .before .before .before .args .code) 10 (c .before .before .before .before .match .keys6) refl (c .before .before .cookie .ensures)
+returns-6 c = search (at-form, needs)
 
 same-length-7 : tie.Need-same-length-7
 same-length-7 c = search needs
@@ -96,21 +96,21 @@ same-length-8 c = search needs
 
 returns-8 : tie.Need-returns-8
 unfolding lookup rows formOf
-returns-8 c = at-form (c .before .before .before .before .before .before .before .args .code) 12 (c .before .before .before .before .match .keys8) refl (c .before .before .padding .ensures)
+returns-8 c = search (at-form, needs)
 
 same-length-9 : tie.Need-same-length-9
 same-length-9 c = search needs
 
 returns-9 : tie.Need-returns-9
 unfolding lookup rows formOf
-returns-9 c = at-form (c .before .before .before .before .before .before .before .args .code) 14 (c .before .before .before .before .match .keys9) refl (c .before .before .word-list .ensures)
+returns-9 c = search (at-form, needs)
 
 same-length-10 : tie.Need-same-length-10
 same-length-10 c = search needs
 
 returns-10 : tie.Need-returns-10
 unfolding lookup rows formOf
-returns-10 c = at-form (c .before .before .before .before .before .before .before .args .code) 15 (c .before .before .before .before .match .keys10) refl (c .before .before .extended-error .ensures)
+returns-10 c = search (at-form, needs)
 
 returns-11 : tie.Need-returns-11
 returns-11 c = let h = c .before .match .rest in no-form (c .before .before .before .before .args .code) (no-row _ (h .0 .0 .0 .0 .0 .0 .0 .0 .0 .1) (h .0 .0 .0 .0 .0 .0 .0 .0 .1) (h .0 .0 .0 .0 .0 .0 .0 .1) (h .0 .0 .0 .0 .0 .0 .1) (h .0 .0 .0 .0 .0 .1) (h .0 .0 .0 .0 .1) (h .0 .0 .0 .1) (h .0 .0 .1) (h .0 .1) (h .1)) (search needs) (c .stop .ensures)

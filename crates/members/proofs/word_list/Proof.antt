@@ -18,7 +18,7 @@ same-length : tie.Need-same-length
 same-length c = search needs
 
 returns : tie.Need-returns
-returns c = word-list (c .before .before .before .before .literal .ensures) (c .before .before .numerals .ensures)
+returns c = search (word-list, needs)
 
 pub word-list-spec : {M : Type 1} → statement M
 word-list-spec =

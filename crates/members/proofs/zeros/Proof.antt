@@ -18,7 +18,7 @@ same-length : tie.Need-same-length
 same-length c = search needs
 
 returns-2 : tie.Need-returns-2
-returns-2 c = zeros-put (c .before .before .before .before .before .before .hold .ensures) (c .before .before .before .before .if1 .left) (c .before .before .put-zeros .ensures)
+returns-2 c = search (zeros-put, needs)
 
 pub zeros-spec : {M : Type 1} → statement M
 zeros-spec = tie.close (tie.spec hold-requires returns put-zeros-requires same-length returns-2)

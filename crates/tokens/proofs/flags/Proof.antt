@@ -21,7 +21,7 @@ or-row-requires-2 : tie.Need-or-row-requires-2
 or-row-requires-2 c κs = search needs
 
 returns : tie.Need-returns
-returns c = flags-read (c .or-row2 .ensures) (c .before .before .or-row .ensures) (c .before .before .before .before .before .before .pre) (c .before .before .before .before .no-row .ensures)
+returns c = search (flags-read, needs)
 
 pub flags-spec : {M : Type 1} → statement M
 flags-spec =

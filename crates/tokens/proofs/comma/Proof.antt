@@ -1,9 +1,9 @@
--- `members::comma` meets its contract.
+-- `tokens::comma` meets its contract.
 -- Assumes nothing.
 use borrow.Author.Needs.{needs}
-use Rattle.members.specs.Items.{comma-none, comma-some}
-use Rattle.members.proofs.comma.Statement.{statement}
-use Rattle.members.proofs.comma.Tie as tie
+use Rattle.tokens.specs.Items.{comma-none, comma-some}
+use Rattle.tokens.proofs.comma.Statement.{statement}
+use Rattle.tokens.proofs.comma.Tie as tie
 
 returns : tie.Need-returns
 returns c = search (comma-none, needs)
