@@ -5,11 +5,10 @@ use mathlib.Core.List.{List, [], _∷_, _++_, map, append-assoc}
 use Prim.Native.Nat.{ℕ, _+_, _*_}
 use lib.Dec.{T, eqb, eqb→eq}
 use lib.ListN.{length, length-map}
-use Rattle.octets.specs.Lists.{all, All, count, each, word?}
+use Rattle.octets.specs.Lists.{all, All, count, each, word?, present?}
 use Rattle.octets.specs.Bits.{both, and-left, and-right}
 use Rattle.octets.specs.Fields.{two}
 use Rattle.records.specs.Message.{Header, bit?, four-bits?, header?, question?, record?, section?, questionForm, recordForm, headerForm, form, opt?}
-use Rattle.options.specs.Options.{absent?}
 use Rattle.edns.specs.Edns.{ednsOf}
 use Rattle.json.specs.View.{additional?, opt-entry?, settled?, additionals?, view?, recordOf, messageOf}
 use Rattle.json.specs.Document.{RecordItem, Item, ordinary, edns, Document}
@@ -40,7 +39,7 @@ itemShown? (ordinary r) = false
 itemShown? (edns e) = true
 
 unfoldable pub hides? : ℕ → RecordItem → Bool
-hides? rcode r = opt? (itemRecord r) && not (absent? (ednsOf rcode (itemRecord r)))
+hides? rcode r = opt? (itemRecord r) && present? (ednsOf rcode (itemRecord r))
 
 unfoldable pub itemHides? : ℕ → Item → Bool
 itemHides? rcode (ordinary r) = hides? rcode r
@@ -134,17 +133,17 @@ settled-once rcode n [] = none (eqb n 1)
     none : (b : Bool) → true ≡ settledBy b false false
     none true = refl
     none false = refl
-settled-once rcode n (ordinary r ∷ l) = rw (settled-once rcode n l) (go (opt? (itemRecord r)) (eqb n 1) (absent? (ednsOf rcode (itemRecord r))) (any itemShown? l) (any (itemHides? rcode) l))
+settled-once rcode n (ordinary r ∷ l) = rw (settled-once rcode n l) (go (opt? (itemRecord r)) (eqb n 1) (present? (ednsOf rcode (itemRecord r))) (any itemShown? l) (any (itemHides? rcode) l))
   where
-    go : (o b a s h : Bool) → not (o && b && not a) && settledBy b s h ≡ settledBy b s (o && not a || h)
-    go true true true s h = refl
-    go true true false true h = refl
-    go true true false false h = refl
-    go true false true s h = refl
-    go true false false true h = refl
-    go true false false false true = refl
-    go true false false false false = refl
-    go false b a s h = refl
+    go : (o b p s h : Bool) → not (o && b && p) && settledBy b s h ≡ settledBy b s (o && p || h)
+    go true true false s h = refl
+    go true true true true h = refl
+    go true true true false h = refl
+    go true false false s h = refl
+    go true false true true h = refl
+    go true false true false true = refl
+    go true false true false false = refl
+    go false b p s h = refl
 settled-once rcode n (edns e ∷ l) = rw (settled-once rcode n l) (go (eqb n 1) (any itemShown? l) (any (itemHides? rcode) l))
   where
     go : (b s h : Bool) → b && settledBy b s h ≡ settledBy b true h

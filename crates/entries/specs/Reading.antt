@@ -1,7 +1,7 @@
 -- How questions, records and elements are read, judged and written. Assumes nothing.
 use mathlib.Core.Path.{_≡_, refl, sym, _∙_, ap, subst}
 use mathlib.Core.Bool.{Bool, true, false, not, cond, _&&_, and-true, and-assoc}
-use mathlib.Core.Option.{Option, none, some}
+use mathlib.Core.Option.{none}
 use mathlib.Core.List.{List, [], _∷_, _++_, append-assoc}
 use Prim.Native.Nat.{ℕ, _+_, _-_, _/_, _%_, _≤_, _<_}
 use native.Mathlib.Omega.{arith}
@@ -19,9 +19,7 @@ use Rattle.names.specs.Name.{Name, name?, nameForm}
 use Rattle.records.specs.Layout.{layouts, layoutOf, rdataAt, fits?}
 use Rattle.records.specs.Message.{record?, question?, questionForm, recordForm, opt?}
 use Rattle.spelling.specs.Spelling.{Signed}
-use Rattle.options.specs.Options.{absent?}
-use Rattle.edns.specs.Edns.{ednsOf}
-use Rattle.edns.specs.Element.{showsEdns, present?, shows-edns}
+use Rattle.edns.specs.Element.{showsEdns, shows-edns}
 use Rattle.json.specs.Document.{RecordItem}
 use Rattle.strict.specs.Grammar.{SignedNumber}
 use Rattle.strict.specs.Spelt.{name, signedNumber}
@@ -219,10 +217,6 @@ RecordFacts rcode = Facts recordMeant? recordOctets (λ r. opt? (itemRecord r)) 
 abbrev pub RecordRead : ℕ → List ℕ → Cursor → List ℕ → Entry → List ℕ → Type 0
 RecordRead rcode t c b r b′ = Found recordRest (RecordFacts rcode c b r b′) t c (r .cursor)
 
-present-same : {A : Type 0} (o : Option A) → present? o ≡ not (absent? o)
-present-same none = refl
-present-same (some a) = refl
-
 -- a record in the grammar, judged part by part
 record-judged : (u : Fields) → SignedNumber (u .1 .1 .1 .0) → Octets (u .1 .1 .1 .1)
     → recordMeant? (recordFrom u) ≡ (name? (u .0) && (word? (u .1 .0) && (word? (u .1 .1 .0) && (ttl? (u .1 .1 .1 .0) && fits? (u .1 .0) (u .1 .1 .1 .1)))))
@@ -264,7 +258,7 @@ record-read {rcode} {root} {t} {b} {b₁} {b₂} {b₃} {b₄} {c} {d} {f} {g} {
         chain a b c d e f = simp append-assoc
 
     hides : (u : Fields) → none? (u .0) ≡ root → k .value ≡ capped (u .1 .0) → (eqb (k .value) 41 && showsEdns root (unsigned (u .1 .1 .1 .0)) rcode (u .1 .1 .1 .1)) ≡ hides? rcode (recordFrom u)
-    hides u e d = rw (d, capped-is (u .1 .0) 41 (omega arith), ← e) (ap (λ x. eqb (u .1 .0) 41 && x) (shows-edns rcode (itemRecord (recordFrom u)) ∙ present-same (ednsOf rcode (itemRecord (recordFrom u)))))
+    hides u e d = rw (d, capped-is (u .1 .0) 41 (omega arith), ← e) (ap (λ x. eqb (u .1 .0) 41 && x) (shows-edns rcode (itemRecord (recordFrom u))))
 
     told : (u : Fields) → (Put name? nameForm c b d b₁ (u .0) × (none? (u .0) ≡ eqb (d .at) (c .at + 2)))
         × ((Put word? two f b₁ (k .cursor) b₂ (u .1 .0) × (k .value ≡ capped (u .1 .0))) × ((Put word? two g b₂ (l .cursor) b₃ (u .1 .1 .0) × (l .value ≡ capped (u .1 .1 .0))) × Tail (k .value) root rcode h b₃ r b₄ (u .1 .1 .1)))

@@ -1,14 +1,14 @@
 -- The option members: what each reader shows. Assumes nothing.
 use mathlib.Core.Path.{_≡_, refl, sym, _∙_, ap, subst}
 use mathlib.Core.Logic.{⊎-elim}
-use mathlib.Core.Bool.{Bool, true, false, not, cond, _&&_, and-true, and-assoc, Bool·not-not}
+use mathlib.Core.Bool.{Bool, true, false, not, cond, _&&_, and-true, and-assoc}
 use mathlib.Core.List.{List, [], _∷_, _++_, map, append-assoc, tail-eq-of-cons-eq}
 use Prim.Native.Nat.{ℕ, _+_, _-_, _%_, _≤_, _<_}
 use native.Mathlib.Omega.{arith}
 use borrow.Author.Tests.{lt-ltb, le-ltb, le-leb, lt-leb}
 use lib.Dec.{T, leb, ltb, ltb→lt}
 use lib.ListN.{length, take, drop}
-use Rattle.octets.specs.Lists.{ascii, all, each, word?, key?, textOf, paired}
+use Rattle.octets.specs.Lists.{ascii, all, each, word?, key?, textOf, paired, present?}
 use Rattle.octets.specs.Bits.{and-left, and-right}
 use Rattle.octets.specs.Fields.{two}
 use Rattle.octets.specs.Parsed.{Parsed, stuck, held, strip-sound}
@@ -16,7 +16,7 @@ use Rattle.octets.specs.Codec.{Avoids, Any, Codec, fronts, table, exact, _▷_,
 use Rattle.octets.specs.Decimal.{till, number}
 use Rattle.octets.specs.Hexadecimal.{hex}
 use Rattle.octets.specs.Overlay.{Wrote, then}
-use Rattle.options.specs.Options.{members, Value, formOf, shape, absent?, EdnsOption, Member, known, other, memberText}
+use Rattle.options.specs.Options.{members, Value, formOf, shape, EdnsOption, Member, known, other, memberText}
 use Rattle.edns.specs.Edns.{optionForm, above?, rising?}
 use Rattle.strict.specs.Grammar.{MemberIn}
 use Rattle.strict.specs.Members.{octetsOf, value?, optionOf, member?}
@@ -116,16 +116,16 @@ module _ {t : List ℕ} {c : Cursor} {n : Row} (x : NameRead t c n) (g : n .curs
 -- ---- `OPTn`
 -- its code is a number of 16 bits, and the value does not have the shape of a row of that code
 pub record OtherFits (t : List ℕ) (h : Span) (n : ℕ) (ok : Bool) : Type 0 where
-  pub fits : (k : ℕ) (l : List ℕ) → n ≡ capped k → HexRun t h l → (word? k && absent? (shape (formOf k) l)) ≡ ok
+  pub fits : (k : ℕ) (l : List ℕ) → n ≡ capped k → HexRun t h l → (word? k && not (present? (shape (formOf k) l))) ≡ ok
 
 module _ {t : List ℕ} {h : Span} {n : ℕ} where
   pub other-large : 65535 < n → OtherFits t h n false
   other-large d = record { fits = λ k l e x. rw (le-ltb k 65536 (omega (arith, e))) }
 
-  pub other-shaped : {shaped : Bool} → n ≤ 65535 → shaped ≡ not (absent? (shape (formOf n) (paired (take (h .end - h .from) (drop (h .from) t))))) → OtherFits t h n (not shaped)
+  pub other-shaped : {shaped : Bool} → n ≤ 65535 → shaped ≡ present? (shape (formOf n) (paired (take (h .end - h .from) (drop (h .from) t)))) → OtherFits t h n (not shaped)
   other-shaped {shaped} d y = record {
     fits = λ k l e x. let z : n ≡ k = omega (arith, e) in
-        rw (lt-ltb k 65536 (omega (arith, z))) (sym (Bool·not-not (absent? (shape (formOf k) l))) ∙ ap not (sym (y ∙ ap (λ (m : List ℕ). not (absent? (shape (formOf n) m))) (run-octets x) ∙ ap (λ (i : ℕ). not (absent? (shape (formOf i) l))) z)));
+        rw (lt-ltb k 65536 (omega (arith, z))) (ap not (sym (y ∙ ap (λ (m : List ℕ). present? (shape (formOf n) m)) (run-octets x) ∙ ap (λ (i : ℕ). present? (shape (formOf i) l)) z)));
   }
 
 -- the code, if it is a number of 16 bits
@@ -140,14 +140,14 @@ meant-word k test {c = c} {l = l} p g = ltb→lt k 65536 (and-left (word? k) (te
 
 -- the hexadecimal, of any number that was read as n
 abbrev pub OtherHex : ℕ → List ℕ → Cursor → List ℕ → Cursor → List ℕ → Type 0
-OtherHex n t c b r b′ = Found (hex .parse) (λ l. (k : ℕ) → n ≡ capped k → Put (λ l. word? k && absent? (shape (formOf k) l)) (λ l. optionForm (record { code = k; value = l })) c b r b′ l) t c r
+OtherHex n t c b r b′ = Found (hex .parse) (λ l. (k : ℕ) → n ≡ capped k → Put (λ l. word? k && not (present? (shape (formOf k) l))) (λ l. optionForm (record { code = k; value = l })) c b r b′ l) t c r
 
 pub other-hex : {n code : ℕ} {t : List ℕ} {c i v r : Cursor} {b b₁ b₂ : List ℕ} {h : Span} {ok : Bool} {e : ℕ} → HexRead t c h → Held 4 (h .cursor) i → Done (HexRun t h) (λ l. true) (λ l. l) i b v b₁
     → OtherFits t h n ok → Judged ok v r → code ≡ codeOf n → Fronted code (h .cursor .to) (r .to) b₁ b₂ e → OtherHex n t c b r b₂
 other-hex {n} y x d f j z w = found-at (y .found) (j .at ∙ d .at ∙ x .at) (j .spelled ∙ d .spelled ∙ x .spelled) (omega (arith, j .to, d .room)) λ l u k m.
-    let p = put-judged {ok′ = λ l. word? k && absent? (shape (formOf k) l)} (d .put l u) j (f .fits k l m u) in
+    let p = put-judged {ok′ = λ l. word? k && not (present? (shape (formOf k) l))} (d .put l u) j (f .fits k l m u) in
     put-from (y .keeps) (put-option k x p w λ g.
-    let s = meant-word k (λ l. absent? (shape (formOf k) l)) p g in
+    let s = meant-word k (λ l. not (present? (shape (formOf k) l))) p g in
     (z ∙ code-of-word n k m s, s))
 
 -- the whole member
@@ -164,7 +164,7 @@ other-read {n = n} q x e y z = record {
   found = found-as (found-pair (found-lit q (found-behind (x .found) e)) y) λ u h.
       let p = h .1 (u .0) (h .0) in (
         put-from (q .keeps) (put-from (x .keeps) (put-from (e .keeps) (put-as refl refl p))),
-        λ g. z ∙ code-of-word (n .value) (u .0) (h .0) (meant-word (u .0) (λ l. absent? (shape (formOf (u .0)) l)) p g),
+        λ g. z ∙ code-of-word (n .value) (u .0) (h .0) (meant-word (u .0) (λ l. not (present? (shape (formOf (u .0)) l))) p g),
       );
 }
 
