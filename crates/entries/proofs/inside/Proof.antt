@@ -58,7 +58,9 @@ returns-3 : tie.Need-returns-3 Inv-loop μ-loop
 returns-3 c = search (inside-no, needs)
 
 loop-less : tie.Need-loop-less Inv-loop μ-loop
-loop-less c = omega (arith, gathered-far _ (c .before .before .before .before .before .before .before .before .before .before .before .before .before .before .if1 .left) (c .before .before .before .before .before .before .before .before .before .before .before .before .before .loop .inv) (c .before .before .before .before .before .before .before .before .before .next .ensures) (c .if3 .left), c .before .before .before .before .before .before .before .before .before .next .ensures .moves .safe .inside)
+loop-less c =
+    let m = c .before .before .before .before .before .before .before .before .before in
+    omega (arith, gathered-far _ (m .before .before .before .before .before .if1 .left) (m .before .before .before .before .loop .inv) (m .next .ensures) (c .if3 .left), m .next .ensures .moves .safe .inside)
 
 loop-again : tie.Need-loop-again Inv-loop μ-loop
 loop-again c = search (gathered-more, needs)

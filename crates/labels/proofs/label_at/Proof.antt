@@ -67,7 +67,9 @@ add-n : tie.Need-add-n Inv-loop μ-loop
 add-n c = search needs
 
 loop-less : tie.Need-loop-less Inv-loop μ-loop
-loop-less c = omega (arith, letters-far (c .before .before .before .before .before .before .before .before .before .loop .inv) (c .before .before .before .before .before .before .before .before .octet-at2 .ensures) (c .before .before .before .before .before .before .before .if2 .left) (c .before .before .before .before .before .before .octet .ensures) (c .before .before .before .before .if4 .left))
+loop-less c =
+    let m = c .before .before .before .before .before .before in
+    omega (arith, letters-far (m .before .before .before .loop .inv) (m .before .before .octet-at2 .ensures) (m .before .if2 .left) (m .octet .ensures) (c .before .before .before .before .if4 .left))
 
 loop-again : tie.Need-loop-again Inv-loop μ-loop
 loop-again c = search (letters-more, needs)

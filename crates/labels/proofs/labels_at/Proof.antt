@@ -58,7 +58,9 @@ grow-requires : tie.Need-grow-requires Inv-loop μ-loop
 grow-requires c κs = search needs
 
 loop-less : tie.Need-loop-less Inv-loop μ-loop
-loop-less c = omega (arith, labels-far (c .before .before .before .before .before .before .before .before .before .loop .inv) (c .before .before .before .before .before .before .before .before .octet-at2 .ensures) (c .before .before .before .before .before .before .before .if2 .left) (c .before .before .before .before .before .label-at .ensures) (c .before .if3 .left))
+loop-less c =
+    let m = c .before .before .before .before .before in
+    omega (arith, labels-far (m .before .before .before .before .loop .inv) (m .before .before .before .octet-at2 .ensures) (m .before .before .if2 .left) (m .label-at .ensures) (c .before .if3 .left))
 
 loop-again : tie.Need-loop-again Inv-loop μ-loop
 loop-again c = search (labels-more, needs)

@@ -32,7 +32,9 @@ is-coded-requires : tie.Need-is-coded-requires
 is-coded-requires c κs = search needs
 
 returns-3 : tie.Need-returns-3
-returns-3 c = third-no (c .before .before .before .before .before .before .octet-at .ensures) _ (c .before .before .before .before .before .if1 .left) (c .before .before .before .before .if2 .left) (omega arith) (c .before .is-coded .ensures) (c .if3 .taken) (search needs)
+returns-3 c =
+    let m = c .before .before .before .before in
+    third-no (m .before .before .octet-at .ensures) _ (m .before .if1 .left) (m .if2 .left) (omega arith) (c .before .is-coded .ensures) (c .if3 .taken) (search needs)
 
 add-t11 : tie.Need-add-t11
 add-t11 c = search needs
@@ -41,7 +43,9 @@ cast-t13 : tie.Need-cast-t13
 cast-t13 c = search (coded-small, needs)
 
 returns-4 : tie.Need-returns-4
-returns-4 c = third-is (c .before .before .before .before .before .before .octet-at .ensures) _ (c .before .before .before .before .before .if1 .left) (c .before .before .before .before .if2 .left) (omega arith) (c .before .is-coded .ensures) (c .if3 .left)
+returns-4 c =
+    let m = c .before .before .before .before in
+    third-is (m .before .before .octet-at .ensures) _ (m .before .if1 .left) (m .if2 .left) (omega arith) (c .before .is-coded .ensures) (c .if3 .left)
 
 pub third-digit-spec : {M : Type 1} → statement M
 third-digit-spec =

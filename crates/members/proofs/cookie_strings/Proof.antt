@@ -56,7 +56,9 @@ next-part-requires : tie.Need-next-part-requires Inv-loop μ-loop
 next-part-requires c κs = search needs
 
 loop-less : tie.Need-loop-less Inv-loop μ-loop
-loop-less c = omega (arith, cookies-far (c .before .before .before .before .before .before .before .before .before .before .before .if1 .left) (c .before .before .before .before .before .before .before .before .before .before .loop .inv) (c .before .before .before .before .before .before .before .comma .ensures) (c .before .before .before .before .before .cookie-string .ensures) (c .before .if3 .left))
+loop-less c =
+    let m = c .before .before .before .before .before in
+    omega (arith, cookies-far (m .before .before .before .before .before .before .if1 .left) (m .before .before .before .before .before .loop .inv) (m .before .before .comma .ensures) (m .cookie-string .ensures) (c .before .if3 .left))
 
 loop-again : tie.Need-loop-again Inv-loop μ-loop
 loop-again c = search (cookies-more, needs)

@@ -40,7 +40,10 @@ same-length : tie.Need-same-length
 same-length c = search needs
 
 returns : tie.Need-returns
-returns c = edns-read (c .before .before .before .before .before .before .before .before .before .before .before .before .before .before .before .before .before .before .before .args .rcode) (c .before .before .before .before .before .before .before .before .before .before .before .before .before .before .before .till .ensures) (c .before .before .before .before .before .before .before .before .before .before .before .before .before .before .flags .ensures) (c .before .before .before .before .before .before .before .before .before .before .before .before .before .full-rcode .ensures) (c .before .before .before .before .before .before .before .before .before .before .before .before .number .ensures) (c .before .before .before .before .before .before .before .before .before .before .hold .ensures) (c .before .before .before .before .before .before .before .before .options .ensures) (c .before .before .before .before .before .edns-fits .ensures) (c .before .before .before .before .judge .ensures) (c .before .before .put-opt .ensures)
+returns c =
+    let m = c .before .before .before .before .before .before .before .before .before .before in
+    let k = m .before .before .before in
+    edns-read (k .before .before .before .before .before .before .args .rcode) (k .before .before .till .ensures) (k .before .flags .ensures) (k .full-rcode .ensures) (m .before .before .number .ensures) (m .hold .ensures) (c .before .before .before .before .before .before .before .before .options .ensures) (c .before .before .before .before .before .edns-fits .ensures) (c .before .before .before .before .judge .ensures) (c .before .before .put-opt .ensures)
 
 pub edns-spec : {M : Type 1} → statement M
 edns-spec =

@@ -50,7 +50,9 @@ returns-3 : tie.Need-returns-3 Inv-loop μ-loop
 returns-3 c = search (numerals-stop, needs)
 
 loop-less : tie.Need-loop-less Inv-loop μ-loop
-loop-less c = omega (arith, numerals-far (c .before .before .before .before .before .before .before .before .before .before .if1 .left) (c .before .before .before .before .before .before .before .before .before .loop .inv) (c .before .before .before .before .before .before .comma .ensures) (c .before .before .before .before .numeral .ensures) (c .if3 .left))
+loop-less c =
+    let m = c .before .before .before .before .before .before in
+    omega (arith, numerals-far (m .before .before .before .before .if1 .left) (m .before .before .before .loop .inv) (m .comma .ensures) (c .before .before .before .before .numeral .ensures) (c .if3 .left))
 
 loop-again : tie.Need-loop-again Inv-loop μ-loop
 loop-again c = search (numerals-more, needs)

@@ -53,7 +53,9 @@ add-least : tie.Need-add-least Inv-loop μ-loop
 add-least c = search needs
 
 loop-less : tie.Need-loop-less Inv-loop μ-loop
-loop-less c = omega (arith, rising-far (c .before .before .before .before .before .before .before .before .before .before .before .if1 .left) (c .before .before .before .before .before .before .before .before .before .before .loop .inv) (c .before .before .before .before .before .before .rising-member .ensures) (c .before .if3 .left))
+loop-less c =
+    let m = c .before .before .before .before .before .before in
+    omega (arith, rising-far (m .before .before .before .before .before .if1 .left) (m .before .before .before .before .loop .inv) (m .rising-member .ensures) (c .before .if3 .left))
 
 loop-again : tie.Need-loop-again Inv-loop μ-loop
 loop-again c = search (rising-more, needs)

@@ -51,10 +51,16 @@ judge-requires : tie.Need-judge-requires
 judge-requires c κs = search needs
 
 same-length : tie.Need-same-length
-same-length c = omega (arith, c .before .before .before .before .before .before .before .before .before .before .before .before .before .before .before .before .before .before .before .before .before .before .before .before .before .before .before .out .given, c .before .before .before .before .before .before .before .before .before .before .before .before .before .before .before .before .before .before .before .before .before .before .out2 .given, c .before .before .before .before .before .before .before .before .before .before .before .before .before .before .before .before .before .out3 .given, c .before .before .before .before .before .before .before .before .before .before .before .before .out4 .given, c .before .before .before .before .before .before .before .out5 .given)
+same-length c =
+    let m = c .before .before .before .before .before .before .before .before .before .before .before .before in
+    let k = m .before .before .before .before .before .before .before .before .before .before in
+    omega (arith, k .before .before .before .before .before .out .given, k .out2 .given, m .before .before .before .before .before .out3 .given, m .out4 .given, c .before .before .before .before .before .before .before .out5 .given)
 
 returns : tie.Need-returns
-returns c = document-read (c .before .before .before .before .before .before .before .before .before .before .before .before .before .before .before .before .before .before .before .before .before .before .before .before .before .before .before .before .head .ensures .0) (c .before .before .before .before .before .before .before .before .before .before .before .before .before .before .before .before .before .before .before .before .before .before .before .array .ensures) (c .before .before .before .before .before .before .before .before .before .before .before .before .before .before .before .before .before .before .array2 .ensures) (c .before .before .before .before .before .before .before .before .before .before .before .before .before .array3 .ensures) (c .before .before .before .before .before .before .before .before .array4 .ensures) (c .before .before .before .before .literal .ensures) (c .judge .ensures) (c .before .both .ensures ∙ rw (c .before .before .before .agree .ensures, c .before .before .settled .ensures))
+returns c =
+    let m = c .before .before .before .before .before .before .before .before .before .before .before .before .before in
+    let k = m .before .before .before .before .before .before .before .before .before .before in
+    document-read (k .before .before .before .before .before .head .ensures .0) (k .array .ensures) (m .before .before .before .before .before .array2 .ensures) (m .array3 .ensures) (c .before .before .before .before .before .before .before .before .array4 .ensures) (c .before .before .before .before .literal .ensures) (c .judge .ensures) (c .before .both .ensures ∙ rw (c .before .before .before .agree .ensures, c .before .before .settled .ensures))
 
 pub document-spec : {M : Type 1} → statement M
 document-spec =

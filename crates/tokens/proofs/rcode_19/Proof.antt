@@ -39,7 +39,9 @@ or-row-requires-5 : tie.Need-or-row-requires-5
 or-row-requires-5 c κs = search needs
 
 returns : tie.Need-returns
-returns c = rcodes-19 (c .or-row5 .ensures) (c .before .before .or-row4 .ensures) (c .before .before .before .before .or-row3 .ensures) (c .before .before .before .before .before .before .or-row2 .ensures) (c .before .before .before .before .before .before .before .before .or-row .ensures) (c .before .before .before .before .before .before .before .before .before .before .before .before .pre) (c .before .before .before .before .before .before .before .before .before .before .no-row .ensures)
+returns c =
+    let m = c .before .before .before .before .before .before in
+    rcodes-19 (c .or-row5 .ensures) (c .before .before .or-row4 .ensures) (c .before .before .before .before .or-row3 .ensures) (m .or-row2 .ensures) (m .before .before .or-row .ensures) (m .before .before .before .before .before .before .pre) (m .before .before .before .before .no-row .ensures)
 
 pub rcode-19-spec : {M : Type 1} → statement M
 rcode-19-spec =

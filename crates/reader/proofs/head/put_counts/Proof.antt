@@ -19,7 +19,9 @@ same-length : tie.Need-same-length
 same-length c = search needs
 
 returns : tie.Need-returns
-returns c = put-counts (c .before .before .before .before .before .before .before .before .before .before .before .before .before .before .put-word .ensures) (c .before .before .before .before .before .before .before .before .before .before .put-word2 .ensures) (c .before .before .before .before .before .before .put-word3 .ensures) (c .before .before .put-word4 .ensures)
+returns c =
+    let m = c .before .before .before .before .before .before in
+    put-counts (m .before .before .before .before .before .before .before .before .put-word .ensures) (m .before .before .before .before .put-word2 .ensures) (m .put-word3 .ensures) (c .before .before .put-word4 .ensures)
 
 pub put-counts-spec : {M : Type 1} → statement M
 put-counts-spec =
