@@ -41,7 +41,7 @@ fn size_of(hex: &[u8]) -> usize
 }
 
 // The i-th octet.
-pub fn octet_at(hex: &[u8], i: usize) -> u8
+fn octet_at(hex: &[u8], i: usize) -> u8
     requires { ⌜ Hexes (now hex) × (2 * i + 2 ≤ length (now hex)) ⌝ }
     ensures { λ r. ⌜ r ≡ getD (paired (now (hex .entry))) i 0 ⌝ }
 {
@@ -172,7 +172,7 @@ pub fn has_shape(code: u32, hex: &[u8]) -> bool
 }
 
 // Whether RDATA divides exactly into options with codes strictly rising. `least` is the lowest code that the next one may have.
-pub fn options_rise(hex: &[u8]) -> bool
+fn options_rise(hex: &[u8]) -> bool
     requires { ⌜ Hexes (now hex) ⌝ }
     ensures { λ r. ⌜ r ≡ optionsRise (paired (now (hex .entry))) ⌝ }
 {

@@ -1,33 +1,20 @@
 -- The RCODEs of the list by their ranges, and the texts of the two tables as the code finds them. Assumes nothing.
-use mathlib.Core.Path.{_≡_, refl, sym, _∙_, subst}
-use mathlib.Core.Bool.{Bool, true, false, not, _&&_, cond}
+use mathlib.Core.Path.{_≡_, refl, sym, _∙_}
+use mathlib.Core.Bool.{Bool, true, false, cond}
 use mathlib.Core.List.{List, [], _∷_}
-use Prim.Native.Nat.{ℕ, zero, suc, _<_, _≤_}
+use Prim.Native.Nat.{ℕ, _<_, _≤_}
 use Prim.Native.String.{String}
 use native.Mathlib.Omega.{arith}
-use borrow.Author.Tests.{le-leb, lt-leb, lt-ltb, le-ltb, ne-eqb, ltb-true, ltb-false, eqb-true, eqb-false}
-use lib.Dec.{T, leb, ltb, eqb, ltb→lt}
+use borrow.Author.Tests.{le-leb, lt-leb, lt-ltb, le-ltb, ne-eqb, ltb-true, ltb-false}
+use lib.Dec.{T, leb, ltb, ltb→lt}
 use Rattle.octets.specs.Lists.{all, key?, textOf}
-use Rattle.octets.specs.Bits.{and-left, and-right}
+use Rattle.octets.specs.Bits.{and-left, and-right, same?, same, below}
 use Rattle.octets.specs.Overlay.{Wrote, nothing}
 use Rattle.edns.specs.Edns.{rcodes}
 
 -- ---- the ranges
 unfoldable listed? : ℕ → Bool
 listed? n = cond (leb n 11) true (cond (ltb n 16) false (leb n 23))
-
--- a test of every number below a bound
-abbrev upto : (ℕ → Bool) → ℕ → Bool
-upto p zero = true
-upto p (suc n) = upto p n && p n
-
-below : (p : ℕ → Bool) (n : ℕ) → T (upto p n) → (k : ℕ) → k < n → T (p k)
-below p zero t k h = absurd (omega arith)
-below p (suc n) t k h = go (below p n (and-left (upto p n) (p n) t) k) (eqb k n) refl
-  where
-    go : (k < n → T (p k)) → (b : Bool) → eqb k n ≡ b → T (p k)
-    go f true e = subst (λ i. T (p i)) (sym (eqb-true k n e)) (and-right (upto p n) (p n) t)
-    go f false e = let d = eqb-false k n e in f (omega arith)
 
 -- past all keys
 key-past : (n m : ℕ) (rows : List (ℕ × String)) → T (all (λ (row : ℕ × String). ltb (row .0) m) rows) → m ≤ n → key? n rows ≡ false
@@ -37,16 +24,6 @@ key-past n m (row ∷ rows) t h =
     let k = ltb→lt (row .0) m (and-left (ltb (row .0) m) (all (λ (row : ℕ × String). ltb (row .0) m) rows) t) in
     let rest = key-past n m rows (and-right (ltb (row .0) m) (all (λ (row : ℕ × String). ltb (row .0) m) rows) t) h in
     rw (ne-eqb (row .0) n (λ e. omega arith)) rest
-
-abbrev same? : Bool → Bool → Bool
-same? true b = b
-same? false b = not b
-
-same : (a b : Bool) → T (same? a b) → a ≡ b
-same true true t = refl
-same true false t = absurd t
-same false true t = absurd t
-same false false t = refl
 
 rcode-key : (n : ℕ) → key? n rcodes ≡ listed? n
 unfolding key? rcodes listed?

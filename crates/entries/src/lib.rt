@@ -33,11 +33,11 @@ use tokens::put_word;
 use tokens::signed;
 
 // What was read of an entry: whether it is of TYPE 41, whether it is an EDNS element, whether it is an ordinary record that could be one.
-pub struct Entry {
-    pub cursor: Cursor,
-    pub opt: bool,
-    pub shown: bool,
-    pub hidden: bool,
+struct Entry {
+    cursor: Cursor,
+    opt: bool,
+    shown: bool,
+    hidden: bool,
 }
 
 // A number of two octets, and what it is.

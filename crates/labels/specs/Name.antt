@@ -2,7 +2,7 @@
 use mathlib.Core.Path.{_≡_, refl, sym, _∙_, ap, subst}
 use mathlib.Core.Logic.{⊎-elim}
 use mathlib.Core.Bool.{Bool, true, false, not, cond, _&&_, and-true}
-use mathlib.Core.List.{List, [], _∷_, _++_, append-assoc}
+use mathlib.Core.List.{List, [], _∷_, _++_}
 use Prim.Native.Nat.{ℕ, _+_, _≤_, _<_}
 use native.Mathlib.Omega.{arith}
 use borrow.Author.Tests.{not-true, not-false, le-leb, lt-leb, le-ltb, ltb-false, eq-eqb, ne-eqb}
@@ -15,7 +15,7 @@ use Rattle.octets.specs.Codec.{Avoids, Any, OneOrMore, Codec, exact, several}
 use Rattle.octets.specs.Overlay.{Wrote, then, nothing, same-long}
 use Rattle.names.specs.Name.{Name, nameForm, label?, name?}
 use Rattle.names.specs.NameLaws.{label-short}
-use Rattle.names.specs.Ways.{labelForm}
+use Rattle.names.specs.Ways.{labelForm, form-labels}
 use Rattle.spelling.specs.Spelling.{plain?, labelText}
 use Rattle.strict.specs.Grammar.{Label}
 use Rattle.strict.specs.Spelt.{label, label-avoids, name}
@@ -30,13 +30,8 @@ use Rattle.labels.specs.Octet.{Tells, tells-missing, tells-there, tells-
 use Rattle.labels.specs.Label.{several-run, label-dot, label-quote, label-empty, Lettered, LabelAt}
 
 -- ---- the octets of labels
-name-form : (n : Name) → nameForm n ≡ each labelForm n ++ (0 ∷ [])
-unfolding nameForm each
-name-form [] = refl
-name-form (l ∷ n) = rw (name-form n, append-assoc)
-
 form-length : (n : Name) → length (nameForm n) ≡ length (each labelForm n) + 1
-form-length n = rw (name-form n, length-append)
+form-length n = rw (form-labels n, length-append)
 
 form-last : (n : Name) (l : List ℕ) → length (nameForm (n ++ (l ∷ []))) ≡ length (nameForm n) + 1 + length l
 form-last n l = form-length (n ++ (l ∷ [])) ∙ rw (each-last labelForm n l, length-append) (omega (arith, form-length n))
@@ -187,7 +182,7 @@ module _ {t : List ℕ} {start : ℕ} {b : List ℕ} {to at size : ℕ} {out : L
       written : size + 1 ≤ 255 → Wrote b to (nameForm (w .l)) b′ (to + (size + 1))
       written h =
           let u = then (w .wrote (omega arith)) v in
-          rw (name-form (w .l)) record { place = omega (arith, length-append (each labelForm (w .l)) (0 ∷ []), w .wrote (omega arith) .place); text = u .text }
+          rw (form-labels (w .l)) record { place = omega (arith, length-append (each labelForm (w .l)) (0 ∷ []), w .wrote (omega arith) .place); text = u .text }
 
   module _ {y : ℕ} (f : Byte t at y) (d : y ≡ 34 → ⊥) {p : Part} {b′ : List ℕ} (q : LabelAt t at out (to + size) p b′) where
     -- no label

@@ -3,12 +3,12 @@ use mathlib.Core.Path.{_≡_, refl, sym, _∙_, subst}
 use mathlib.Core.Logic.{⊎-elim}
 use mathlib.Core.Bool.{Bool, true, false, not, cond, _&&_, and-false, or-false}
 use mathlib.Core.List.{List, [], _∷_}
-use Prim.Native.Nat.{ℕ, zero, suc, _+_, _-_, _*_, _≤_, _<_}
+use Prim.Native.Nat.{ℕ, suc, _+_, _-_, _*_, _≤_, _<_}
 use native.Mathlib.Omega.{arith}
 use borrow.Author.Tests.{le-leb, lt-leb, lt-ltb, le-ltb, eq-eqb, ne-eqb, not-true, not-false}
 use lib.Dec.{T, leb, eqb}
 use lib.ListN.{length, drop, drop-of-length-le}
-use Rattle.octets.specs.Bits.{is-true, is-false, and-left, and-right}
+use Rattle.octets.specs.Bits.{same?, same, upto, below}
 use Rattle.octets.specs.Parsed.{Parsed, took, stuck, and-then, strip}
 use Rattle.spelling.specs.Spelling.{plain?}
 use Rattle.strict.specs.Spelt.{coded?, coded-from?, leads?, ddd, escape, spelledAt, plain-in}
@@ -123,25 +123,6 @@ module _ {v : ℕ} where
         coded-is z = rw (lt-ltb v 256 (omega arith), ← e, k, ne-eqb v 46 d, ne-eqb v 92 z)
 
 -- ---- digits that lead to such an octet, by computation over all digits
-abbrev same : Bool → Bool → Bool
-same true b = b
-same false b = not b
-
-same-eq : (a b : Bool) → T (same a b) → a ≡ b
-same-eq true b t = sym (is-true b t)
-same-eq false b t = sym (is-false b t)
-
-abbrev below : (ℕ → Bool) → ℕ → Bool
-below p zero = true
-below p (suc n) = p n && below p n
-
-below-all : (p : ℕ → Bool) (n x : ℕ) → T (below p n) → x < n → T (p x)
-below-all p zero x h k = absurd (omega arith)
-below-all p (suc n) x h k = ⊎-elim
-    (λ q. let e : n ≡ x = omega arith in subst (λ y. T (p y)) e (and-left (p n) (below p n) h))
-    (λ q. below-all p n x (and-right (p n) (below p n) h) q)
-    (le-or-lt n x)
-
 -- the least and the greatest second digit behind the first digit n
 unfoldable pub lowest : ℕ → ℕ
 lowest n = cond (eqb n 1) 50 48
@@ -149,11 +130,11 @@ lowest n = cond (eqb n 1) 50 48
 unfoldable pub highest : ℕ → ℕ
 highest n = cond (eqb n 0) 51 (cond (eqb n 1) 57 53)
 
-first-table : T (below (λ d. same (leads? 2 0 d) (leb 48 d && leb d 50)) 58)
+first-table : T (upto (λ d. same? (leads? 2 0 d) (leb 48 d && leb d 50)) 58)
 unfolding leads? coded-from? coded? plain?
 first-table = tt
 
-second-table : T (below (λ n. below (λ d. same (leads? 1 n d) (leb (lowest n) d && leb d (highest n))) 58) 3)
+second-table : T (upto (λ n. upto (λ d. same? (leads? 1 n d) (leb (lowest n) d && leb d (highest n))) 58) 3)
 unfolding leads? coded-from? coded? plain? lowest highest
 second-table = tt
 
@@ -168,16 +149,16 @@ leads-high k n x h = rw (le-leb 48 x (omega arith), le-ltb x 58 (omega arith))
 
 -- the first digit is 0, 1 or 2
 first-leads : (x : ℕ) → x < 58 → leads? 2 0 x ≡ (leb 48 x && leb x 50)
-first-leads x h = same-eq (leads? 2 0 x) (leb 48 x && leb x 50) (below-all (λ d. same (leads? 2 0 d) (leb 48 d && leb d 50)) 58 x first-table h)
+first-leads x h = same (leads? 2 0 x) (leb 48 x && leb x 50) (below (λ d. same? (leads? 2 0 d) (leb 48 d && leb d 50)) 58 first-table x h)
 
 first-over : (x : ℕ) → 50 < x → leads? 2 0 x ≡ false
 first-over x h = ⊎-elim (λ p. leads-high 2 0 x (omega arith)) (λ q. first-leads x q ∙ rw (lt-leb x 50 h) (and-false (leb 48 x))) (le-or-lt 58 x)
 
 -- the second is in the range that the first tells
 second-leads : (n x : ℕ) → n < 3 → x < 58 → leads? 1 n x ≡ (leb (lowest n) x && leb x (highest n))
-second-leads n x k h = same-eq (leads? 1 n x) (leb (lowest n) x && leb x (highest n))
-    (below-all (λ d. same (leads? 1 n d) (leb (lowest n) d && leb d (highest n))) 58 x
-    (below-all (λ n. below (λ d. same (leads? 1 n d) (leb (lowest n) d && leb d (highest n))) 58) 3 n second-table k) h)
+second-leads n x k h = same (leads? 1 n x) (leb (lowest n) x && leb x (highest n))
+    (below (λ d. same? (leads? 1 n d) (leb (lowest n) d && leb d (highest n))) 58
+    (below (λ n. upto (λ d. same? (leads? 1 n d) (leb (lowest n) d && leb d (highest n))) 58) 3 second-table n k) x h)
 
 second-under : (n x : ℕ) → n < 3 → x < lowest n → leads? 1 n x ≡ false
 second-under n x k h = ⊎-elim (λ p. leads-high 1 n x (omega arith)) (λ q. second-leads n x k q ∙ rw (lt-leb (lowest n) x h)) (le-or-lt 58 x)

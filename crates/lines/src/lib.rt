@@ -29,7 +29,7 @@ enum Program {
 }
 
 // The octets of a line in hexadecimal, by their count, or that it is no such line.
-pub enum Hex {
+enum Hex {
     Octets(usize),
     Bad,
 }
@@ -93,7 +93,7 @@ fn put_octets(line: &[u8], out: &mut [u8]) -> usize
 }
 
 // Reads a line of hexadecimal, first looking whether it is one.
-pub fn unhex(line: &[u8], out: &mut [u8]) -> Hex
+fn unhex(line: &[u8], out: &mut [u8]) -> Hex
     requires { ⌜ length (now line) ≤ 2 * length (now out) ⌝ }
     ensures { λ r. ⌜ Unhexed (now (line .entry)) (now (out .entry)) r (now (out .exit)) ⌝ }
     ensures { λ r. ⌜ Within r (length (now (out .entry))) ⌝ }
@@ -105,7 +105,7 @@ pub fn unhex(line: &[u8], out: &mut [u8]) -> Hex
 }
 
 // Writes a refusal.
-pub fn put_refusal(out: &mut [u8], at: usize, number: u32, place: u32) -> usize
+fn put_refusal(out: &mut [u8], at: usize, number: u32, place: u32) -> usize
     requires { ⌜ at < 2 ^ 38 ⌝ }
     ensures { λ r. ⌜ Wrote (now (out .entry)) at (refusalLine number place) (now (out .exit)) r ⌝ }
     ensures { λ r. ⌜ r ≤ at + 32 ⌝ }
@@ -145,7 +145,7 @@ fn put_answer(line: &[u8], message: &mut [u8], text: &mut [u8]) -> usize
 }
 
 // Writes the answer of `totext` to a line, and the end of the line behind it.
-pub fn text_line(line: &[u8], message: &mut [u8], text: &mut [u8]) -> usize
+fn text_line(line: &[u8], message: &mut [u8], text: &mut [u8]) -> usize
     requires { ⌜ (length (now message) ≡ 4096) × (length (now text) ≡ 65537) ⌝ }
     ensures { λ r. ⌜ Wrote (now (text .entry)) 0 (printed textLine (now (line .entry))) (now (text .exit)) r ⌝ }
     ensures { λ r. ⌜ r ≤ 65537 ⌝ }
@@ -182,7 +182,7 @@ fn put_reading(line: &[u8], message: &mut [u8], text: &mut [u8]) -> usize
 }
 
 // Writes the answer of `towire` to a line, and the end of the line behind it.
-pub fn wire_line(line: &[u8], message: &mut [u8], text: &mut [u8]) -> usize
+fn wire_line(line: &[u8], message: &mut [u8], text: &mut [u8]) -> usize
     requires { ⌜ (length (now message) ≡ 4096) × (length (now text) ≡ 65537) ⌝ }
     ensures { λ r. ⌜ Wrote (now (text .entry)) 0 (printed wireLine (now (line .entry))) (now (text .exit)) r ⌝ }
     ensures { λ r. ⌜ r ≤ 8193 ⌝ }

@@ -353,9 +353,9 @@ fn value(text: &[u8], c: Cursor, code: u32, out: &mut [u8]) -> Cursor
 
 // ---- members
 // A member that was read, and its option's code.
-pub struct Coded {
-    pub cursor: Cursor,
-    pub code: u32,
+struct Coded {
+    cursor: Cursor,
+    code: u32,
 }
 
 // The name of a member of the table, in quotes, and the colon.
@@ -449,7 +449,7 @@ fn other(text: &[u8], c: Cursor, out: &mut [u8]) -> Coded
 }
 
 // A member, of the table or not.
-pub fn member(text: &[u8], c: Cursor, out: &mut [u8]) -> Coded
+fn member(text: &[u8], c: Cursor, out: &mut [u8]) -> Coded
     requires { ⌜ Safe (now text) c ⌝ }
     ensures { λ r. ⌜ MemberRead (now (text .entry)) c (now (out .entry)) r (now (out .exit)) ⌝ }
 {
@@ -509,7 +509,7 @@ fn option_members(text: &[u8], c: Cursor, out: &mut [u8]) -> Cursor
 }
 
 // The same, and the last brace.
-pub fn options(text: &[u8], c: Cursor, out: &mut [u8]) -> Cursor
+fn options(text: &[u8], c: Cursor, out: &mut [u8]) -> Cursor
     requires { ⌜ Safe (now text) c ⌝ }
     ensures { λ r. ⌜ OptionsStep (optionMembers .parse) (now (text .entry)) c (now (out .entry)) r (now (out .exit)) ⌝ }
 {

@@ -3,12 +3,11 @@ use mathlib.Core.Path.{_≡_, refl, sym, _∙_, ap, ap₂, subst}
 use mathlib.Core.Bool.{Bool, true, false, _&&_, cond}
 use mathlib.Core.List.{List, [], _∷_, _++_, append-assoc}
 use Prim.Native.Nat.{ℕ, zero, suc, _+_, _-_, _<_, _≤_}
-use native.Mathlib.Numerals.{add-one}
 use native.Mathlib.Omega.{arith}
 use borrow.Author.Tests.{le-leb, lt-leb, le-ltb, ne-eqb, leb-true, leb-false, ltb-false, eqb-true, eqb-false}
 use lib.Dec.{T, leb, ltb, eqb, leb→le, le→leb, ltb→lt}
 use lib.ListN.{length, getD, take, drop, length-append, length-drop, take-append-drop}
-use lib.Seq.{drop-drop, drop-cons, length-take-le}
+use lib.Seq.{drop-drop, length-take-le}
 use Rattle.octets.specs.Lists.{all, All, octet?, Octets}
 use Rattle.octets.specs.Bits.{both, and-left, and-right, All-append, octets-in, octets-test}
 use Rattle.octets.specs.Fields.{drop-past, take-here, getD-here, drop-one}

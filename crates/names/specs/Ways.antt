@@ -29,7 +29,7 @@ abbrev pub labelForm : List ℕ → List ℕ
 labelForm label = length label ∷ label
 
 -- the root octet stands behind the labels
-form-labels : (n : Name) → nameForm n ≡ each labelForm n ++ (0 ∷ [])
+pub form-labels : (n : Name) → nameForm n ≡ each labelForm n ++ (0 ∷ [])
 unfolding nameForm each
 form-labels [] = refl
 form-labels (label ∷ n) = rw (form-labels n, append-assoc)

@@ -1,10 +1,12 @@
 -- Facts on Boolean tests, and on facts of every element of a list.
 -- Assumes nothing.
-use mathlib.Core.Path.{_≡_, refl}
+use mathlib.Core.Path.{_≡_, refl, sym, subst}
 use mathlib.Core.Logic.{_≢_}
 use mathlib.Core.Bool.{Bool, true, false, not, _&&_}
 use mathlib.Core.List.{List, [], _∷_, _++_}
-use Prim.Native.Nat.{ℕ}
+use Prim.Native.Nat.{ℕ, zero, suc, _<_}
+use native.Mathlib.Omega.{arith}
+use borrow.Author.Tests.{eqb-true, eqb-false}
 use lib.Dec.{T, not-T, eqb, eqb→eq, ltb→lt, lt→ltb}
 use Rattle.octets.specs.Lists.{all, All, octet?, Octets}
 
@@ -32,6 +34,28 @@ and-left false b t = t
 pub and-right : (a b : Bool) → T (a && b) → T b
 and-right true b t = t
 and-right false b t = absurd t
+
+-- two tests that answer alike
+abbrev pub same? : Bool → Bool → Bool
+same? true b = b
+same? false b = not b
+
+pub same : (a b : Bool) → T (same? a b) → a ≡ b
+same true b t = sym (is-true b t)
+same false b t = sym (is-false b t)
+
+-- a test of every number below a bound: it can be computed, and then holds of each
+abbrev pub upto : (ℕ → Bool) → ℕ → Bool
+upto p zero = true
+upto p (suc n) = upto p n && p n
+
+pub below : (p : ℕ → Bool) (n : ℕ) → T (upto p n) → (k : ℕ) → k < n → T (p k)
+below p zero t k h = absurd (omega arith)
+below p (suc n) t k h = go (below p n (and-left (upto p n) (p n) t) k) (eqb k n) refl
+  where
+    go : (k < n → T (p k)) → (b : Bool) → eqb k n ≡ b → T (p k)
+    go f true e = subst (λ i. T (p i)) (sym (eqb-true k n e)) (and-right (upto p n) (p n) t)
+    go f false e = let d = eqb-false k n e in f (omega arith)
 
 module _ {A : Type 0} where
   -- a test of every element, as a fact of every element
