@@ -96,9 +96,9 @@ octets-known (x ∷ s) o = (o 0, octets-known s (λ i. o (suc i)))
 
 -- l is what the search for faults leaves of no octets
 module _ (s b l : List ℕ) (z : length l ≡ 0) {x : Scan} (u : Uncompressed s [] x l) where
-  pub convert-refused : {k p : ℕ} → x .outcome ≡ Refused k p → Gives (toText s b) (Refused k p) (l ++ b)
+  pub convert-refused : {k p : ℕ} → x .outcome ≡ Refused k p → Gives (toText s b) (x .outcome) (l ++ b)
   unfolding toText converted
-  convert-refused {k} {p} q = rw (scanned (decode s) (u .answers) q, empty l z) (gives-refusal 10 b k p)
+  convert-refused {k} {p} q = rw (q, scanned (decode s) (u .answers) q, empty l z) (gives-refusal 10 b k p)
 
   pub convert-limits : {n : ℕ} → x .outcome ≡ Length n → (12 ≤ length s) × (length s ≤ 65535)
   convert-limits q = let (m, e, c, f) = scanned (decode s) (u .answers) q in let k = decode-back s m e in (k .room, k .small)

@@ -27,8 +27,7 @@ same-length c = search needs
 returns : tie.Need-returns
 returns c =
     let u = c .before .before .before .before .uncompress in
-    let e = c .enum-told .given .1 in
-    rw e (convert-refused _ _ _ (u .kept .1 .0) (u .ensures) e)
+    convert-refused _ _ _ (u .kept .1 .0) (u .ensures) (c .enum-told .given .1)
 
 deliver-requires : tie.Need-deliver-requires
 deliver-requires c κs =
