@@ -24,7 +24,7 @@ fn same(ours: Converter, theirs: Converter, input: &[u8], before: &[u8]) -> Resu
     Ok(())
 }
 
-fn agree(message: &[u8], before: &[u8]) -> Result<(), String> {
+pub fn agree(message: &[u8], before: &[u8]) -> Result<(), String> {
     same(proved::to_text, second::to_text, message, before).map_err(|fault| format!("{message:02X?}: {fault}"))
 }
 
@@ -49,23 +49,51 @@ pub fn random_messages(seed: u64, count: usize) -> Result<usize, String> {
     Ok(count)
 }
 
-/// Buffers of the exact text length, one less and one more, full of leftovers of an earlier call.
-pub fn exact_rooms(seed: u64, count: usize) -> Result<usize, String> {
+/// A conversion by both programs, and how messages or texts for it are made.
+struct Direction {
+    ours: Converter,
+    input: fn(&mut Random) -> Vec<u8>,
+    output: fn(&[u8]) -> Result<Vec<u8>, Refusal>,
+    agree: fn(&[u8], &[u8]) -> Result<(), String>,
+}
+
+/// Buffers of the exact length of the output, one less and one more, full of leftovers of an earlier call.
+fn exact(direction: &Direction, seed: u64, count: usize) -> Result<usize, String> {
     let mut random = Random::new(seed);
     let mut leftovers = vec![0xA5; 1 << 20];
     let mut compared = 0;
     for _ in 0..count {
-        let message = generate::valid_message(&mut random);
-        let Ok(text) = second::text_of(&message) else {
+        let input = (direction.input)(&mut random);
+        let Ok(output) = (direction.output)(&input) else {
             continue;
         };
-        for room in [text.len() - 1, text.len(), text.len() + 1] {
-            agree(&message, &leftovers[..room])?;
+        for room in [output.len() - 1, output.len(), output.len() + 1] {
+            (direction.agree)(&input, &leftovers[..room])?;
             compared += 1;
         }
-        proved::to_text(&message, &mut leftovers).map_err(|refusal| format!("{refusal:?}"))?;
+        (direction.ours)(&input, &mut leftovers).map_err(|refusal| format!("{refusal:?}"))?;
     }
     Ok(compared)
+}
+
+pub fn exact_rooms(seed: u64, count: usize) -> Result<usize, String> {
+    let to_text = Direction {
+        ours: proved::to_text,
+        input: generate::valid_message,
+        output: second::text_of,
+        agree,
+    };
+    exact(&to_text, seed, count)
+}
+
+pub fn exact_message_rooms(seed: u64, count: usize) -> Result<usize, String> {
+    let to_wire = Direction {
+        ours: proved::to_wire,
+        input: generate::text,
+        output: second::message_of,
+        agree: agree_on_text,
+    };
+    exact(&to_wire, seed, count)
 }
 
 /// Random texts, valid and damaged, with buffers of random length and random leftovers.
@@ -138,25 +166,6 @@ pub fn padded_texts(seed: u64, count: usize) -> Result<Tally, String> {
     Ok(tally)
 }
 
-/// Buffers of the exact message length, one less and one more, full of leftovers of an earlier call.
-pub fn exact_message_rooms(seed: u64, count: usize) -> Result<usize, String> {
-    let mut random = Random::new(seed);
-    let mut leftovers = vec![0xA5; second::LARGEST_MESSAGE + 1];
-    let mut compared = 0;
-    for _ in 0..count {
-        let text = generate::text(&mut random);
-        let Ok(message) = second::message_of(&text) else {
-            continue;
-        };
-        for room in [message.len() - 1, message.len(), message.len() + 1] {
-            agree_on_text(&text, &leftovers[..room])?;
-            compared += 1;
-        }
-        proved::to_wire(&text, &mut leftovers).map_err(|refusal| format!("{refusal:?}"))?;
-    }
-    Ok(compared)
-}
-
 /// There and back with the proved library alone: the text of a message is read as its uncompressed form, and that has the same text.
 pub fn there_and_back(seed: u64, count: usize) -> Result<usize, String> {
     let mut random = Random::new(seed);
@@ -211,25 +220,25 @@ impl fmt::Display for Tally {
     }
 }
 
+/// All lists of up to `longest` octets of the alphabet.
+pub fn words(alphabet: &[u8], longest: usize) -> Vec<Vec<u8>> {
+    let mut all = vec![vec![]];
+    let mut last = all.clone();
+    for _ in 0..longest {
+        last = last
+            .iter()
+            .flat_map(|word: &Vec<u8>| alphabet.iter().map(move |octet| [&word[..], &[*octet]].concat()))
+            .collect();
+        all.extend(last.iter().cloned());
+    }
+    all
+}
+
 /// All names of one or two labels of up to `longest` octets over a small alphabet, as the question of a message: two texts are equal exactly when
 /// the two names are. The texts of different names are all different exactly if no two of them, sorted, stand side by side equal.
 pub fn look_alikes(longest: usize) -> Result<usize, String> {
     let alphabet = [b'.', b'\\', b'"', 0, b'0', b'4', b'6', b'a'];
-    let mut labels: Vec<Vec<u8>> = vec![vec![]];
-    let mut last = labels.clone();
-    for _ in 0..longest {
-        last = last
-            .iter()
-            .flat_map(|label| {
-                alphabet.iter().map(move |octet| {
-                    let mut longer = label.clone();
-                    longer.push(*octet);
-                    longer
-                })
-            })
-            .collect();
-        labels.extend(last.iter().cloned());
-    }
+    let labels = words(&alphabet, longest);
     let mut texts = Vec::new();
     let mut buffer = vec![0; 4096];
     for first in &labels {
