@@ -1,61 +1,71 @@
--- Calls of the two conversions, and what they write. Assumes nothing.
+-- The words of the front page. Assumes nothing.
 use mathlib.Core.Path.{_≡_}
+use mathlib.Core.Logic.{_⊎_}
 use mathlib.Core.List.{List, [], _∷_, _++_}
 use Prim.Native.Nat.{ℕ, _≤_}
-use lib.ListN.{length, drop}
-use Rattle.octets.specs.Lists.{Octets}
-use Rattle.octets.specs.Answer.{Output, Left, reported, written, delivered, delivered-same, delivered-stays}
-use Rattle.octets.specs.Calls.{answerOf, Gives}
-use Rattle.octets.specs.declared.Outcome.{Outcome}
-use Rattle.records.specs.Message.{form}
-use Rattle.records.specs.Decode.{Decoded, accepted, refused, decode}
-use Rattle.json.specs.Text.{text}
-use Rattle.json.specs.Converted.{toText}
-use Rattle.strict.specs.Reading.{toWire}
+use lib.Dec.{T}
+use lib.ListN.{length}
+use Rattle.json.specs.View.{view?}
+use Rattle.json.specs.Document.{Document, documentText}
+use Rattle.json.specs.Text.{viewText}
+use Rattle.strict.specs.Grammar.{DocumentIn}
+-- answers: success with a length, a refusal with its number and place; a call has an input, a buffer before and after, an answer
+pub use Rattle.octets.specs.Answer.{Answer, success, refusal, reported}
+pub use Rattle.octets.specs.Calls.{Call, answerOf, writtenBy}
+-- messages, their uncompressed form, what octets are decoded to; a view is a message without limits of size
+pub use Rattle.records.specs.Message.{Message, form}
+pub use Rattle.records.specs.Decode.{Decoded, accepted, refused, decode}
+pub use Rattle.json.specs.View.{View}
+pub use Rattle.json.specs.Limits.{within?}
+-- the text of a message; a message within the limits
+pub use Rattle.json.specs.Text.{text}
+pub use Rattle.strict.specs.ReadingLaws.{Whole}
+-- what the conversions ensure of a call; an answer as C reads it
+pub use Rattle.json.specs.Converted.{Converts}
+pub use Rattle.strict.specs.Reading.{Reads}
+pub use Rattle.velvetshelf.specs.Calls.{outcomeOf}
 
--- a call: the octets given, the lent buffer before it, its answer, the buffer after it
-pub record Call : Type 0 where
-  pub input : List ℕ
-  pub before : List ℕ
-  pub answer : Outcome
-  pub after : List ℕ
+-- what the call answered, in document 01's numbers and values
+abbrev pub reply : Call → Answer
+reply c = answerOf (c .answer)
 
--- what the call answered, in document 01's number and values, and left in its buffer
-abbrev pub leftBy : Call → Left
-leftBy c = record { answer = answerOf (c .answer); buffer = c .after }
+-- the length of the lent buffer
+abbrev pub room : Call → ℕ
+room c = length (c .before)
 
--- what it wrote: the octets of its buffer up to the reported length; a refusal adds nothing
-abbrev pub writtenBy : Call → List ℕ
-writtenBy c = written (leftBy c)
+-- the octets l fit the buffer, and n is their number
+abbrev pub Length : Call → ℕ → List ℕ → Type 0
+Length c n l = (length l ≤ room c) × (n ≡ length l)
 
--- a call of `json::convert`: its message is octets, as every slice of them is, and the function's promise holds of it
-pub record Converts (c : Call) : Type 0 where
-  pub octets : Octets (c .input)
-  pub promise : Gives (toText (c .input) (c .before)) (c .answer) (c .after)
-
--- a call of `reader::read`: the function's promise holds of it
-abbrev pub Reads : Call → Type 0
-Reads c = Gives (toWire (c .input) (c .before)) (c .answer) (c .after)
-
--- ---- any conversion
--- two calls with the same output and buffers of the same length
-pub calls-same : (noRoom : ℕ) (o : Output) (c d : Call) → Gives (delivered noRoom o (c .before)) (c .answer) (c .after) → Gives (delivered noRoom o (d .before)) (d .answer) (d .after)
-    → length (c .before) ≡ length (d .before) → (leftBy c .answer ≡ leftBy d .answer) × (writtenBy c ≡ writtenBy d)
-calls-same noRoom o c d p q n = rw (p .answers, p .leaves, q .answers, q .leaves) (delivered-same noRoom o (c .before) (d .before) n)
-
--- what stays in the buffer
-pub call-stays : (noRoom : ℕ) (o : Output) (c : Call) → Gives (delivered noRoom o (c .before)) (c .answer) (c .after)
-    → (drop (reported (leftBy c .answer)) (leftBy c .buffer) ≡ drop (reported (leftBy c .answer)) (c .before)) × (length (leftBy c .buffer) ≡ length (c .before))
-call-stays noRoom o c p = rw (p .answers, p .leaves) (delivered-stays noRoom o (c .before))
-
--- ---- lists of calls of the converter
 -- given room: if the message is accepted, the buffer is at least as long as its text
 abbrev pub Fits : Decoded → ℕ → Type 0
-Fits (accepted m) room = length (text m) ≤ room
-Fits (refused number place) room = Unit {0}
+Fits (accepted m) size = length (text m) ≤ size
+Fits (refused number place) size = Unit {0}
 
 abbrev pub Room : Call → Type 0
-Room c = Fits (decode (c .input)) (length (c .before))
+Room c = Fits (decode (c .input)) (room c)
+
+-- a call of one of the two conversions; two calls of the same one
+abbrev pub Made : Call → Type 0
+Made c = Converts c ⊎ Reads c
+
+abbrev pub Both : Call → Call → Type 0
+Both c d = (Converts c × Converts d) ⊎ (Reads c × Reads d)
+
+-- the message m is accepted from the input; the input is the text of m, a message within the limits
+abbrev pub Accepts : Call → Message → Type 0
+Accepts c m = decode (c .input) ≡ accepted m
+
+abbrev pub Spells : Call → Message → Type 0
+Spells c m = Whole m × (text m ≡ c .input)
+
+-- the text is within the grammar
+abbrev pub InGrammar : List ℕ → Type 0
+InGrammar t = (d : Document) × DocumentIn d × (documentText d ≡ t)
+
+-- a message, of any size, has this text
+abbrev pub HasText : List ℕ → View → Type 0
+HasText t v = T (view? v) × (viewText v ≡ t)
 
 -- what a list of calls wrote, set end to end
 unfoldable pub stream : List Call → List ℕ

@@ -1,113 +1,217 @@
--- The demands on the conversion of texts to messages, over calls and what they leave in their buffers, and both round trips over calls of the two conversions.
--- Assumes nothing.
+-- The demands on the conversion of texts to messages, over its calls, and both round trips. The statements are in FrontPage.antt. Assumes nothing.
 use mathlib.Core.Path.{_≡_, refl, sym, _∙_, ap, subst}
-use mathlib.Core.Bool.{Bool, true, false, cond}
-use mathlib.Core.Option.{none, some}
-use mathlib.Core.List.{List, [], _++_}
+use mathlib.Core.Logic.{_↔_, _⊎_, inl, inr}
+use mathlib.Core.Bool.{Bool, true, false, false≢true}
+use mathlib.Core.Option.{Option, none, some, Option·none-ne-some}
+use mathlib.Core.List.{List, [], _∷_, nil≢cons}
 use Prim.Native.Nat.{ℕ, _≤_, _<_}
-use borrow.Author.Tests.{leb-true}
-use lib.Dec.{leb}
+use native.Mathlib.Omega.{arith}
 use lib.ListN.{length, drop}
-use Rattle.octets.specs.Parsed.{took, stuck}
-use Rattle.octets.specs.Answer.{Output, output, refused, Answer, success, refusal, Left, reported, written, delivered, delivered-room, delivered-none}
+use Rattle.octets.specs.Parsed.{Parsed, took, stuck, took≢stuck}
+use Rattle.octets.specs.Answer.{Output, output, refused, success, refusal, reported, delivered-room}
+use Rattle.octets.specs.Calls.{Call, writtenBy}
 use Rattle.records.specs.Message.{Message, form}
 use Rattle.records.specs.Decode.{accepted, decode}
 use Rattle.records.specs.MessageLaws.{decode-valid, decode-form}
-use Rattle.json.specs.View.{View}
+use Rattle.json.specs.View.{View, messageOf}
 use Rattle.json.specs.Limits.{within?}
 use Rattle.json.specs.Document.{Document}
-use Rattle.json.specs.Text.{text}
+use Rattle.json.specs.Text.{text, documentOf}
+use Rattle.json.specs.Converted.{Converts}
 use Rattle.strict.specs.Meaning.{meaning}
-use Rattle.strict.specs.Parser.{parse}
-use Rattle.strict.specs.Reading.{reading, toWire}
-use Rattle.strict.specs.ReadingLaws.{Whole, Read, reads-text, read-only}
-use Rattle.demands.specs.Calls.{Call, leftBy, writtenBy, Converts, Reads, calls-same, call-stays}
-use Rattle.demands.specs.Demands.{demand-2-writes}
+use Rattle.strict.specs.MeaningLaws.{view-in}
+use Rattle.strict.specs.Parser.{parse, parse-exact, parse-ends}
+use Rattle.strict.specs.Reading.{sized, meant, parsed, reading, toWire, Reads}
+use Rattle.strict.specs.ReadingLaws.{Whole, Means, means-text, means-one, reads-text, read-only}
+use Rattle.demands.specs.Calls.{reply, room, Length, Spells, InGrammar, HasText}
+use Rattle.demands.specs.Delivered.{call-succeeds, call-refuses, call-leaves, call-stays, calls-same}
+use Rattle.demands.specs.Converter as converter
 
 -- ---- demand 1
--- answer and octets written depend on the text and the buffer's length, not on what the buffer held
-pub reader-1-same : (c d : Call) → Reads c → Reads d → c .input ≡ d .input → length (c .before) ≡ length (d .before)
-    → (leftBy c .answer ≡ leftBy d .answer) × (writtenBy c ≡ writtenBy d)
+pub same : (c d : Call) → Reads c → Reads d → c .input ≡ d .input → room c ≡ room d → (reply c ≡ reply d) × (writtenBy c ≡ writtenBy d)
 unfolding toWire
-reader-1-same c d p q e n = calls-same 23 (reading (d .input)) c d (rw e at p) q n
+same c d p q e n = calls-same 23 (reading (d .input)) c (rw e at p) d q n
 
--- the octets after the reported length stay, and on a refusal, which reports none, all of them; the buffer keeps its length
-pub reader-1-stays : (c : Call) → Reads c
-    → (drop (reported (leftBy c .answer)) (leftBy c .buffer) ≡ drop (reported (leftBy c .answer)) (c .before)) × (length (leftBy c .buffer) ≡ length (c .before))
-unfolding toWire
-reader-1-stays c p = call-stays 23 (reading (c .input)) c p
+-- ---- what is read, by the grammar and by the messages, not by the parser
+pub data Verdict (t : List ℕ) : Output → Type 0 where
+  ungrammatical : (InGrammar t → ⊥) → Verdict t (refused 20 0)
+  meaningless : InGrammar t → ((v : View) → HasText t v → ⊥) → Verdict t (refused 21 0)
+  large : (v : View) → HasText t v → within? v ≡ false → Verdict t (refused 22 0)
+  read : (v : View) → HasText t v → within? v ≡ true → Verdict t (output (form (messageOf v)))
 
--- ---- demand 2, its reading half
-no-success : {n p m : ℕ} {X : Type 0} → refusal n p ≡ success m → X
-no-success e = absurd (subst Refusal e tt)
+pub verdict : (t : List ℕ) → Verdict t (reading t)
+unfolding reading
+verdict t = go (parse t) refl
   where
-    Refusal : Answer → Type 0
-    Refusal (success n) = ⊥
-    Refusal (refusal n p) = Unit {0}
+    sizes : (d : Document) (v : View) → parse t ≡ took d [] → meaning d ≡ some v → (b : Bool) → within? v ≡ b → Verdict t (sized v)
+    sizes d v p m true e = rw e (read v (means-text t v .0 (record { document = d; spelled = p; meant = m })) e)
+    sizes d v p m false e = rw e (large v (means-text t v .0 (record { document = d; spelled = p; meant = m })) e)
 
--- an output that was delivered with success
-pub record Delivered (o : Output) (b : List ℕ) : Type 0 where
-  pub octets : List ℕ
-  pub is : o ≡ output octets
-  pub writes : written (delivered 23 o b) ≡ octets
+    taken : {d e : Document} {r s : List ℕ} → took d r ≡ took e s → d ≡ e
+    taken {d} e = ap (λ (o : Parsed Document). elim o [ took a w ↦ a | stuck w ↦ d ]) e
 
-delivered-success : (o : Output) (b : List ℕ) (n : ℕ) → delivered 23 o b .answer ≡ success n → Delivered o b
-unfolding delivered
-delivered-success (refused k p) b n e = no-success e
-delivered-success (output l) b n e = go (leb (length l) (length b)) refl e
+    means : (d : Document) → parse t ≡ took d [] → (o : Option View) → meaning d ≡ o → Verdict t (meant o)
+    means d p none e = meaningless (d, parse-exact t d .0 p .0, parse-exact t d .0 p .1) λ v h.
+        let m = means-text t v .1 h in Option·none-ne-some v (sym e ∙ ap meaning (taken (sym p ∙ m .spelled)) ∙ m .meant)
+    means d p (some v) e = sizes d v p e (within? v) refl
+
+    go : (o : Parsed Document) → parse t ≡ o → Verdict t (parsed o)
+    go (stuck w) e = ungrammatical λ h. let (d, i, s) = h in took≢stuck (sym (parse-exact t d .1 (i, s)) ∙ e)
+    go (took d []) e = means d e (meaning d) refl
+    go (took d (x ∷ r)) e = absurd (nil≢cons (sym (parse-ends t d (x ∷ r) e)))
+
+-- a message's text is within the grammar, and it is the text of one message only
+has-grammar : (t : List ℕ) (v : View) → HasText t v → InGrammar t
+unfolding Rattle.json.specs.Text.viewText
+has-grammar t v h = (documentOf v, view-in v (h .0), h .1)
+
+has-one : (t : List ℕ) (v w : View) → HasText t v → HasText t w → within? v ≡ within? w
+has-one t v w h k = ap within? (means-one t v w (means-text t v .1 h) (means-text t w .1 k))
+
+-- ---- each refusal, exactly when
+both : {A B C : Type 0} → A ↔ B → B ↔ C → A ↔ C
+both f g = (λ a. g .0 (f .0 a), λ c. f .1 (g .1 c))
+
+numberIn : Output → ℕ
+numberIn (output l) = 0
+numberIn (refused k p) = k
+
+placeIn : Output → ℕ
+placeIn (output l) = 0
+placeIn (refused k p) = p
+
+no : {X : Type 0} {o : Output} {k p : ℕ} → (numberIn o ≡ k → ⊥) → o ≡ refused k p → X
+unfolding numberIn
+no n e = absurd (n (ap numberIn e))
+
+at-20 : {t : List ℕ} {o : Output} (p : ℕ) → Verdict t o → (o ≡ refused 20 p) ↔ ((InGrammar t → ⊥) × (p ≡ 0))
+unfolding numberIn placeIn
+at-20 p (ungrammatical g) = (λ e. (g, sym (ap placeIn e)), λ h. rw (h .1))
+at-20 p (meaningless g f) = (no (λ e. omega arith), λ h. absurd (h .0 g))
+at-20 {t} p (large v h w) = (no (λ e. omega arith), λ k. absurd (k .0 (has-grammar t v h)))
+at-20 {t} p (read v h w) = (no (λ e. omega arith), λ k. absurd (k .0 (has-grammar t v h)))
+
+at-21 : {t : List ℕ} {o : Output} (p : ℕ) → Verdict t o → (o ≡ refused 21 p) ↔ (InGrammar t × ((v : View) → HasText t v → ⊥) × (p ≡ 0))
+unfolding numberIn placeIn
+at-21 p (ungrammatical g) = (no (λ e. omega arith), λ h. let (i, f, q) = h in absurd (g i))
+at-21 p (meaningless g f) = (λ e. (g, f, sym (ap placeIn e)), λ h. let (i, j, q) = h in rw q)
+at-21 p (large v h w) = (no (λ e. omega arith), λ k. let (i, f, q) = k in absurd (f v h))
+at-21 p (read v h w) = (no (λ e. omega arith), λ k. let (i, f, q) = k in absurd (f v h))
+
+at-22 : {t : List ℕ} {o : Output} (p : ℕ) → Verdict t o → (o ≡ refused 22 p) ↔ ((v : View) × HasText t v × (within? v ≡ false) × (p ≡ 0))
+unfolding numberIn placeIn
+at-22 {t} p (ungrammatical g) = (no (λ e. omega arith), λ h. let (v, k, w, q) = h in absurd (g (has-grammar t v k)))
+at-22 p (meaningless g f) = (no (λ e. omega arith), λ h. let (v, k, w, q) = h in absurd (f v k))
+at-22 p (large v h w) = (λ e. (v, h, w, sym (ap placeIn e)), λ u. let (x, k, y, q) = u in rw q)
+at-22 {t} p (read v h w) = (no (λ e. omega arith), λ u. let (x, k, y, q) = u in absurd (false≢true (sym y ∙ has-one t x v k h ∙ w)))
+
+-- there is no other refusal
+others : {t : List ℕ} {o : Output} {k p : ℕ} → Verdict t o → o ≡ refused k p → (20 ≤ k) × (k ≤ 22) × (p ≡ 0)
+unfolding numberIn placeIn
+others (ungrammatical g) e = let k = ap numberIn e in (omega arith, omega arith, sym (ap placeIn e))
+others (meaningless g f) e = let k = ap numberIn e in (omega arith, omega arith, sym (ap placeIn e))
+others (large v h w) e = let k = ap numberIn e in (omega arith, omega arith, sym (ap placeIn e))
+others (read v h w) e = absurd (subst Written e tt)
   where
-    at : Bool → Left
-    at t = cond t (record { answer = success (length l); buffer = l ++ drop (length l) b }) (record { answer = refusal 23 0; buffer = b })
-
-    go : (t : Bool) → leb (length l) (length b) ≡ t → at t .answer ≡ success n → Delivered (output l) b
-    go true h e = record { octets = l; is = refl; writes = delivered-room 23 l b (leb-true (length l) (length b) h) .1 }
-    go false h e = no-success e
+    Written : Output → Type 0
+    Written (output l) = Unit {0}
+    Written (refused k p) = ⊥
 
 module _ (c : Call) (made : Reads c) where
-  -- a text of a message within the limits, given room: the length of the message's uncompressed form is reported, and the form stands in the buffer
-  pub reader-2-reads : (m : Message) → Whole m → text m ≡ c .input → length (form m) ≤ length (c .before) → (leftBy c .answer ≡ success (length (form m))) × (writtenBy c ≡ form m)
+  -- what is due, whatever the room
+  due : (k : ℕ) → k < 23 → (p : ℕ) → (reply c ≡ refusal k p) ↔ (reading (c .input) ≡ refused k p)
   unfolding toWire
-  reader-2-reads m h e k = rw (made .answers, made .leaves, ← e, reads-text m h) (delivered-room 23 (form m) (c .before) k)
+  due k h p = (λ e. forward (exact .0 e), λ e. exact .1 (inl e))
+    where
+      exact : (reply c ≡ refusal k p) ↔ ((reading (c .input) ≡ refused k p) ⊎ ((l : List ℕ) × (reading (c .input) ≡ output l) × (room c < length l) × (k ≡ 23) × (p ≡ 0)))
+      exact = call-refuses 23 (reading (c .input)) c made k p
 
-  -- without room: 23
-  pub reader-2-room : (m : Message) → Whole m → text m ≡ c .input → length (c .before) < length (form m) → leftBy c .answer ≡ refusal 23 0
+      forward : (reading (c .input) ≡ refused k p) ⊎ ((l : List ℕ) × (reading (c .input) ≡ output l) × (room c < length l) × (k ≡ 23) × (p ≡ 0)) → reading (c .input) ≡ refused k p
+      forward (inl e) = e
+      forward (inr u) = let (l, o, r, j, q) = u in absurd (omega arith)
+
+  pub stays : (drop (reported (reply c)) (c .after) ≡ drop (reported (reply c)) (c .before)) × (length (c .after) ≡ room c)
   unfolding toWire
-  reader-2-room m h e k = rw (made .answers, ← e, reads-text m h, delivered-none 23 (form m) (c .before) k)
+  stays = call-stays 23 (reading (c .input)) c made
 
-  -- nothing else is taken: a text that was answered with a length is the text of a message within the limits, whose form was written
-  pub reader-2-only : (n : ℕ) → leftBy c .answer ≡ success n → Read (c .input) (writtenBy c)
+  pub leaves : (k p : ℕ) → reply c ≡ refusal k p → c .after ≡ c .before
   unfolding toWire
-  reader-2-only n e =
-      let d = delivered-success (reading (c .input)) (c .before) n (sym (made .answers) ∙ e) in
-      rw (made .answers, made .leaves, d .writes) (read-only (c .input) (d .octets) (d .is))
+  leaves = call-leaves 23 (reading (c .input)) c made
 
-  -- the other refusals, each when its rule says so: 20 where no text in the grammar goes on, or octets are left; 21 where it has no meaning; 22 over a limit
-  pub reader-2-grammar : (w : List ℕ) → parse (c .input) ≡ stuck w → leftBy c .answer ≡ refusal 20 0
-  unfolding toWire reading delivered
-  reader-2-grammar w e = rw (made .answers, e)
+  -- ---- demand 2, its reading half
+  pub accepts : (n : ℕ) → (reply c ≡ success n) ↔ ((m : Message) × Spells c m × Length c n (form m))
+  unfolding toWire
+  accepts n = (forward, backward)
+    where
+      exact : (reply c ≡ success n) ↔ ((l : List ℕ) × (reading (c .input) ≡ output l) × (length l ≤ room c) × (n ≡ length l))
+      exact = call-succeeds 23 (reading (c .input)) c made n
 
-  module _ (d : Document) (spelled : parse (c .input) ≡ took d []) where
-    pub reader-2-meaning : meaning d ≡ none → leftBy c .answer ≡ refusal 21 0
-    unfolding toWire reading delivered
-    reader-2-meaning e = rw (made .answers, spelled, e)
+      forward : reply c ≡ success n → (m : Message) × Spells c m × Length c n (form m)
+      forward e =
+          let (l, o, h, k) = exact .0 e in
+          let r = read-only (c .input) l o in
+          (r .message, (r .whole, r .its-text), (rw (r .its-form) h, rw (r .its-form) k))
 
-    pub reader-2-limits : (v : View) → meaning d ≡ some v → within? v ≡ false → leftBy c .answer ≡ refusal 22 0
-    unfolding toWire reading delivered
-    reader-2-limits v e f = rw (made .answers, spelled, e, f)
+      backward : (m : Message) × Spells c m × Length c n (form m) → reply c ≡ success n
+      backward u = let (m, (w, e), (h, k)) = u in exact .1 (form m, ap reading (sym e) ∙ reads-text m w, h, k)
+
+  pub writes : (m : Message) → Spells c m → length (form m) ≤ room c → writtenBy c ≡ form m
+  unfolding toWire
+  writes m (h, e) k = rw (made .answers, made .leaves, ← e, reads-text m h) (delivered-room 23 (form m) (c .before) k .1)
+
+  pub grammar : (p : ℕ) → (reply c ≡ refusal 20 p) ↔ ((InGrammar (c .input) → ⊥) × (p ≡ 0))
+  grammar p = both (due 20 (omega arith) p) (at-20 p (verdict (c .input)))
+
+  pub no-message : (p : ℕ) → (reply c ≡ refusal 21 p) ↔ (InGrammar (c .input) × ((v : View) → HasText (c .input) v → ⊥) × (p ≡ 0))
+  no-message p = both (due 21 (omega arith) p) (at-21 p (verdict (c .input)))
+
+  pub limits : (p : ℕ) → (reply c ≡ refusal 22 p) ↔ ((v : View) × HasText (c .input) v × (within? v ≡ false) × (p ≡ 0))
+  limits p = both (due 22 (omega arith) p) (at-22 p (verdict (c .input)))
+
+  pub no-room : (p : ℕ) → (reply c ≡ refusal 23 p) ↔ ((m : Message) × Spells c m × (room c < length (form m)) × (p ≡ 0))
+  unfolding toWire
+  no-room p = (λ e. forward 23 (call-refuses 23 (reading (c .input)) c made 23 p .0 e) refl, backward)
+    where
+      forward : (k : ℕ) → (reading (c .input) ≡ refused k p) ⊎ ((l : List ℕ) × (reading (c .input) ≡ output l) × (room c < length l) × (k ≡ 23) × (p ≡ 0)) → k ≡ 23
+          → (m : Message) × Spells c m × (room c < length (form m)) × (p ≡ 0)
+      forward k (inl e) f = let (a, b, q) = others (verdict (c .input)) e in absurd (omega arith)
+      forward k (inr u) f =
+          let (l, o, h, j, q) = u in
+          let r = read-only (c .input) l o in
+          (r .message, (r .whole, r .its-text), rw (r .its-form) h, q)
+
+      backward : (m : Message) × Spells c m × (room c < length (form m)) × (p ≡ 0) → reply c ≡ refusal 23 p
+      backward u =
+          let (m, (w, e), h, q) = u in
+          call-refuses 23 (reading (c .input)) c made 23 p .1 (inr (form m, ap reading (sym e) ∙ reads-text m w, h, refl, q))
+
+  -- there is no other answer
+  pub numbers : (k p : ℕ) → reply c ≡ refusal k p → (20 ≤ k) × (k ≤ 23) × (p ≡ 0)
+  unfolding toWire
+  numbers k p e = go (call-refuses 23 (reading (c .input)) c made k p .0 e)
+    where
+      go : (reading (c .input) ≡ refused k p) ⊎ ((l : List ℕ) × (reading (c .input) ≡ output l) × (room c < length l) × (k ≡ 23) × (p ≡ 0)) → (20 ≤ k) × (k ≤ 23) × (p ≡ 0)
+      go (inl e) = let (a, b, q) = others (verdict (c .input)) e in (a, omega arith, q)
+      go (inr u) = let (l, o, h, j, q) = u in (omega arith, omega arith, q)
+
+-- ---- a buffer of 65,535 octets holds every message
+pub room-enough : (c : Call) → Reads c → 65535 ≤ room c → (p : ℕ) → reply c ≡ refusal 23 p → ⊥
+room-enough c made h p e = let (m, (w, f), k, q) = no-room c made p .0 e in omega (arith, w .1)
 
 -- ---- both round trips, over calls
 -- reading what the converter wrote gives the uncompressed form of its message
-pub there-and-back : (c d : Call) → Converts c → Reads d → (m : Message) → decode (c .input) ≡ accepted m → length (text m) ≤ length (c .before)
-    → d .input ≡ writtenBy c → length (form m) ≤ length (d .before) → (leftBy d .answer ≡ success (length (form m))) × (writtenBy d ≡ form m)
-there-and-back c d p q m e room same fits =
-    reader-2-reads d q m (decode-valid (c .input) m (p .octets) e) (sym (same ∙ demand-2-writes c p m e room .1)) fits
+pub there-and-back : (c d : Call) → Converts c → Reads d → (m : Message) → decode (c .input) ≡ accepted m → length (text m) ≤ room c
+    → d .input ≡ writtenBy c → length (form m) ≤ room d → (reply d ≡ success (length (form m))) × (writtenBy d ≡ form m)
+there-and-back c d p q m e h same k =
+    let w = decode-valid (c .input) m (p .octets) e in
+    let t : text m ≡ d .input = sym (same ∙ converter.writes c p m e h) in
+    (accepts d q (length (form m)) .1 (m, (w, t), (k, refl)), writes d q m (w, t) k)
 
 -- converting what the reader gave writes the same text
-pub back-and-there : (d c : Call) → Reads d → Converts c → (n : ℕ) → leftBy d .answer ≡ success n → c .input ≡ writtenBy d → length (d .input) ≤ length (c .before)
-    → (leftBy c .answer ≡ success (length (d .input))) × (writtenBy c ≡ d .input)
-back-and-there d c p q n e same fits =
-    let r = reader-2-only d p n e in
-    let m = r .message in
-    let k : decode (c .input) ≡ accepted m = rw (same, ← (r .its-form)) (decode-form m (r .whole .0) (r .whole .1)) in
-    let w = demand-2-writes c q m k (rw (r .its-text) fits) in
-    (w .0 ∙ ap (λ t. success (length t)) (r .its-text), w .1 ∙ r .its-text)
+pub back-and-there : (d c : Call) → Reads d → Converts c → (n : ℕ) → reply d ≡ success n → c .input ≡ writtenBy d → length (d .input) ≤ room c
+    → (reply c ≡ success (length (d .input))) × (writtenBy c ≡ d .input)
+back-and-there d c p q n e same h =
+    let (m, (w, t), (k, j)) = accepts d p n .0 e in
+    let f : decode (c .input) ≡ accepted m = rw (same, writes d p m (w, t) k) (decode-form m (w .0) (w .1)) in
+    let r : length (text m) ≤ room c = rw t h in
+    (converter.accepts c q (length (d .input)) .1 (m, f, (r, ap length (sym t))), converter.writes c q m f r ∙ t)

@@ -1,14 +1,14 @@
 -- What the converter promises, and how it follows from a run that measures and a run that writes. Assumes nothing.
 use mathlib.Core.Path.{_≡_, refl, sym, ap, _∙_, subst}
 use mathlib.Core.List.{List, [], _∷_, _++_}
-use Prim.Native.Nat.{ℕ, suc, _+_, _*_, _≤_, _<_}
+use Prim.Native.Nat.{ℕ, _+_, _*_, _≤_, _<_}
 use native.Mathlib.Omega.{arith}
 use lib.Dec.{eqb}
 use lib.ListN.{length, getD}
-use Rattle.octets.specs.Lists.{Octets, count}
+use Rattle.octets.specs.Lists.{count}
 use Rattle.octets.specs.Answer.{output, delivered}
-use Rattle.octets.specs.Fields.{empty}
-use Rattle.octets.specs.Calls.{Gives, gives-refusal, gives-none, gives-written}
+use Rattle.octets.specs.Fields.{empty, octets-known}
+use Rattle.octets.specs.Calls.{Call, Gives, gives-refusal, gives-none, gives-written}
 use Rattle.octets.specs.declared.Outcome.{Outcome}
 use Rattle.octets.specs.declared.Outcome.the-variants.{Length, Refused}
 use Rattle.names.specs.Name.{Fault}
@@ -19,7 +19,7 @@ use Rattle.records.specs.MessageLaws.{decode-back, decode-valid}
 use Rattle.records.specs.Uncompressed.{scanOf, Uncompressed}
 use Rattle.records.specs.declared.Scan.{Scan}
 use Rattle.json.specs.Text.{text}
-use Rattle.json.specs.Converted.{converted, toText}
+use Rattle.json.specs.Converted.{converted, toText, Converts}
 use Rattle.json.specs.Elements.{wholeText}
 use Rattle.json.specs.Does.{Does, wrote, fails}
 use Rattle.json.specs.Whole.{accepted-text}
@@ -90,10 +90,6 @@ scanned x {r} {o} p q = subst (λ (y : Outcome). Outcomes y (r .opts) x) q (subs
 given : {t b b′ : List ℕ} {next : ℕ} {r : Outcome} → Delivers (entry t next) b r b′ → Gives (delivered 10 (output t) b) r b′
 given (delivers g) = g
 
-octets-known : (s : List ℕ) → ((i : ℕ) → getD s i 0 < 256) → Octets s
-octets-known [] o = tt
-octets-known (x ∷ s) o = (o 0, octets-known s (λ i. o (suc i)))
-
 -- l is what the search for faults leaves of no octets
 module _ (s b l : List ℕ) (z : length l ≡ 0) {x : Scan} (u : Uncompressed s [] x l) where
   pub convert-refused : {k p : ℕ} → x .outcome ≡ Refused k p → Gives (toText s b) (x .outcome) (l ++ b)
@@ -119,3 +115,7 @@ module _ (s b l : List ℕ) (z : length l ≡ 0) {x : Scan} (u : Uncompressed s 
       let (last, t) = accepted-text s m e in
       let g : Delivers (entry (text m) last) b r b′ = subst (λ (y : Entry (List ℕ)). Delivers y b r b′) (ap (λ (n : ℕ). wholeText (eqb n 1) s) c ∙ t) (rw (empty l z) at d) in
       rw e (given g)
+
+-- the octets of a slice are known one by one
+pub converts : (c : Call) → ((i : ℕ) → getD (c .input) i 0 < 256) → Gives (toText (c .input) (c .before)) (c .answer) (c .after) → Converts c
+converts c o g = record { octets = octets-known (c .input) o; promise = g }

@@ -1,11 +1,11 @@
--- What a call of a conversion gives, and how it follows from what its runs wrote. Assumes nothing.
+-- Calls of a conversion: what one gives, what it writes, and how that follows from what its runs wrote. Assumes nothing.
 use mathlib.Core.Path.{_≡_, refl, ap, _∙_}
 use mathlib.Core.List.{List}
 use Prim.Native.Nat.{ℕ, _≤_, _<_}
 use native.Mathlib.Omega.{arith}
 use borrow.Author.Tests.{le-leb, lt-leb}
 use lib.ListN.{length}
-use Rattle.octets.specs.Answer.{output, Answer, success, refusal, Left, delivered}
+use Rattle.octets.specs.Answer.{output, Answer, success, refusal, Left, written, delivered}
 use Rattle.octets.specs.Answer as answer
 use Rattle.octets.specs.Overlay.{Wrote, overlay-first}
 use Rattle.octets.specs.declared.Outcome.{Outcome}
@@ -20,6 +20,21 @@ answerOf (Refused number place) = refusal number place
 pub record Gives (left : Left) (r : Outcome) (after : List ℕ) : Type 0 where
   pub answers : answerOf r ≡ left .answer
   pub leaves : after ≡ left .buffer
+
+-- a call: the octets given, the lent buffer before it, its answer, the buffer after it
+pub record Call : Type 0 where
+  pub input : List ℕ
+  pub before : List ℕ
+  pub answer : Outcome
+  pub after : List ℕ
+
+-- what the call answered, in document 01's number and values, and left in its buffer
+abbrev pub leftBy : Call → Left
+leftBy c = record { answer = answerOf (c .answer); buffer = c .after }
+
+-- what it wrote: the octets of its buffer up to the reported length; a refusal adds nothing
+abbrev pub writtenBy : Call → List ℕ
+writtenBy c = written (leftBy c)
 
 -- ---- an output, and the buffer b
 module _ (noRoom : ℕ) (b : List ℕ) where

@@ -25,6 +25,11 @@ twoAt s at = getD s at 0 * 256 + getD s (at + 1) 0
 abbrev pub fourAt : List ℕ → ℕ → ℕ
 fourAt s at = twoAt s at * 65536 + twoAt s (at + 2)
 
+-- octets, each by its place
+pub octets-known : (s : List ℕ) → ((i : ℕ) → getD s i 0 < 256) → Octets s
+octets-known [] o = tt
+octets-known (x ∷ s) o = (o 0, octets-known s (λ i. o (suc i)))
+
 -- ---- places
 -- a list without elements
 pub empty : (l : List ℕ) → length l ≡ 0 → l ≡ []

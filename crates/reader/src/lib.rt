@@ -6,8 +6,8 @@ ghost use Rattle.tokens.specs.Step.{Step};
 ghost use Prim.Native.Nat.{_<_};
 ghost use Rattle.tokens.specs.Cursor.{Safe};
 ghost use Rattle.reader.specs.Whole.{start, ArrayRead, agreement, settledSection};
-ghost use Rattle.octets.specs.Calls.{Gives};
-ghost use Rattle.strict.specs.Reading.{toWire};
+ghost use Rattle.octets.specs.Calls.{Call};
+ghost use Rattle.strict.specs.Reading.{Reads};
 use entries::Element;
 use entries::Section;
 use entries::read_section;
@@ -114,7 +114,7 @@ fn document(text: &[u8], out: &mut [u8]) -> Cursor
 
 // Writes the message that a text says. A first run over no octets finds every refusal.
 pub fn read(text: &[u8], message: &mut [u8]) -> Outcome
-    ensures { λ r. ⌜ Gives (toWire (now (text .entry)) (now (message .entry))) r (now (message .exit)) ⌝ }
+    ensures { λ r. ⌜ Reads (record { input = now (text .entry); before = now (message .entry); answer = r; after = now (message .exit) }) ⌝ }
 {
     let c = document(text, &mut message[..0]);
     if !c.spelled {

@@ -5,6 +5,7 @@ use mathlib.Core.List.{List}
 use Prim.Native.Nat.{ℕ}
 use Rattle.octets.specs.Parsed.{Parsed, took, stuck}
 use Rattle.octets.specs.Answer.{Output, output, refused, Left, delivered}
+use Rattle.octets.specs.Calls.{Call, Gives}
 use Rattle.records.specs.Message.{form}
 use Rattle.json.specs.View.{View, messageOf}
 use Rattle.json.specs.Limits.{within?}
@@ -33,3 +34,7 @@ reading t = parsed (parse t)
 -- number, place, length and the whole buffer afterwards; 23 where the message is longer than the buffer
 unfoldable pub toWire : List ℕ → List ℕ → Left
 toWire t buffer = delivered 23 (reading t) buffer
+
+-- a call of the reader: its answer and buffer are those of `toWire`
+abbrev pub Reads : Call → Type 0
+Reads c = Gives (toWire (c .input) (c .before)) (c .answer) (c .after)

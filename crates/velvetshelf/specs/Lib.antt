@@ -1,2 +1,2 @@
--- What the exported functions return and leave.
-pub mod Told
+-- Answers as C reads them.
+pub mod Calls

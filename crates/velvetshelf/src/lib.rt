@@ -3,14 +3,14 @@ use json::convert;
 use octets::Outcome;
 use reader::read;
 ghost use mathlib.Core.Path.{_≡_};
-ghost use Rattle.octets.specs.Calls.{answerOf};
-ghost use Rattle.json.specs.Converted.{toText};
-ghost use Rattle.strict.specs.Reading.{toWire};
-ghost use Rattle.velvetshelf.specs.Told.{numberOf, valueOf, Told};
+ghost use Rattle.octets.specs.Calls.{Call};
+ghost use Rattle.json.specs.Converted.{Converts};
+ghost use Rattle.strict.specs.Reading.{Reads};
+ghost use Rattle.velvetshelf.specs.Calls.{numberOf, valueOf, outcomeOf};
 
 // 0 for success, else the refusal's number.
 fn number_of(outcome: Outcome) -> u32
-    ensures { λ r. ⌜ r ≡ numberOf (answerOf outcome) ⌝ }
+    ensures { λ r. ⌜ r ≡ numberOf outcome ⌝ }
 {
     match outcome {
         Outcome::Length(_) => 0,
@@ -20,7 +20,7 @@ fn number_of(outcome: Outcome) -> u32
 
 // The length, or the refusal's place.
 fn value_of(outcome: Outcome) -> u64
-    ensures { λ r. ⌜ r ≡ valueOf (answerOf outcome) ⌝ }
+    ensures { λ r. ⌜ r ≡ valueOf outcome ⌝ }
 {
     match outcome {
         Outcome::Length(length) => length as u64,
@@ -31,7 +31,7 @@ fn value_of(outcome: Outcome) -> u64
 // Converts the message to its text: 0, and the text's length in `value`; or the refusal's number, and its place in `value`.
 #[no_mangle]
 pub extern "C" fn velvetshelf_to_text(message: &[u8], text: &mut [u8], value: &mut u64) -> u32
-    ensures { λ r. ⌜ Told (toText (now (message .entry)) (now (text .entry))) (now (text .exit)) r (now (value .exit)) ⌝ }
+    ensures { λ r. ⌜ Converts (record { input = now (message .entry); before = now (text .entry); answer = outcomeOf r (now (value .exit)); after = now (text .exit) }) ⌝ }
 {
     let outcome = convert(message, text);
     *value = value_of(outcome);
@@ -41,7 +41,7 @@ pub extern "C" fn velvetshelf_to_text(message: &[u8], text: &mut [u8], value: &m
 // Converts the text to its message: 0, and the message's length in `value`; or the refusal's number, and its place in `value`.
 #[no_mangle]
 pub extern "C" fn velvetshelf_to_wire(text: &[u8], message: &mut [u8], value: &mut u64) -> u32
-    ensures { λ r. ⌜ Told (toWire (now (text .entry)) (now (message .entry))) (now (message .exit)) r (now (value .exit)) ⌝ }
+    ensures { λ r. ⌜ Reads (record { input = now (text .entry); before = now (message .entry); answer = outcomeOf r (now (value .exit)); after = now (message .exit) }) ⌝ }
 {
     let outcome = read(text, message);
     *value = value_of(outcome);

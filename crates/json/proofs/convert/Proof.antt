@@ -2,7 +2,7 @@
 -- Assumes nothing.
 use mathlib.Core.List.{[]}
 use borrow.Author.Needs.{needs}
-use Rattle.json.specs.Promise.{convert-refused, convert-limits, convert-bounded, convert-whole}
+use Rattle.json.specs.Promise.{converts, convert-refused, convert-limits, convert-bounded, convert-whole}
 use Rattle.json.proofs.convert.Statement.{statement}
 use Rattle.json.proofs.convert.Tie as tie
 
@@ -27,7 +27,8 @@ same-length c = search needs
 returns : tie.Need-returns
 returns c =
     let u = c .before .before .before .before .uncompress in
-    convert-refused _ _ _ (u .kept .1 .0) (u .ensures) (c .enum-told .given .1)
+    let octet = c .before .before .before .before .before .before .before .shared-slice-known .given in
+    converts _ (λ i. octet i .fits) (convert-refused _ _ _ (u .kept .1 .0) (u .ensures) (c .enum-told .given .1))
 
 deliver-requires : tie.Need-deliver-requires
 deliver-requires c κs =
@@ -44,7 +45,8 @@ same-length-2 c = search needs
 returns-2 : tie.Need-returns-2
 returns-2 c =
     let u = c .before .before .before .before .before .before .before .before .before .uncompress in
-    convert-whole _ _ _ (u .kept .1 .0) (u .ensures) (c .before .before .before .before .before .outcome .given .1) (c .before .before .deliver .ensures)
+    let octet = c .before .before .before .before .before .before .before .before .before .before .before .before .shared-slice-known .given in
+    converts _ (λ i. octet i .fits) (convert-whole _ _ _ (u .kept .1 .0) (u .ensures) (c .before .before .before .before .before .outcome .given .1) (c .before .before .deliver .ensures))
 
 pub convert-spec : {M : Type 1} → statement M
 convert-spec =

@@ -26,7 +26,7 @@ enum-known-number c = search needs
 cast-put-refusal : tie.Need-cast-put-refusal
 cast-put-refusal c =
     let m = c .before .before .before .before .before .before .before .before .before .before in
-    omega (arith, place-below _ (m .args .text .now) (m .pre .2) (c .before .before .before .before .before .before .convert .ensures) (c .before .before .number .given .1) (m .pre .0) (m .pre .1))
+    omega (arith, place-below _ (m .args .text .now) (m .pre .2) (c .before .before .before .before .before .before .convert .ensures .promise) (c .before .before .number .given .1) (m .pre .0) (m .pre .1))
 
 put-refusal-requires : tie.Need-put-refusal-requires
 put-refusal-requires c κs = search needs
@@ -36,8 +36,8 @@ same-length c = search needs
 
 returns : tie.Need-returns
 returns c = (
-  text-answer _ _ (c .before .before .before .before .before .before .before .before .before .pre .2) (c .before .before .before .before .before .convert .ensures) (c .before .size .given .1),
-  text-within _ (c .before .before .before .before .before .before .before .before .before .args .text .now) (c .before .before .before .before .before .before .before .before .before .pre .2) (c .before .before .before .before .before .convert .ensures) (c .before .size .given .1),
+  text-answer _ _ (c .before .before .before .before .before .before .before .before .before .pre .2) (c .before .before .before .before .before .convert .ensures .promise) (c .before .size .given .1),
+  text-within _ (c .before .before .before .before .before .before .before .before .before .args .text .now) (c .before .before .before .before .before .before .before .before .before .pre .2) (c .before .before .before .before .before .convert .ensures .promise) (c .before .size .given .1),
 )
 
 same-length-2 : tie.Need-same-length-2
@@ -45,7 +45,7 @@ same-length-2 c = search needs
 
 returns-2 : tie.Need-returns-2
 returns-2 c = (
-  refused-answer _ _ (c .before .before .before .before .before .before .before .before .before .before .before .before .before .pre .2) (c .before .before .before .before .before .before .before .before .before .convert .ensures) (c .before .before .before .before .before .number .given .1) (c .before .before .put-refusal .ensures .0),
+  refused-answer _ _ (c .before .before .before .before .before .before .before .before .before .before .before .before .before .pre .2) (c .before .before .before .before .before .before .before .before .before .convert .ensures .promise) (c .before .before .before .before .before .number .given .1) (c .before .before .put-refusal .ensures .0),
   search needs,
 )
 

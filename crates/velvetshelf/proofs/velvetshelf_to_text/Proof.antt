@@ -1,4 +1,4 @@
-use Rattle.velvetshelf.specs.Told.{told}
+use Rattle.velvetshelf.specs.Calls.{c-converts}
 use borrow.Author.Needs.{needs}
 use Rattle.velvetshelf.proofs.velvetshelf_to_text.Statement.{statement}
 use Rattle.velvetshelf.proofs.velvetshelf_to_text.Tie as tie
@@ -16,7 +16,9 @@ same-length : tie.Need-same-length
 same-length c = search needs
 
 returns : tie.Need-returns
-returns c = search (told, needs)
+returns c =
+    let called = c .before .before .before .before .convert in
+    c-converts _ _ (called .result) (c .number-of .ensures) (c .before .value-of .ensures) (called .ensures)
 
 pub velvetshelf-to-text-spec : {M : Type 1} → statement M
 velvetshelf-to-text-spec =
