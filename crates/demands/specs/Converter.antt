@@ -6,7 +6,7 @@ use Prim.Native.Nat.{ℕ, _≤_, _<_}
 use native.Mathlib.Omega.{arith}
 use lib.Dec.{T}
 use lib.ListN.{length, drop}
-use Rattle.octets.specs.Lists.{All, Octets}
+use Rattle.octets.specs.Lists.{All}
 use Rattle.octets.specs.Codec.{streams, prefix-free}
 use Rattle.octets.specs.Answer.{Output, output, Answer, success, refusal, reported, delivered-room}
 use Rattle.octets.specs.Answer as answer
@@ -18,7 +18,7 @@ use Rattle.json.specs.Text.{text}
 use Rattle.json.specs.Bound.{text-short}
 use Rattle.json.specs.Converted.{outputOf, converted, toText, Converts}
 use Rattle.strict.specs.ReadingLaws.{Whole, text-splits, text-filled, text-visible}
-use Rattle.demands.specs.Calls.{reply, room, Length, Fits, Room, stream, addForm, formsOf}
+use Rattle.demands.specs.FrontPage.Words.{reply, room, Accepted, Length, Fits, Room, stream, addForm, formsOf}
 use Rattle.demands.specs.Delivered.{call-succeeds, call-refuses, call-leaves, call-stays, calls-same}
 
 -- ---- demand 1
@@ -54,7 +54,7 @@ refuses (accepted m) k p e = absurd (subst Written e tt)
 refuses (refused j q) k p e = ap₂ refused (ap numberIn e) (ap placeIn e)
 
 module _ (c : Call) (made : Converts c) where
-  pub stays : (drop (reported (reply c)) (c .after) ≡ drop (reported (reply c)) (c .before)) × (length (c .after) ≡ room c)
+  pub stays : drop (reported (reply c)) (c .after) ≡ drop (reported (reply c)) (c .before)
   unfolding toText
   stays = call-stays 10 (converted (c .input)) c (made .promise)
 
@@ -105,8 +105,11 @@ module _ (c : Call) (made : Converts c) where
   writes m e h = rw (made .promise .answers, made .promise .leaves, e) (delivered-room 10 (text m) (c .before) h .1)
 
 -- ---- messages within the limits are those that the converter accepts
-pub whole-accepted : (m : Message) → Whole m ↔ ((s : List ℕ) × Octets s × (decode s ≡ accepted m))
-whole-accepted m = (λ h. (form m, form-octets m (h .0), decode-form m (h .0) (h .1)), λ h. let (s, o, e) = h in decode-valid s m o e)
+pub whole-accepted : (m : Message) → Whole m → Accepted m
+whole-accepted m h = (form m, form-octets m (h .0), decode-form m (h .0) (h .1))
+
+pub accepted-whole : (m : Message) → Accepted m → Whole m
+accepted-whole m h = let (s, o, e) = h in decode-valid s m o e
 
 -- ---- every octet that is written lies in 0x20 to 0x7E
 pub visible : (c : Call) → Converts c → (n : ℕ) → reply c ≡ success n → All (λ x. (32 ≤ x) × (x ≤ 126)) (writtenBy c)
@@ -184,7 +187,7 @@ module _ (c d : Call) (p : Converts c) (q : Converts d) (m n : Message) (a : dec
   second : writtenBy d ≡ text n
   second = writes d q n b (rw b at s)
 
-  pub equal : (writtenBy c ≡ writtenBy d) ↔ (form m ≡ form n)
+  equal : (writtenBy c ≡ writtenBy d) ↔ (form m ≡ form n)
   unfolding first second
   equal = (forward, backward)
     where
@@ -200,7 +203,7 @@ module _ (c d : Call) (p : Converts c) (q : Converts d) (m n : Message) (a : dec
       backward : form m ≡ form n → writtenBy c ≡ writtenBy d
       backward e = first ∙ ap text (forms-equal m n (wm .0) (wn .0) (wm .1) (wn .1) .0 e) ∙ sym second
 
-  pub beginning : (rest : List ℕ) → writtenBy c ++ rest ≡ writtenBy d → (form m ≡ form n) × (rest ≡ [])
+  beginning : (rest : List ℕ) → writtenBy c ++ rest ≡ writtenBy d → (form m ≡ form n) × (rest ≡ [])
   unfolding first second
   beginning rest e =
       let wm = decode-valid (c .input) m (p .octets) a in
@@ -208,9 +211,10 @@ module _ (c d : Call) (p : Converts c) (q : Converts d) (m n : Message) (a : dec
       let u = prefix-free (λ m. T (valid? m)) text text-splits m n rest (wm .0) (wn .0) (ap (λ l. l ++ rest) (sym first) ∙ e ∙ second) in
       (ap form (u .0), u .1)
 
--- two calls that answered with a length: so they were given room
-pub answered : (c : Call) → Converts c → (n : ℕ) → reply c ≡ success n → (m : Message) × (decode (c .input) ≡ accepted m) × Room c
-answered c made n e = let (m, d, (h, k)) = accepts c made n .0 e in (m, d, rw d h)
+-- both, as the front page has it
+pub told-apart : (c d : Call) → Converts c → Converts d → (m n : Message) → decode (c .input) ≡ accepted m → decode (d .input) ≡ accepted n → Room c → Room d
+    → ((writtenBy c ≡ writtenBy d) ↔ (form m ≡ form n)) × ((rest : List ℕ) → writtenBy c ++ rest ≡ writtenBy d → rest ≡ [])
+told-apart c d p q m n a b r s = (equal c d p q m n a b r s, λ rest e. beginning c d p q m n a b r s rest e .1)
 
 -- two whole lists of calls: what they wrote, set end to end, is equal exactly when the uncompressed forms of their accepted messages are
 pub lists : (l m : List Call) → All Converts l → All Converts m → All Room l → All Room m → (stream l ≡ stream m) ↔ (formsOf l ≡ formsOf m)

@@ -9,14 +9,14 @@ use lib.Dec.{leb}
 use lib.ListN.{length, drop}
 use Rattle.octets.specs.Answer.{Output, output, refused, Answer, success, refusal, Left, reported, overwritten, delivered, delivered-same, delivered-stays}
 use Rattle.octets.specs.Calls.{Gives, Call, leftBy, writtenBy}
-use Rattle.demands.specs.Calls.{reply, room}
+use Rattle.demands.specs.FrontPage.Words.{reply, room}
 
 -- ---- answers and outputs are told apart
 abbrev pub first : Answer → ℕ
 first (success n) = n
 first (refusal k p) = k
 
-abbrev pub second : Answer → ℕ
+abbrev second : Answer → ℕ
 second (success n) = 0
 second (refusal k p) = p
 
@@ -27,7 +27,7 @@ Succeeds (refusal k p) = ⊥
 pub not-success : {X : Type 0} {k p n : ℕ} → refusal k p ≡ success n → X
 not-success e = absurd (subst Succeeds (sym e) tt)
 
-pub not-refusal : {X : Type 0} {k p n : ℕ} → success n ≡ refusal k p → X
+not-refusal : {X : Type 0} {k p n : ℕ} → success n ≡ refusal k p → X
 not-refusal e = absurd (subst Succeeds e tt)
 
 -- ---- an output and a buffer
@@ -85,9 +85,9 @@ module _ (noRoom : ℕ) (o : Output) (c : Call) (g : Gives (delivered noRoom o (
   pub call-leaves : (k p : ℕ) → reply c ≡ refusal k p → c .after ≡ c .before
   call-leaves k p e = g .leaves ∙ refusal-leaves noRoom (c .before) o k p (sym (g .answers) ∙ e)
 
-  -- the octets after the reported length stay, and the buffer keeps its length
-  pub call-stays : (drop (reported (reply c)) (c .after) ≡ drop (reported (reply c)) (c .before)) × (length (c .after) ≡ room c)
-  call-stays = rw (g .answers, g .leaves) (delivered-stays noRoom o (c .before))
+  -- the octets after the reported length stay
+  pub call-stays : drop (reported (reply c)) (c .after) ≡ drop (reported (reply c)) (c .before)
+  call-stays = rw (g .answers, g .leaves) (delivered-stays noRoom o (c .before) .0)
 
   -- a second call with the same output, and a buffer of the same length
   pub calls-same : (d : Call) → Gives (delivered noRoom o (d .before)) (d .answer) (d .after) → room c ≡ room d → (reply c ≡ reply d) × (writtenBy c ≡ writtenBy d)

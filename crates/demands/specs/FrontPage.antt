@@ -1,43 +1,29 @@
--- What is promised, each demand in words and in symbols; every proof is one citation. Assumes nothing.
+-- What is promised, each demand in words and in symbols; every proof is one citation. FrontPage/Words.antt has the words.
 -- `Converts c` is what `json::convert` and `velvetshelf_to_text` ensure of a call c, `Reads c` what `reader::read` and
 -- `velvetshelf_to_wire` ensure. None of the four has a `requires`: every message, text and buffer of every length gets
--- an answer, and nothing undefined happens. Calls.antt defines the words, or says where they are defined.
-use mathlib.Core.Path.{_≡_}
-use mathlib.Core.Logic.{_↔_, _⊎_}
-use mathlib.Core.Bool.{false}
-use mathlib.Core.List.{List, [], _++_, map}
-use Prim.Native.Nat.{ℕ, _≤_, _<_}
-use lib.ListN.{length, drop}
-use Rattle.octets.specs.Lists.{All, Octets, hexed}
-use Rattle.json.specs.Converted.{converted}
-use Rattle.demands.specs.Calls.{success, refusal, reported, Call, answerOf, writtenBy, Message, form, accepted}
-use Rattle.demands.specs.Calls.{refused, decode, View, within?, text, Whole, Converts, Reads, outcomeOf, reply, room}
-use Rattle.demands.specs.Calls.{Length, Room, Made, Both, Accepts, Spells, InGrammar, HasText, stream, formsOf}
+-- an answer, and nothing undefined happens. Assumes nothing.
 use Rattle.demands.specs.Examples.{Example, examples, examples-hold}
 use Rattle.demands.specs.Converter as converter
 use Rattle.demands.specs.Reader as reader
-use Rattle.demands.specs.Either as either
-use Rattle.demands.specs.Counted as counted
+use Rattle.demands.specs.Both as both
+use Words.*
+pub mod Words
 
--- From C an answer is a number n and a value v: 0 on success alone, v the length; else the refusal's number, v its place.
+-- From C an answer is a number n and a value v: n is 0 on success alone, and v is then the length.
 pub c-success : (n v k : ℕ) → (answerOf (outcomeOf n v) ≡ success k) ↔ ((n ≡ 0) × (v ≡ k))
-c-success = counted.success-is
-
-pub c-refusal : (n v k p : ℕ) → (answerOf (outcomeOf n v) ≡ refusal k p) ↔ ((0 < n) × (n ≡ k) × (v ≡ p))
-c-refusal = counted.refusal-is
+c-success = both.c-success
 
 -- Demand 1. Answer and octets written depend on the input and the buffer's length, not on what the buffer held. A refusal
 -- changes no octet of the buffer; on success the octets after the reported length stay.
 pub same : (c d : Call) → Both c d → c .input ≡ d .input → room c ≡ room d
     → (reply c ≡ reply d) × (writtenBy c ≡ writtenBy d)
-same = either.same
+same = both.same
 
 pub leaves : (c : Call) → Made c → (k p : ℕ) → reply c ≡ refusal k p → c .after ≡ c .before
-leaves = either.leaves
+leaves = both.leaves
 
-pub stays : (c : Call) → Made c
-    → (drop (reported (reply c)) (c .after) ≡ drop (reported (reply c)) (c .before)) × (length (c .after) ≡ room c)
-stays = either.stays
+pub stays : (c : Call) → Made c → drop (reported (reply c)) (c .after) ≡ drop (reported (reply c)) (c .before)
+stays = both.stays
 
 -- Demand 2. Success exactly for an accepted message, given room: its text is written and its length reported. A refusal
 -- exactly when `decode` says so, with its place; 10 exactly without room. VELVETSHELF_LONGEST_TEXT octets are enough.
@@ -55,7 +41,7 @@ module _ (c : Call) (made : Converts c) where
   pub text-room : 655750 ≤ room c → Room c
   text-room = converter.room-enough c made
 
--- Demand 2. Success exactly for the text of a message within the limits, given room: its uncompressed form is written.
+-- Demand 2. Success exactly for the text of a message that is accepted, given room: its uncompressed form is written.
 -- 20 exactly if no document of the grammar has this text; 21 if one has, but no message, even one without limits of size;
 -- 22 if a message over a limit has it; 23 without room. Nothing else. VELVETSHELF_LONGEST_MESSAGE octets are enough.
 module _ (c : Call) (made : Reads c) where
@@ -68,14 +54,16 @@ module _ (c : Call) (made : Reads c) where
   pub wire-20 : (p : ℕ) → (reply c ≡ refusal 20 p) ↔ ((InGrammar (c .input) → ⊥) × (p ≡ 0))
   wire-20 = reader.grammar c made
 
-  pub wire-21 : (p : ℕ) → (reply c ≡ refusal 21 p)
-      ↔ (InGrammar (c .input) × ((v : View) → HasText (c .input) v → ⊥) × (p ≡ 0))
+  pub wire-21 : (p : ℕ)
+      → (reply c ≡ refusal 21 p) ↔ (InGrammar (c .input) × ((v : View) → HasText (c .input) v → ⊥) × (p ≡ 0))
   wire-21 = reader.no-message c made
 
-  pub wire-22 : (p : ℕ) → (reply c ≡ refusal 22 p) ↔ ((v : View) × HasText (c .input) v × (within? v ≡ false) × (p ≡ 0))
+  pub wire-22 : (p : ℕ)
+      → (reply c ≡ refusal 22 p) ↔ ((v : View) × HasText (c .input) v × (within? v ≡ false) × (p ≡ 0))
   wire-22 = reader.limits c made
 
-  pub wire-23 : (p : ℕ) → (reply c ≡ refusal 23 p) ↔ ((m : Message) × Spells c m × (room c < length (form m)) × (p ≡ 0))
+  pub wire-23 : (p : ℕ)
+      → (reply c ≡ refusal 23 p) ↔ ((m : Message) × Spells c m × (room c < length (form m)) × (p ≡ 0))
   wire-23 = reader.no-room c made
 
   pub wire-numbers : (k p : ℕ) → reply c ≡ refusal k p → (20 ≤ k) × (k ≤ 23) × (p ≡ 0)
@@ -84,10 +72,7 @@ module _ (c : Call) (made : Reads c) where
   pub wire-room : 65535 ≤ room c → (p : ℕ) → reply c ≡ refusal 23 p → ⊥
   wire-room = reader.room-enough c made
 
--- Demand 2. The messages within the limits are those accepted. Read back, a text gives the form; written again, the text.
-pub accepted-messages : (m : Message) → Whole m ↔ ((s : List ℕ) × Octets s × (decode s ≡ accepted m))
-accepted-messages = converter.whole-accepted
-
+-- Demand 2. Both round trips: a text read back gives the uncompressed form; what the reader gave, written again, is the text.
 pub there-and-back : (c d : Call) → Converts c → Reads d → (m : Message) → Accepts c m → length (text m) ≤ room c
     → d .input ≡ writtenBy c → length (form m) ≤ room d → (reply d ≡ success (length (form m))) × (writtenBy d ≡ form m)
 there-and-back = reader.there-and-back
@@ -98,12 +83,9 @@ back-and-there = reader.back-and-there
 
 -- Demand 3. Texts are equal exactly when the uncompressed forms are; no text is a proper beginning of another; and of two
 -- whole lists of calls: what they wrote, end to end, is equal exactly when the forms of their accepted messages are.
-module _ (c d : Call) (p : Converts c) (q : Converts d) (m n : Message) (a : Accepts c m) (b : Accepts d n) (r : Room c) (s : Room d) where
-  pub text-equal : (writtenBy c ≡ writtenBy d) ↔ (form m ≡ form n)
-  text-equal = converter.equal c d p q m n a b r s
-
-  pub no-beginning : (rest : List ℕ) → writtenBy c ++ rest ≡ writtenBy d → (form m ≡ form n) × (rest ≡ [])
-  no-beginning = converter.beginning c d p q m n a b r s
+pub told-apart : (c d : Call) → Converts c → Converts d → (m n : Message) → Accepts c m → Accepts d n → Room c → Room d
+    → ((writtenBy c ≡ writtenBy d) ↔ (form m ≡ form n)) × ((rest : List ℕ) → writtenBy c ++ rest ≡ writtenBy d → rest ≡ [])
+told-apart = converter.told-apart
 
 pub lists : (l m : List Call) → All Converts l → All Converts m → All Room l → All Room m
     → (stream l ≡ stream m) ↔ (formsOf l ≡ formsOf m)

@@ -12,7 +12,7 @@ use Rattle.octets.specs.Answer.{Output, output, refused, success, refusal, repo
 use Rattle.octets.specs.Calls.{Call, writtenBy}
 use Rattle.records.specs.Message.{Message, form}
 use Rattle.records.specs.Decode.{accepted, decode}
-use Rattle.records.specs.MessageLaws.{decode-valid, decode-form}
+use Rattle.records.specs.MessageLaws.{decode-form}
 use Rattle.json.specs.View.{View, messageOf}
 use Rattle.json.specs.Limits.{within?}
 use Rattle.json.specs.Document.{Document}
@@ -22,8 +22,8 @@ use Rattle.strict.specs.Meaning.{meaning}
 use Rattle.strict.specs.MeaningLaws.{view-in}
 use Rattle.strict.specs.Parser.{parse, parse-exact, parse-ends}
 use Rattle.strict.specs.Reading.{sized, meant, parsed, reading, toWire, Reads}
-use Rattle.strict.specs.ReadingLaws.{Whole, Means, means-text, means-one, reads-text, read-only}
-use Rattle.demands.specs.Calls.{reply, room, Length, Spells, InGrammar, HasText}
+use Rattle.strict.specs.ReadingLaws.{Means, means-text, means-one, reads-text, read-only}
+use Rattle.demands.specs.FrontPage.Words.{reply, room, Length, Accepted, Spells, InGrammar, HasText}
 use Rattle.demands.specs.Delivered.{call-succeeds, call-refuses, call-leaves, call-stays, calls-same}
 use Rattle.demands.specs.Converter as converter
 
@@ -130,7 +130,7 @@ module _ (c : Call) (made : Reads c) where
       forward (inl e) = e
       forward (inr u) = let (l, o, r, j, q) = u in absurd (omega arith)
 
-  pub stays : (drop (reported (reply c)) (c .after) ≡ drop (reported (reply c)) (c .before)) × (length (c .after) ≡ room c)
+  pub stays : drop (reported (reply c)) (c .after) ≡ drop (reported (reply c)) (c .before)
   unfolding toWire
   stays = call-stays 23 (reading (c .input)) c made
 
@@ -150,14 +150,14 @@ module _ (c : Call) (made : Reads c) where
       forward e =
           let (l, o, h, k) = exact .0 e in
           let r = read-only (c .input) l o in
-          (r .message, (r .whole, r .its-text), (rw (r .its-form) h, rw (r .its-form) k))
+          (r .message, (converter.whole-accepted (r .message) (r .whole), r .its-text), (rw (r .its-form) h, rw (r .its-form) k))
 
       backward : (m : Message) × Spells c m × Length c n (form m) → reply c ≡ success n
-      backward u = let (m, (w, e), (h, k)) = u in exact .1 (form m, ap reading (sym e) ∙ reads-text m w, h, k)
+      backward u = let (m, (a, e), (h, k)) = u in exact .1 (form m, ap reading (sym e) ∙ reads-text m (converter.accepted-whole m a), h, k)
 
   pub writes : (m : Message) → Spells c m → length (form m) ≤ room c → writtenBy c ≡ form m
   unfolding toWire
-  writes m (h, e) k = rw (made .answers, made .leaves, ← e, reads-text m h) (delivered-room 23 (form m) (c .before) k .1)
+  writes m (a, e) k = rw (made .answers, made .leaves, ← e, reads-text m (converter.accepted-whole m a)) (delivered-room 23 (form m) (c .before) k .1)
 
   pub grammar : (p : ℕ) → (reply c ≡ refusal 20 p) ↔ ((InGrammar (c .input) → ⊥) × (p ≡ 0))
   grammar p = both (due 20 (omega arith) p) (at-20 p (verdict (c .input)))
@@ -178,12 +178,12 @@ module _ (c : Call) (made : Reads c) where
       forward k (inr u) f =
           let (l, o, h, j, q) = u in
           let r = read-only (c .input) l o in
-          (r .message, (r .whole, r .its-text), rw (r .its-form) h, q)
+          (r .message, (converter.whole-accepted (r .message) (r .whole), r .its-text), rw (r .its-form) h, q)
 
       backward : (m : Message) × Spells c m × (room c < length (form m)) × (p ≡ 0) → reply c ≡ refusal 23 p
       backward u =
-          let (m, (w, e), h, q) = u in
-          call-refuses 23 (reading (c .input)) c made 23 p .1 (inr (form m, ap reading (sym e) ∙ reads-text m w, h, refl, q))
+          let (m, (a, e), h, q) = u in
+          call-refuses 23 (reading (c .input)) c made 23 p .1 (inr (form m, ap reading (sym e) ∙ reads-text m (converter.accepted-whole m a), h, refl, q))
 
   -- there is no other answer
   pub numbers : (k p : ℕ) → reply c ≡ refusal k p → (20 ≤ k) × (k ≤ 23) × (p ≡ 0)
@@ -196,22 +196,23 @@ module _ (c : Call) (made : Reads c) where
 
 -- ---- a buffer of 65,535 octets holds every message
 pub room-enough : (c : Call) → Reads c → 65535 ≤ room c → (p : ℕ) → reply c ≡ refusal 23 p → ⊥
-room-enough c made h p e = let (m, (w, f), k, q) = no-room c made p .0 e in omega (arith, w .1)
+room-enough c made h p e = let (m, (a, f), k, q) = no-room c made p .0 e in omega (arith, converter.accepted-whole m a .1)
 
 -- ---- both round trips, over calls
 -- reading what the converter wrote gives the uncompressed form of its message
 pub there-and-back : (c d : Call) → Converts c → Reads d → (m : Message) → decode (c .input) ≡ accepted m → length (text m) ≤ room c
     → d .input ≡ writtenBy c → length (form m) ≤ room d → (reply d ≡ success (length (form m))) × (writtenBy d ≡ form m)
-there-and-back c d p q m e h same k =
-    let w = decode-valid (c .input) m (p .octets) e in
-    let t : text m ≡ d .input = sym (same ∙ converter.writes c p m e h) in
+there-and-back c d p q m e h s k =
+    let w : Accepted m = (c .input, p .octets, e) in
+    let t : text m ≡ d .input = sym (s ∙ converter.writes c p m e h) in
     (accepts d q (length (form m)) .1 (m, (w, t), (k, refl)), writes d q m (w, t) k)
 
 -- converting what the reader gave writes the same text
 pub back-and-there : (d c : Call) → Reads d → Converts c → (n : ℕ) → reply d ≡ success n → c .input ≡ writtenBy d → length (d .input) ≤ room c
     → (reply c ≡ success (length (d .input))) × (writtenBy c ≡ d .input)
-back-and-there d c p q n e same h =
-    let (m, (w, t), (k, j)) = accepts d p n .0 e in
-    let f : decode (c .input) ≡ accepted m = rw (same, writes d p m (w, t) k) (decode-form m (w .0) (w .1)) in
+back-and-there d c p q n e s h =
+    let (m, (a, t), (k, j)) = accepts d p n .0 e in
+    let w = converter.accepted-whole m a in
+    let f : decode (c .input) ≡ accepted m = rw (s, writes d p m (a, t) k) (decode-form m (w .0) (w .1)) in
     let r : length (text m) ≤ room c = rw t h in
     (converter.accepts c q (length (d .input)) .1 (m, f, (r, ap length (sym t))), converter.writes c q m f r ∙ t)

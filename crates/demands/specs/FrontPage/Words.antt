@@ -1,14 +1,18 @@
 -- The words of the front page. Assumes nothing.
-use mathlib.Core.Path.{_≡_}
-use mathlib.Core.Logic.{_⊎_}
-use mathlib.Core.List.{List, [], _∷_, _++_}
-use Prim.Native.Nat.{ℕ, _≤_}
+use mathlib.Core.List.{_∷_}
 use lib.Dec.{T}
-use lib.ListN.{length}
 use Rattle.json.specs.View.{view?}
 use Rattle.json.specs.Document.{Document, documentText}
 use Rattle.json.specs.Text.{viewText}
 use Rattle.strict.specs.Grammar.{DocumentIn}
+-- of the library: equality, lists, numbers
+pub use mathlib.Core.Path.{_≡_}
+pub use mathlib.Core.Logic.{_↔_, _⊎_}
+pub use mathlib.Core.Bool.{false}
+pub use mathlib.Core.List.{List, [], _++_, map}
+pub use Prim.Native.Nat.{ℕ, _≤_, _<_}
+pub use lib.ListN.{length, drop}
+pub use Rattle.octets.specs.Lists.{All, Octets, hexed}
 -- answers: success with a length, a refusal with its number and place; a call has an input, a buffer before and after, an answer
 pub use Rattle.octets.specs.Answer.{Answer, success, refusal, reported}
 pub use Rattle.octets.specs.Calls.{Call, answerOf, writtenBy}
@@ -17,11 +21,10 @@ pub use Rattle.records.specs.Message.{Message, form}
 pub use Rattle.records.specs.Decode.{Decoded, accepted, refused, decode}
 pub use Rattle.json.specs.View.{View}
 pub use Rattle.json.specs.Limits.{within?}
--- the text of a message; a message within the limits
+-- the text of a message
 pub use Rattle.json.specs.Text.{text}
-pub use Rattle.strict.specs.ReadingLaws.{Whole}
 -- what the conversions ensure of a call; an answer as C reads it
-pub use Rattle.json.specs.Converted.{Converts}
+pub use Rattle.json.specs.Converted.{converted, Converts}
 pub use Rattle.strict.specs.Reading.{Reads}
 pub use Rattle.velvetshelf.specs.Calls.{outcomeOf}
 
@@ -52,12 +55,15 @@ Made c = Converts c ⊎ Reads c
 abbrev pub Both : Call → Call → Type 0
 Both c d = (Converts c × Converts d) ⊎ (Reads c × Reads d)
 
--- the message m is accepted from the input; the input is the text of m, a message within the limits
+-- the converter accepts the input as m; the input is the text of m, and the converter accepts some octets as m
 abbrev pub Accepts : Call → Message → Type 0
 Accepts c m = decode (c .input) ≡ accepted m
 
+abbrev pub Accepted : Message → Type 0
+Accepted m = (s : List ℕ) × Octets s × (decode s ≡ accepted m)
+
 abbrev pub Spells : Call → Message → Type 0
-Spells c m = Whole m × (text m ≡ c .input)
+Spells c m = Accepted m × (text m ≡ c .input)
 
 -- the text is within the grammar
 abbrev pub InGrammar : List ℕ → Type 0
