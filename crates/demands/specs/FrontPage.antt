@@ -1,4 +1,4 @@
--- What is promised, each demand in words and in symbols; every proof is one citation. FrontPage/Words.antt has the words.
+-- What is promised, each demand in words and symbols; every proof is one citation. FrontPage/Words.antt has the words.
 -- `Converts c` is what `json::convert` and `velvetshelf_to_text` ensure of a call c, `Reads c` what `reader::read` and
 -- `velvetshelf_to_wire` ensure. None of the four has a `requires`: every message, text and buffer of every length gets
 -- an answer, and nothing undefined happens. Assumes nothing.
@@ -13,8 +13,8 @@ pub mod Words
 pub c-success : (n v k : ℕ) → (answerOf (outcomeOf n v) ≡ success k) ↔ ((n ≡ 0) × (v ≡ k))
 c-success = both.c-success
 
--- Demand 1. Answer and octets written depend on the input and the buffer's length, not on what the buffer held. A refusal
--- changes no octet of the buffer; on success the octets after the reported length stay.
+-- Demand 1. Answer and octets written depend on the input and the buffer's length, not on what the buffer held.
+-- A refusal changes no octet of the buffer; on success the octets after the reported length stay.
 pub same : (c d : Call) → Both c d → c .input ≡ d .input → room c ≡ room d
     → (reply c ≡ reply d) × (writtenBy c ≡ writtenBy d)
 same = both.same
@@ -42,8 +42,8 @@ module _ (c : Call) (made : Converts c) where
   text-room = converter.room-enough c made
 
 -- Demand 2. Success exactly for the text of a message that is accepted, given room: its uncompressed form is written.
--- 20 exactly if no document of the grammar has this text; 21 if one has, but no message, even one without limits of size;
--- 22 if a message over a limit has it; 23 without room. Nothing else. VELVETSHELF_LONGEST_MESSAGE octets are enough.
+-- 20 exactly if no document of the grammar has this text; 21 if one has, but no message, even one without limits of
+-- size; 22 if a message over a limit has it; 23 without room. Nothing else. VELVETSHELF_LONGEST_MESSAGE octets suffice.
 module _ (c : Call) (made : Reads c) where
   pub wire-success : (n : ℕ) → (reply c ≡ success n) ↔ ((m : Message) × Spells c m × Length c n (form m))
   wire-success = reader.accepts c made
@@ -72,7 +72,7 @@ module _ (c : Call) (made : Reads c) where
   pub wire-room : 65535 ≤ room c → (p : ℕ) → reply c ≡ refusal 23 p → ⊥
   wire-room = reader.room-enough c made
 
--- Demand 2. Both round trips: a text read back gives the uncompressed form; what the reader gave, written again, is the text.
+-- Demand 2. Both round trips: a text read back gives the uncompressed form, and that written again gives the text.
 pub there-and-back : (c d : Call) → Converts c → Reads d → (m : Message) → Accepts c m → length (text m) ≤ room c
     → d .input ≡ writtenBy c → length (form m) ≤ room d → (reply d ≡ success (length (form m))) × (writtenBy d ≡ form m)
 there-and-back = reader.there-and-back
@@ -81,10 +81,10 @@ pub back-and-there : (d c : Call) → Reads d → Converts c → (n : ℕ) → r
     → length (d .input) ≤ room c → (reply c ≡ success (length (d .input))) × (writtenBy c ≡ d .input)
 back-and-there = reader.back-and-there
 
--- Demand 3. Texts are equal exactly when the uncompressed forms are; no text is a proper beginning of another; and of two
--- whole lists of calls: what they wrote, end to end, is equal exactly when the forms of their accepted messages are.
+-- Demand 3. Texts are equal exactly when the uncompressed forms are; no text is a proper beginning of another; and
+-- of two whole lists of calls what they wrote, end to end, is equal exactly when the forms of what they accepted are.
 pub told-apart : (c d : Call) → Converts c → Converts d → (m n : Message) → Accepts c m → Accepts d n → Room c → Room d
-    → ((writtenBy c ≡ writtenBy d) ↔ (form m ≡ form n)) × ((rest : List ℕ) → writtenBy c ++ rest ≡ writtenBy d → rest ≡ [])
+    → ((writtenBy c ≡ writtenBy d) ↔ (form m ≡ form n)) × ((r : List ℕ) → writtenBy c ++ r ≡ writtenBy d → r ≡ [])
 told-apart = converter.told-apart
 
 pub lists : (l m : List Call) → All Converts l → All Converts m → All Room l → All Room m
