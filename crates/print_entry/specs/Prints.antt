@@ -28,6 +28,10 @@ pub readable-value : {A : Type 0} (f : A → List ℕ) (e : Entry A) → Readabl
 readable-value f (entry a next) h = record { value = a; next = next; reads = refl }
 readable-value f (bad fault) h = absurd (bad≢entry (h .reads))
 
+pub readable-first : (e : Entry (List ℕ)) (f : ℕ → Entry (List ℕ)) → Readable (and-then e f) → Readable e
+readable-first (entry t next) f h = record { value = t; next = next; reads = refl }
+readable-first (bad fault) f h = absurd (bad≢entry (h .reads))
+
 pub readable≢bad : {A : Type 0} {e : Entry A} → Readable e → {fault : _} → e ≡ bad fault → ⊥
 readable≢bad h q = absurd (bad≢entry (subst (λ x. x ≡ entry (h .value) (h .next)) q (h .reads)))
 
