@@ -28,7 +28,7 @@ leftBy c = record { answer = answerOf (c .answer); buffer = c .after }
 abbrev pub writtenBy : Call → List ℕ
 writtenBy c = written (leftBy c)
 
--- a call of `json::convert`: its message is octets, as every slice of them is, and the function's promise holds of it
+-- a call of `to_text::convert`: its message is octets, as every slice of them is, and the function's promise holds of it
 pub record Converts (c : Call) : Type 0 where
   pub octets : Octets (c .input)
   pub promise : Gives (toText (c .input) (c .before)) (c .answer) (c .after)
