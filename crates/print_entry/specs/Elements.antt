@@ -5,7 +5,6 @@ use Prim.Native.Nat.{ℕ, _+_, _-_, _%_}
 use lib.Dec.{eqb}
 use lib.ListN.{drop, getD}
 use Rattle.octets.specs.Lists.{ascii}
-use Rattle.octets.specs.Decimal.{decimal}
 use Rattle.octets.specs.Hexadecimal.{hexText}
 use Rattle.names.specs.Walk.{part}
 use Rattle.records.specs.Layout.{Laid, laid, misfit, pieces, rdataAt}
@@ -19,15 +18,12 @@ use Rattle.edns.specs.Element.{showsEdns, elementText}
 use Rattle.json.specs.ViewLaws.{entryOf}
 use Rattle.json.specs.Document.{questionText, itemText}
 use Rattle.json.specs.Text.{item}
+use Rattle.print_head.specs.Head.{numberText}
 use Rattle.print_entry.specs.Prints.{texts}
 use Rattle.print_entry.specs.declared.Element.{Element}
 use Rattle.print_entry.specs.declared.Element.the-variants as element
 
 -- ---- parts of elements
--- a member: its name with what is around it, and a number
-unfoldable pub numberText : List ℕ → ℕ → List ℕ
-numberText title n = title ++ decimal n
-
 -- NAME by the name's form, TYPE, CLASS
 unfoldable pub startText : List ℕ → ℕ → ℕ → List ℕ
 startText form type class = ascii "{\"NAME\":\"" ++ formText form ++ numberText (ascii ",\"TYPE\":") type ++ numberText (ascii ",\"CLASS\":") class

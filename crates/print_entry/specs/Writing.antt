@@ -34,14 +34,11 @@ use Rattle.records.specs.declared.Stepped.{Stepped}
 use Rattle.spelling.specs.Spelling.{labelText, nameText, signed, signedText}
 use Rattle.spelling.specs.Form.{labels, formText, within-label}
 use Rattle.json.specs.Document.{questionText}
+use Rattle.print_head.specs.Head.{numberText}
 use Rattle.print_entry.specs.Prints.{texts, Readable, readable-value, readable≢bad, Prints, prints-text, Rest, rest-all, rest-same, rest-text, rest-end}
-use Rattle.print_entry.specs.Elements.{numberText, startText, fieldsText, hexed, rdataText, piecesText, questionTextAt}
+use Rattle.print_entry.specs.Elements.{startText, fieldsText, hexed, rdataText, piecesText, questionTextAt}
 
 -- ---- the members in front
-pub wrote-number : (title : List ℕ) (n : ℕ) {b b₁ b₂ : List ℕ} {at r₁ r₂ : ℕ} → Wrote b at title b₁ r₁ → Wrote b₁ r₁ (decimal n) b₂ r₂ → Wrote b at (numberText title n) b₂ r₂
-unfolding numberText
-wrote-number title n p q = then p q
-
 pub wrote-start : (form : List ℕ) (type class : ℕ) {b b₁ b₂ b₃ b₄ : List ℕ} {at r₁ r₂ r₃ r₄ : ℕ} → Wrote b at (ascii "{\"NAME\":\"") b₁ r₁ → Wrote b₁ r₁ (formText form) b₂ r₂
     → Wrote b₂ r₂ (numberText (ascii ",\"TYPE\":") type) b₃ r₃ → Wrote b₃ r₃ (numberText (ascii ",\"CLASS\":") class) b₄ r₄ → Wrote b at (startText form type class) b₄ r₄
 unfolding startText

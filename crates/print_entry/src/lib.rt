@@ -4,14 +4,14 @@ ghost use Prim.Native.Nat.{_+_, _*_, _^_, _<_, _≤_};
 ghost use lib.ListN.{length};
 ghost use Rattle.octets.specs.Overlay.{Wrote};
 ghost use Rattle.print_entry.specs.Prints.{Readable, Prints, Within};
-ghost use Rattle.print_entry.specs.Elements.{numberText, startText, fieldsText, rdataText, ordinaryText, rcodeOf, shows?, shownText, questionTextAt, recordTextAt, textAt};
+ghost use Rattle.print_entry.specs.Elements.{startText, fieldsText, rdataText, ordinaryText, rcodeOf, shows?, shownText, questionTextAt, recordTextAt, textAt};
 use edns::is_edns;
 use edns::put_edns;
 use octets::put;
 use octets::put_all;
-use octets::put_decimal;
 use octets::put_hex;
 use octets::wide;
+use print_head::put_number;
 use records::Head;
 use records::Question;
 use records::Record;
@@ -33,16 +33,6 @@ pub struct Position {
 pub enum Element {
     Question,
     Record(bool),
-}
-
-// Writes a member: its name with what is around it, and a number.
-pub fn put_number(out: &mut [u8], to: usize, title: &[u8], n: u32) -> usize
-    requires { ⌜ to + length (now title) < 2 ^ 39 ⌝ }
-    ensures { λ r. ⌜ Wrote (now (out .entry)) to (numberText (now (title .entry)) n) (now (out .exit)) r ⌝ }
-    ensures { λ r. ⌜ r ≤ to + length (now (title .entry)) + 10 ⌝ }
-{
-    let next = put_all(out, to, title);
-    put_decimal(out, next, n)
 }
 
 // Writes the members that a question and a record begin with: NAME by the name's form, TYPE, CLASS.

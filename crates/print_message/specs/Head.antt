@@ -1,7 +1,7 @@
 -- The head of a message's text by the message's first 12 octets, in the parts that the writers write. Assumes nothing.
 use mathlib.Core.Path.{_≡_, refl, ap}
-use mathlib.Core.List.{List, [], _∷_, _++_, append-assoc}
-use Prim.Native.Nat.{ℕ, _/_, _%_}
+use mathlib.Core.List.{List, [], _∷_, _++_}
+use Prim.Native.Nat.{ℕ}
 use lib.ListN.{getD}
 use Rattle.octets.specs.Lists.{ascii}
 use Rattle.octets.specs.Fields.{twoAt}
@@ -9,7 +9,7 @@ use Rattle.octets.specs.Decimal.{decimal}
 use Rattle.octets.specs.Overlay.{Wrote, then}
 use Rattle.records.specs.Decode.{headerOf}
 use Rattle.json.specs.Document.{Document, headText}
-use Rattle.print_entry.specs.Elements.{numberText}
+use Rattle.print_head.specs.Head.{numberText, withHigh, withLow, highText, lowText, high-after, low-after}
 
 -- a document with the header and the counts that the octets state
 abbrev pub headOf : List ℕ → Document
@@ -33,27 +33,8 @@ pub head-at : (s : List ℕ) (d : Document) → d .header ≡ headerOf s → d .
 unfolding headText headAt
 head-at s d h q a n r = rw (h, q, a, n, r)
 
--- ---- its parts: a text with the members of a part after it
--- of the octet of QR, Opcode, AA, TC and RD
-unfoldable pub withHigh : List ℕ → ℕ → List ℕ
-withHigh l x =
-    l
-    ++ ascii ",\"QR\":" ++ decimal (x / 128)
-    ++ ascii ",\"Opcode\":" ++ decimal (x / 8 % 16)
-    ++ ascii ",\"AA\":" ++ decimal (x / 4 % 2)
-    ++ ascii ",\"TC\":" ++ decimal (x / 2 % 2)
-    ++ ascii ",\"RD\":" ++ decimal (x % 2)
-
--- of the octet of RA, Z, AD, CD and RCODE
-unfoldable pub withLow : List ℕ → ℕ → List ℕ
-withLow l x =
-    l
-    ++ ascii ",\"RA\":" ++ decimal (x / 128)
-    ++ ascii ",\"AD\":" ++ decimal (x / 32 % 2)
-    ++ ascii ",\"CD\":" ++ decimal (x / 16 % 2)
-    ++ ascii ",\"RCODE\":" ++ decimal (x % 16)
-
--- of the counts
+-- ---- its parts
+-- a text with the members of the counts after it
 unfoldable pub withCounts : List ℕ → List ℕ → List ℕ
 withCounts l s =
     l
@@ -62,16 +43,9 @@ withCounts l s =
     ++ ascii ",\"NSCOUNT\":" ++ decimal (twoAt s 8)
     ++ ascii ",\"ARCOUNT\":" ++ decimal (twoAt s 10)
 
--- the members of a part do not depend on the text before it
-high-after : (l : List ℕ) (x : ℕ) → withHigh l x ≡ l ++ withHigh [] x
-unfolding withHigh
-high-after [] x = refl
-high-after (y ∷ l) x = ap (λ m. y ∷ m) (high-after l x)
-
-low-after : (l : List ℕ) (x : ℕ) → withLow l x ≡ l ++ withLow [] x
-unfolding withLow
-low-after [] x = refl
-low-after (y ∷ l) x = ap (λ m. y ∷ m) (low-after l x)
+-- the members alone
+abbrev pub countsText : List ℕ → List ℕ
+countsText s = withCounts [] s
 
 counts-after : (l s : List ℕ) → withCounts l s ≡ l ++ withCounts [] s
 unfolding withCounts
@@ -84,14 +58,8 @@ unfolding headText headAt headerOf withHigh withLow withCounts
 head-parts s = refl
 
 -- ---- writing it
--- a member after a text
-pub number-after : (title : List ℕ) {n m : ℕ} {xs b b₁ b₂ : List ℕ} {at r₁ r₂ : ℕ} → n ≡ m → Wrote b at xs b₁ r₁ → Wrote b₁ r₁ (numberText title n) b₂ r₂ → Wrote b at (xs ++ title ++ decimal m) b₂ r₂
-unfolding numberText
-number-after title {n} {m} {xs} e p q = rw (← e, append-assoc xs title (decimal n)) (then p q)
-
--- the head
 pub wrote-head : (s : List ℕ) {n : ℕ} {b b₁ b₂ b₃ b₄ : List ℕ} {at r₁ r₂ r₃ r₄ : ℕ} → n ≡ twoAt s 0
-    → Wrote b at (numberText (ascii "{\"ID\":") n) b₁ r₁ → Wrote b₁ r₁ (withHigh [] (getD s 2 0)) b₂ r₂ → Wrote b₂ r₂ (withLow [] (getD s 3 0)) b₃ r₃ → Wrote b₃ r₃ (withCounts [] s) b₄ r₄
+    → Wrote b at (numberText (ascii "{\"ID\":") n) b₁ r₁ → Wrote b₁ r₁ (highText (getD s 2 0)) b₂ r₂ → Wrote b₂ r₂ (lowText (getD s 3 0)) b₃ r₃ → Wrote b₃ r₃ (countsText s) b₄ r₄
     → Wrote b at (headAt s) b₄ r₄
 unfolding numberText
 wrote-head s e t u v w = rw (head-parts s, counts-after, low-after, high-after, ← e) (then (then (then t u) v) w)

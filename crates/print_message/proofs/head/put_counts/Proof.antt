@@ -2,7 +2,8 @@
 -- Assumes nothing.
 use borrow.Author.Needs.{needs}
 use Rattle.octets.specs.Overlay.{nothing}
-use Rattle.print_message.specs.Head.{withCounts, number-after}
+use Rattle.print_head.specs.Head.{number-after}
+use Rattle.print_message.specs.Head.{withCounts}
 use Rattle.print_message.proofs.head.put_counts.Statement.{statement}
 use Rattle.print_message.proofs.head.put_counts.Tie as tie
 

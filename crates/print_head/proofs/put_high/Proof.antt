@@ -1,11 +1,11 @@
--- `print_message::head::put_low` meets its contract: four members.
+-- `print_head::put_high` meets its contract: five members.
 -- Assumes nothing.
 use borrow.Author.Needs.{needs}
 use mathlib.Core.Path.{refl}
 use Rattle.octets.specs.Overlay.{nothing}
-use Rattle.print_message.specs.Head.{withLow, number-after}
-use Rattle.print_message.proofs.head.put_low.Statement.{statement}
-use Rattle.print_message.proofs.head.put_low.Tie as tie
+use Rattle.print_head.specs.Head.{withHigh, number-after}
+use Rattle.print_head.proofs.put_high.Statement.{statement}
+use Rattle.print_head.proofs.put_high.Tie as tie
 
 slice-aggregate-put-number : tie.Need-slice-aggregate-put-number
 slice-aggregate-put-number c = search needs
@@ -43,30 +43,42 @@ cast-put-number-4 c = search needs
 put-number-requires-4 : tie.Need-put-number-requires-4
 put-number-requires-4 c κs = search needs
 
+slice-aggregate-put-number-5 : tie.Need-slice-aggregate-put-number-5
+slice-aggregate-put-number-5 c = search needs
+
+cast-put-number-5 : tie.Need-cast-put-number-5
+cast-put-number-5 c = search needs
+
+put-number-requires-5 : tie.Need-put-number-requires-5
+put-number-requires-5 c κs = search needs
+
 same-length : tie.Need-same-length
 same-length c = search needs
 
 returns : tie.Need-returns
-unfolding withLow
+unfolding withHigh
 returns c =
-    let rcode = c .before .before in
-    let cd = rcode .before .before .before .before .before in
-    let ad = cd .before .before .before .before .before in
-    let ra = ad .before .before .before .before .before in (
+    let rd = c .before .before in
+    let tc = rd .before .before .before .before .before in
+    let aa = tc .before .before .before .before .before in
+    let opcode = aa .before .before .before .before .before in
+    let qr = opcode .before .before .before .before .before in (
       number-after _ refl
           (number-after _ refl
           (number-after _ refl
           (number-after _ refl
+          (number-after _ refl
           (nothing _ _)
-          (ra .put-number .ensures .0))
-          (ad .put-number2 .ensures .0))
-          (cd .put-number3 .ensures .0))
-          (rcode .put-number4 .ensures .0),
+          (qr .put-number .ensures .0))
+          (opcode .put-number2 .ensures .0))
+          (aa .put-number3 .ensures .0))
+          (tc .put-number4 .ensures .0))
+          (rd .put-number5 .ensures .0),
       search needs,
     )
 
-pub put-low-spec : {M : Type 1} → statement M
-put-low-spec =
+pub put-high-spec : {M : Type 1} → statement M
+put-high-spec =
     tie.close
     (tie.spec
     slice-aggregate-put-number
@@ -81,5 +93,8 @@ put-low-spec =
     slice-aggregate-put-number-4
     cast-put-number-4
     put-number-requires-4
+    slice-aggregate-put-number-5
+    cast-put-number-5
+    put-number-requires-5
     same-length
     returns)

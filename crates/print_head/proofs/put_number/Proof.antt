@@ -1,9 +1,9 @@
--- `print_entry::put_number` meets its contract: the name, and the number.
+-- `print_head::put_number` meets its contract: the name, and the number.
 -- Assumes nothing.
 use borrow.Author.Needs.{needs}
-use Rattle.print_entry.specs.Writing.{wrote-number}
-use Rattle.print_entry.proofs.put_number.Statement.{statement}
-use Rattle.print_entry.proofs.put_number.Tie as tie
+use Rattle.print_head.specs.Head.{wrote-number}
+use Rattle.print_head.proofs.put_number.Statement.{statement}
+use Rattle.print_head.proofs.put_number.Tie as tie
 
 put-all-requires : tie.Need-put-all-requires
 put-all-requires c κs = search needs
