@@ -122,7 +122,7 @@ fn put_message(message: &[u8], text: &mut [u8]) -> usize
     ensures { λ r. ⌜ Wrote (now (text .entry)) 0 (shown asText 65536 10 (converted (now (message .entry)))) (now (text .exit)) r ⌝ }
     ensures { λ r. ⌜ r ≤ 65536 ⌝ }
 {
-    match json::convert(message, &mut text[0..65536]) {
+    match to_text::convert(message, &mut text[0..65536]) {
         Outcome::Length(size) => size,
         Outcome::Refused(number, place) => put_refusal(text, 0, number, place as u32),
     }

@@ -1,0 +1,55 @@
+-- `print_entry::is_element` meets its contract: each test in order.
+-- Assumes nothing.
+use Prim.Native.Nat.{_+_, _-_}
+use native.Mathlib.Omega.{arith}
+use borrow.Author.Needs.{needs}
+use lib.ListN.{drop}
+use Rattle.print_entry.specs.Showing.{shows-many, shows-other, shows-lone}
+use Rattle.print_entry.specs.Writing.{part-short}
+use Rattle.print_entry.proofs.is_element.Statement.{statement}
+use Rattle.print_entry.proofs.is_element.Tie as tie
+
+returns : tie.Need-returns
+returns c = search (shows-many, needs)
+
+returns-2 : tie.Need-returns-2
+returns-2 c = search (shows-other, needs)
+
+rcode-of-requires : tie.Need-rcode-of-requires
+rcode-of-requires c κs = search needs
+
+add-end : tie.Need-add-end
+add-end c = search needs
+
+sub-is-edns : tie.Need-sub-is-edns
+sub-is-edns c = search needs
+
+part-is-edns-start : tie.Need-part-is-edns-start
+part-is-edns-start c = search needs
+
+part-is-edns-end : tie.Need-part-is-edns-end
+part-is-edns-end c = search needs
+
+is-edns-requires : tie.Need-is-edns-requires
+is-edns-requires c κs =
+    let m = c .before .before .before .before in
+    let a = m .before .before .before .before in
+    let h = a .args .head in
+    (search needs, omega (arith, part-short (h .rdata + h .length - h .rdata) (drop (h .rdata) (a .args .s .now)) 65535 (omega (arith, a .pre))))
+
+returns-3 : tie.Need-returns-3
+returns-3 c = search (shows-lone, needs)
+
+pub is-element-spec : {M : Type 1} → statement M
+is-element-spec =
+    tie.close
+    (tie.spec
+    returns
+    returns-2
+    rcode-of-requires
+    add-end
+    sub-is-edns
+    part-is-edns-start
+    part-is-edns-end
+    is-edns-requires
+    returns-3)

@@ -1,0 +1,82 @@
+-- The elements of a message's text by the octets of the message: questions and records at their offsets. Assumes nothing.
+use mathlib.Core.Bool.{Bool, true, _&&_, cond}
+use mathlib.Core.List.{List, _++_}
+use Prim.Native.Nat.{ℕ, _+_, _-_, _%_}
+use lib.Dec.{eqb}
+use lib.ListN.{drop, getD}
+use Rattle.octets.specs.Lists.{ascii}
+use Rattle.octets.specs.Hexadecimal.{hexText}
+use Rattle.names.specs.Walk.{part}
+use Rattle.records.specs.Layout.{Laid, laid, misfit, pieces, rdataAt}
+use Rattle.records.specs.Message.{Record}
+use Rattle.records.specs.Read.{Entry, entry, bad, questionAt, recordAt}
+use Rattle.records.specs.Parts.{layoutIn}
+use Rattle.records.specs.declared.Head.{Head}
+use Rattle.spelling.specs.Spelling.{signed, signedText}
+use Rattle.spelling.specs.Form.{formText}
+use Rattle.edns.specs.Element.{showsEdns, elementText}
+use Rattle.json.specs.ViewLaws.{entryOf}
+use Rattle.json.specs.Document.{questionText, itemText}
+use Rattle.json.specs.Text.{item}
+use Rattle.print_head.specs.Head.{numberText}
+use Rattle.print_entry.specs.Prints.{texts}
+use Rattle.print_entry.specs.declared.Element.{Element}
+use Rattle.print_entry.specs.declared.Element.the-variants as element
+
+-- ---- parts of elements
+-- NAME by the name's form, TYPE, CLASS
+unfoldable pub startText : List ℕ → ℕ → ℕ → List ℕ
+startText form type class = ascii "{\"NAME\":\"" ++ formText form ++ numberText (ascii ",\"TYPE\":") type ++ numberText (ascii ",\"CLASS\":") class
+
+-- a record up to the quote before its RDATA
+unfoldable pub fieldsText : List ℕ → ℕ → ℕ → ℕ → List ℕ
+fieldsText form type class ttl = startText form type class ++ ascii ",\"TTL\":" ++ signedText (signed ttl) ++ ascii ",\"RDATAHEX\":\""
+
+-- RDATA that ends at an offset
+abbrev pub hexed : ℕ → Laid → Entry (List ℕ)
+hexed end (laid d) = entry (hexText d) end
+hexed end (misfit fault) = bad fault
+
+unfoldable pub rdataText : List ℕ → ℕ → ℕ → ℕ → Entry (List ℕ)
+rdataText s type start size = hexed (start + size) (rdataAt true s type start size)
+
+-- RDATA from the i-th piece of its layout on
+unfoldable pub piecesText : List ℕ → ℕ → ℕ → ℕ → ℕ → ℕ → Entry (List ℕ)
+piecesText s type start size i at = hexed (start + size) (pieces true (drop i (layoutIn type size)) s start (start + size) at)
+
+-- a record as it is, by its owner's form and what the code reads of it before RDATA
+unfoldable pub ordinaryText : List ℕ → List ℕ → Head → Entry (List ℕ)
+ordinaryText s form h =
+    texts (λ t. fieldsText form (h .kind) (h .class) (h .ttl) ++ t ++ ascii "}") (rdataText s (h .kind) (h .rdata) (h .length))
+
+-- the header's RCODE
+abbrev pub rcodeOf : List ℕ → ℕ
+rcodeOf s = getD s 3 0 % 16
+
+-- RDATA as it stands
+abbrev pub rdataOf : List ℕ → Head → List ℕ
+rdataOf s h = part s (h .rdata) (h .rdata + h .length - h .rdata)
+
+-- it shows as an EDNS element
+unfoldable pub shows? : List ℕ → Head → Bool → Bool
+shows? s h lone = lone && eqb (h .kind) 41 && showsEdns (eqb (h .size) 1) (h .ttl) (rcodeOf s) (rdataOf s h)
+
+-- a record by its owner's form and what the code reads of it before RDATA: an EDNS element, or as it is
+unfoldable pub shownText : Bool → List ℕ → List ℕ → Head → Entry (List ℕ)
+shownText lone s form h =
+    cond (shows? s h lone) (entry (elementText (h .class) (h .ttl) (rcodeOf s) (rdataOf s h)) (h .rdata + h .length)) (ordinaryText s form h)
+
+-- ---- elements
+unfoldable pub questionTextAt : List ℕ → ℕ → Entry (List ℕ)
+questionTextAt s at = texts questionText (questionAt s at)
+
+-- a record's element, by the header's RCODE and whether one of TYPE 41 is the only one of the additional section
+unfoldable pub entryText : ℕ → Bool → Record → List ℕ
+entryText rcode lone r = itemText (item rcode (entryOf rcode lone r))
+
+unfoldable pub recordTextAt : Bool → List ℕ → ℕ → Entry (List ℕ)
+recordTextAt lone s at = texts (entryText (rcodeOf s) lone) (recordAt s at)
+
+unfoldable pub textAt : Element → List ℕ → ℕ → Entry (List ℕ)
+textAt element.Question s at = questionTextAt s at
+textAt (element.Record lone) s at = recordTextAt lone s at

@@ -1,0 +1,87 @@
+-- What a writer of entries promises, and how one writer follows another. Assumes nothing.
+use mathlib.Core.Path.{_≡_, refl, ap, subst}
+use mathlib.Core.List.{List, _++_}
+use Prim.Native.Nat.{ℕ, _+_, _*_, _≤_, _<_}
+use Rattle.octets.specs.Overlay.{Wrote, then}
+use Rattle.records.specs.Read.{Entry, entry, bad}
+use Rattle.records.specs.RecordLaws.{bad≢entry}
+use Rattle.print_entry.specs.declared.Position.{Position}
+
+-- ---- entries with texts
+-- the text of what was read
+abbrev pub texts : {A : Type 0} → (A → List ℕ) → Entry A → Entry (List ℕ)
+texts f (entry a next) = entry (f a) next
+texts f (bad fault) = bad fault
+
+-- a text, then the text of what is read from the offset after it
+abbrev pub and-then : Entry (List ℕ) → (ℕ → Entry (List ℕ)) → Entry (List ℕ)
+and-then (entry t next) f = texts (λ u. t ++ u) (f next)
+and-then (bad fault) f = bad fault
+
+-- it has no fault
+pub record Readable {A : Type 0} (e : Entry A) : Type 0 where
+  pub value : A
+  pub next : ℕ
+  pub reads : e ≡ entry value next
+
+pub readable-value : {A : Type 0} (f : A → List ℕ) (e : Entry A) → Readable (texts f e) → Readable e
+readable-value f (entry a next) h = record { value = a; next = next; reads = refl }
+readable-value f (bad fault) h = absurd (bad≢entry (h .reads))
+
+pub readable-first : (e : Entry (List ℕ)) (f : ℕ → Entry (List ℕ)) → Readable (and-then e f) → Readable e
+readable-first (entry t next) f h = record { value = t; next = next; reads = refl }
+readable-first (bad fault) f h = absurd (bad≢entry (h .reads))
+
+pub readable≢bad : {A : Type 0} {e : Entry A} → Readable e → {fault : _} → e ≡ bad fault → ⊥
+readable≢bad h q = absurd (bad≢entry (subst (λ x. x ≡ entry (h .value) (h .next)) q (h .reads)))
+
+-- ---- what was written
+-- The text of an entry, which has no fault, was written at a place of the buffer b: the offset after the entry and the next place.
+pub record Prints (e : Entry (List ℕ)) (b : List ℕ) (to : ℕ) (b′ : List ℕ) (at next : ℕ) : Type 0 where
+  pub text : List ℕ
+  pub reads : e ≡ entry text at
+  pub wrote : Wrote b to text b′ next
+
+module _ {b b₁ : List ℕ} {to n₁ : ℕ} {t : List ℕ} (w : Wrote b to t b₁ n₁) where
+  pub prints-text : {at : ℕ} → Prints (entry t at) b to b₁ at n₁
+  prints-text = record { text = t; reads = refl; wrote = w }
+
+  module _ {e : Entry (List ℕ)} {b₂ : List ℕ} {at n₂ : ℕ} (p : Prints e b₁ n₁ b₂ at n₂) where
+    -- after a text
+    pub prints-after : Prints (texts (λ u. t ++ u) e) b to b₂ at n₂
+    prints-after = record { text = t ++ p .text; reads = ap (texts (λ u. t ++ u)) (p .reads); wrote = then w (p .wrote) }
+
+    -- between two texts
+    pub prints-between : {v b₃ : List ℕ} {n₃ : ℕ} → Wrote b₂ n₂ v b₃ n₃ → Prints (texts (λ u. t ++ u ++ v) e) b to b₃ at n₃
+    prints-between {v} q = record { text = t ++ p .text ++ v; reads = ap (texts (λ u. t ++ u ++ v)) (p .reads); wrote = then (then w (p .wrote)) q }
+
+-- ---- what is left to write
+-- From the buffer b and the place `next` the rest is left: it has no fault, and to write it is to write the whole from the start.
+pub record Rest (whole : Entry (List ℕ)) (b₀ : List ℕ) (to : ℕ) (rest : Entry (List ℕ)) (b : List ℕ) (next : ℕ) : Type 0 where
+  pub readable : Readable rest
+  pub goes : (b′ : List ℕ) (at n : ℕ) → Prints rest b next b′ at n → Prints whole b₀ to b′ at n
+
+pub rest-all : {e : Entry (List ℕ)} {b : List ℕ} {to : ℕ} → Readable e → Rest e b to e b to
+rest-all h = record { readable = h; goes = λ b′ at n p. p }
+
+module _ {whole : Entry (List ℕ)} {b₀ b : List ℕ} {to next : ℕ} where
+  -- by an equal rest
+  pub rest-same : {e f : Entry (List ℕ)} → e ≡ f → Rest whole b₀ to e b next → Rest whole b₀ to f b next
+  rest-same q r = subst (λ (x : Entry (List ℕ)). Rest whole b₀ to x b next) q r
+
+  -- a text of it is written
+  pub rest-text : {e : Entry (List ℕ)} {t b₁ : List ℕ} {n : ℕ} → Rest whole b₀ to (texts (λ u. t ++ u) e) b next → Wrote b next t b₁ n → Rest whole b₀ to e b₁ n
+  rest-text {e} {t} r w = record { readable = readable-value (λ u. t ++ u) e (r .readable); goes = λ b′ at n p. r .goes b′ at n (prints-after w p) }
+
+  -- an entry of it is written
+  pub rest-then : {e : Entry (List ℕ)} (f : ℕ → Entry (List ℕ)) {b₁ : List ℕ} {at n : ℕ} → Rest whole b₀ to (and-then e f) b next → Prints e b next b₁ at n → Rest whole b₀ to (f at) b₁ n
+  rest-then {e} f r p = rest-text (rest-same (ap (λ (x : Entry (List ℕ)). and-then x f) (p .reads)) r) (p .wrote)
+
+  -- its last text is written
+  pub rest-end : {t b₁ : List ℕ} {at n : ℕ} → Rest whole b₀ to (entry t at) b next → Wrote b next t b₁ n → Prints whole b₀ to b₁ at n
+  rest-end r w = r .goes _ _ _ (prints-text w)
+
+-- ---- bounds
+-- an element from an offset on ends after it, within the message; an octet of it has less than 4,096 octets of text
+abbrev pub Within : Position → ℕ → ℕ → ℕ → Type 0
+Within p at to end = (at < p .at) × (p .at ≤ end) × (p .to + 4096 * at < to + 4096 * p .at)

@@ -1,0 +1,197 @@
+-- The ways of the writers of elements. Assumes nothing.
+use mathlib.Core.Path.{_≡_, refl, sym, ap, _∙_, subst}
+use mathlib.Core.Bool.{Bool, true, false, cond}
+use mathlib.Core.Option.{Option, none, some}
+use mathlib.Core.List.{List, [], _∷_, _++_, append-assoc}
+use Prim.Native.Nat.{ℕ, _+_, _-_, _*_, _≤_, _<_}
+use native.Mathlib.Omega.{arith}
+use borrow.Author.Tests.{ne-eqb}
+use lib.Dec.{ltb}
+use lib.ListN.{length, take, drop, length-take}
+use lib.Seq.{take-append-seam, drop-append-seam}
+use Rattle.octets.specs.Lists.{ascii, each, ended}
+use Rattle.octets.specs.Fields.{twoAt, fourAt}
+use Rattle.octets.specs.Overlay.{Wrote, then}
+use Rattle.octets.specs.Decimal.{decimal}
+use Rattle.octets.specs.Hexadecimal.{hexOctet, hexText}
+use Rattle.records.specs.Told.{form-part, asked, tells, pieces-next}
+use Rattle.names.specs.Name.{Name, nameForm, cut, Fault}
+use Rattle.names.specs.Walk.{part, message, Named, named, faulty, nameAt}
+use Rattle.names.specs.NameLaws.{Sized, read-sized, named-name, faulty≢named}
+use Rattle.names.specs.declared.Fault.{Fault as FaultRead}
+use Rattle.records.specs.Layout.{Piece, laid, misfit, before, pieces}
+use Rattle.records.specs.Layout as layout
+use Rattle.records.specs.Message.{Question}
+use Rattle.records.specs.Read.{Entry, entry, bad, with-name, unfit, questionAt}
+use Rattle.records.specs.RecordLaws.{bad≢entry, entry-value}
+use Rattle.records.specs.Parts.{fitted, begun, begunAt, question-begun, HeadOf, headAt, headed, layoutIn, rdata-pieces, stepAt}
+use Rattle.records.specs.Answer.{padded, askedOf, questionRead, stepRead}
+use Rattle.records.specs.declared.Asked.{Asked}
+use Rattle.records.specs.declared.Question.the-variants as question
+use Rattle.records.specs.declared.QuestionRead.{QuestionRead}
+use Rattle.records.specs.declared.Step.the-variants as step
+use Rattle.records.specs.declared.Stepped.{Stepped}
+use Rattle.spelling.specs.Spelling.{labelText, nameText, signed, signedText}
+use Rattle.spelling.specs.Form.{labels, formText, within-label}
+use Rattle.json.specs.Document.{questionText}
+use Rattle.print_head.specs.Head.{numberText}
+use Rattle.print_entry.specs.Prints.{texts, Readable, readable-value, readable≢bad, Prints, prints-text, Rest, rest-all, rest-same, rest-text, rest-end}
+use Rattle.print_entry.specs.Elements.{startText, fieldsText, hexed, rdataText, piecesText, questionTextAt}
+
+-- ---- the members in front
+pub wrote-start : (form : List ℕ) (type class : ℕ) {b b₁ b₂ b₃ b₄ : List ℕ} {at r₁ r₂ r₃ r₄ : ℕ} → Wrote b at (ascii "{\"NAME\":\"") b₁ r₁ → Wrote b₁ r₁ (formText form) b₂ r₂
+    → Wrote b₂ r₂ (numberText (ascii ",\"TYPE\":") type) b₃ r₃ → Wrote b₃ r₃ (numberText (ascii ",\"CLASS\":") class) b₄ r₄ → Wrote b at (startText form type class) b₄ r₄
+unfolding startText
+wrote-start form type class p q u v = then (then (then p q) u) v
+
+pub wrote-fields : (form : List ℕ) (type class ttl : ℕ) {b b₁ b₂ b₃ b₄ : List ℕ} {at r₁ r₂ r₃ r₄ : ℕ} → Wrote b at (startText form type class) b₁ r₁ → Wrote b₁ r₁ (ascii ",\"TTL\":") b₂ r₂
+    → Wrote b₂ r₂ (signedText (signed ttl)) b₃ r₃ → Wrote b₃ r₃ (ascii ",\"RDATAHEX\":\"") b₄ r₄ → Wrote b at (fieldsText form type class ttl) b₄ r₄
+unfolding fieldsText
+wrote-fields form type class ttl p q u v = then (then (then p q) u) v
+
+-- ---- names
+-- the text of a name's form, from a length octet on, and the whole
+name-labels : (n : Name) → Sized n → labels (nameForm n) ≡ ended labelText 34 n
+unfolding labels nameForm
+name-labels [] h = refl
+name-labels (l ∷ n) h =
+    let some = h .0 in
+    rw (ne-eqb (length l) 0 (omega arith), within-label, take-append-seam, drop-append-seam, name-labels n (h .2))
+
+pub sized-text : (n : Name) → Sized n → formText (nameForm n) ≡ nameText n
+unfolding formText nameText labels nameForm
+sized-text [] h = refl
+sized-text (l ∷ n) h =
+    let some = h .0 in
+    let e = ne-eqb (length l) 0 (omega arith) in
+    rw e (rw e at (name-labels (l ∷ n) h))
+
+-- a name that is read has the sizes of one
+begun-sized : (s widths : List ℕ) (at : ℕ) (n : Name) (next : ℕ) → begunAt s at widths ≡ named n next → Sized n
+unfolding begunAt
+begun-sized s widths at n next e = go (nameAt s message at) refl e
+  where
+    fit : (m : Name) (i : ℕ) (o : Option ℕ) → fitted m i o ≡ named n next → m ≡ n
+    fit m i none q = named-name q
+    fit m i (some x) q = absurd (faulty≢named q)
+
+    go : (w : Named) → nameAt s message at ≡ w → begun s widths w ≡ named n next → Sized n
+    go (named m i) p q = subst Sized (fit m i (unfit s i widths) q) (read-sized s message at at m i (omega arith) p .0)
+    go (faulty f) p q = absurd (faulty≢named q)
+
+-- so has what begins with one
+begun-entry : {A : Type 0} (nameIn : A → Name) (s widths : List ℕ) (at : ℕ) (f : Name → ℕ → Entry A) → ((n : Name) (i : ℕ) (a : A) (next : ℕ) → f n i ≡ entry a next → nameIn a ≡ n)
+    → (a : A) (next : ℕ) → with-name (begunAt s at widths) f ≡ entry a next → Sized (nameIn a)
+begun-entry nameIn s widths at f same a next e = go (begunAt s at widths) refl e
+  where
+    go : (w : Named) → begunAt s at widths ≡ w → with-name w f ≡ entry a next → Sized (nameIn a)
+    go (named n i) p q = subst Sized (sym (same n i a next q)) (begun-sized s widths at n i p)
+    go (faulty fault) p q = absurd (bad≢entry q)
+
+question-sized : (s : List ℕ) (at : ℕ) (q : Question) (next : ℕ) → questionAt s at ≡ entry q next → Sized (q .name)
+question-sized s at q next e =
+    begun-entry (λ (q : Question). q .name) s (2 ∷ 2 ∷ []) at _ (λ n i a j p. sym (ap (λ (q : Question). q .name) (entry-value p))) q next (sym (question-begun s at) ∙ e)
+
+pub head-sized : (s : List ℕ) (at : ℕ) (h : HeadOf) (next : ℕ) → headAt s at ≡ entry h next → Sized (h .name)
+unfolding headAt
+head-sized s at h next e = begun-entry (λ (h : HeadOf). h .name) s (2 ∷ 2 ∷ 4 ∷ 2 ∷ []) at (headed s) same h next e
+  where
+    room : (n : Name) (b : Bool) (fault : Fault) (k : HeadOf) (i : ℕ) (a : HeadOf) (j : ℕ) → k .name ≡ n → cond b (bad fault) (entry k i) ≡ entry a j → a .name ≡ n
+    room n true fault k i a j p q = absurd (bad≢entry q)
+    room n false fault k i a j p q = sym (ap (λ (h : HeadOf). h .name) (entry-value q)) ∙ p
+
+    same : (n : Name) (i : ℕ) (a : HeadOf) (j : ℕ) → headed s n i ≡ entry a j → a .name ≡ n
+    same n i a j p = room n (ltb (length s) (i + 10 + twoAt s (i + 8))) (record { kind = cut; octet = i + 10 }) (record { name = n; type = twoAt s i; class = twoAt s (i + 2); ttl = fourAt s (i + 4); rdata = i + 10; length = twoAt s (i + 8) }) (i + 10 + twoAt s (i + 8)) a j refl p
+
+-- ---- questions
+-- the texts that a question and a record begin with
+front : (t u v : List ℕ) → ascii "{\"NAME\":\"" ++ t ++ ascii ",\"TYPE\":" ++ u ++ ascii ",\"CLASS\":" ++ v ≡ ascii "{\"NAME\":\"" ++ t ++ (ascii ",\"TYPE\":" ++ u) ++ (ascii ",\"CLASS\":" ++ v)
+front t u v = simp append-assoc
+
+pub front-text : (n : Name) (type class : ℕ) → Sized n
+    → ascii "{\"NAME\":\"" ++ nameText n ++ ascii ",\"TYPE\":" ++ decimal type ++ ascii ",\"CLASS\":" ++ decimal class ≡ startText (nameForm n) type class
+unfolding startText numberText
+front-text n type class h =
+    front (nameText n) (decimal type) (decimal class)
+    ∙ ap (λ (t : List ℕ). ascii "{\"NAME\":\"" ++ t ++ (ascii ",\"TYPE\":" ++ decimal type) ++ (ascii ",\"CLASS\":" ++ decimal class)) (sym (sized-text n h))
+
+question-parts : (q : Question) → Sized (q .name) → questionText q ≡ startText (nameForm (q .name)) (q .type) (q .class) ++ ascii "}"
+unfolding questionText
+question-parts q h = ap (λ (t : List ℕ). t ++ ascii "}") (front-text (q .name) (q .type) (q .class) h)
+
+module _ (s : List ℕ) (at : ℕ) {r : QuestionRead} (e : r ≡ questionRead (questionAt s at)) where
+  -- one that is readable has no fault
+  pub question-faultless : {f : FaultRead} → Readable (questionTextAt s at) → r .answer ≡ question.Faulty f → ⊥
+  unfolding questionTextAt
+  question-faultless h p = readable≢bad (readable-value questionText (questionAt s at) h) (asked (questionAt s at) e p .1)
+
+  pub question-prints : {a : Asked} {b b₁ b₂ : List ℕ} {to n₁ n₂ : ℕ} → r .answer ≡ question.Read a
+      → Wrote b to (startText (take (a .size - 0) (r .name)) (a .kind) (a .class)) b₁ n₁ → Wrote b₁ n₁ (125 ∷ []) b₂ n₂ → Prints (questionTextAt s at) b to b₂ (a .next) n₂
+  unfolding questionTextAt
+  question-prints {a} {b} {b₁} {b₂} {to} {n₁} {n₂} p x y = go (asked (questionAt s at) e p) x
+    where
+      go : (z : (q : Question) × (next : ℕ) × (questionAt s at ≡ entry q next) × (a ≡ askedOf q next) × (r .name ≡ padded (nameForm (q .name))))
+          → Wrote b to (startText (take (a .size - 0) (r .name)) (a .kind) (a .class)) b₁ n₁ → Prints (texts questionText (questionAt s at)) b to b₂ (a .next) n₂
+      go (q, next, u, v, l) =
+          rw u (subst (λ (c : Asked). Wrote b to (startText (take (c .size - 0) (r .name)) (c .kind) (c .class)) b₁ n₁ → Prints (entry (questionText q) next) b to b₂ (c .next) n₂) (sym v)
+          λ x. prints-text (rw (question-parts q (question-sized s at q next u)) (then (rw (form-part (nameForm (q .name)) (r .name) (length (nameForm (q .name))) refl l) at x) y)))
+
+-- ---- RDATA
+-- hexadecimal, piece by piece
+hex-append : (l m : List ℕ) → hexText (l ++ m) ≡ each hexOctet l ++ hexText m
+unfolding hexText each
+hex-append [] m = refl
+hex-append (x ∷ l) m = ap (λ (t : List ℕ). hexOctet x ++ t) (hex-append l m) ∙ sym (append-assoc (hexOctet x) (each hexOctet l) (hexText m))
+
+hexed-before : (end : ℕ) (l : List ℕ) (w : layout.Laid) → hexed end (before l w) ≡ texts (λ t. each hexOctet l ++ t) (hexed end w)
+hexed-before end l (laid d) = ap (λ (t : List ℕ). entry t end) (hex-append l d)
+hexed-before end l (misfit fault) = refl
+
+-- a part of so many octets at most
+pub part-short : (n : ℕ) (l : List ℕ) (m : ℕ) → n ≤ m → length (take n l) ≤ m
+part-short n l m h = let e = length-take n l in omega arith
+
+pub hex-room : (next n : ℕ) (l : List ℕ) (m : ℕ) → next + 2 * n < m → next + 2 * length (take n l) < m
+hex-room next n l m h = let e = length-take n l in omega arith
+
+pub hex-short : (at n : ℕ) (l : List ℕ) {r : ℕ} → r ≡ at + 2 * length (take n l) → r ≤ at + 2 * n
+hex-short at n l e = let k = length-take n l in omega arith
+
+-- all of it is left
+pub pieces-all : (s : List ℕ) (kind start size : ℕ) {b : List ℕ} {to : ℕ} → Readable (rdataText s kind start size) → Rest (rdataText s kind start size) b to (piecesText s kind start size 0 start) b to
+unfolding rdataText piecesText
+pieces-all s kind start size h = rest-same (ap (hexed (start + size)) (rdata-pieces true s kind start size)) (rest-all h)
+
+module _ (s : List ℕ) (kind start size at i : ℕ) {whole : Entry (List ℕ)} {b₀ b : List ℕ} {to next : ℕ} {r : Stepped}
+    (w : Rest whole b₀ to (piecesText s kind start size i at) b next) (e : r ≡ stepRead (stepAt (drop i (layoutIn kind size)) s start (start + size) at)) where
+  -- the pieces from the next on
+  after : (xs : List ℕ) (n : ℕ) {b₁ : List ℕ} {n₁ : ℕ}
+      → pieces true (drop i (layoutIn kind size)) s start (start + size) at ≡ before xs (pieces true (drop (i + 1) (layoutIn kind size)) s start (start + size) n)
+      → Wrote b next (each hexOctet xs) b₁ n₁ → Rest whole b₀ to (piecesText s kind start size (i + 1) n) b₁ n₁
+  unfolding piecesText
+  after xs n q p = rest-text (rest-same (ap (hexed (start + size)) q ∙ hexed-before (start + size) xs (pieces true (drop (i + 1) (layoutIn kind size)) s start (start + size) n)) w) p
+
+  -- octets as they are
+  pub pieces-part : {n : ℕ} {b₁ : List ℕ} {n₁ : ℕ} → r .step ≡ step.Part n → Wrote b next (each hexOctet (take (n - at) (drop at s))) b₁ n₁
+      → Rest whole b₀ to (piecesText s kind start size (i + 1) n) b₁ n₁
+  pieces-part {n} q p = after (part s at (n - at)) n (pieces-next s (layoutIn kind size) start (start + size) at i (tells _ e q)) p
+
+  -- a name
+  pub pieces-name : {long n : ℕ} {b₁ : List ℕ} {n₁ : ℕ} → r .step ≡ step.Name long n → Wrote b next (each hexOctet (take (long - 0) (r .octets))) b₁ n₁
+      → Rest whole b₀ to (piecesText s kind start size (i + 1) n) b₁ n₁
+  pieces-name {long} {n} {b₁} {n₁} q p =
+      let (m, x, y, z) = tells _ e q in
+      after (nameForm m) n (pieces-next s (layoutIn kind size) start (start + size) at i x)
+      (subst (λ (xs : List ℕ). Wrote b next (each hexOctet xs) b₁ n₁) (form-part (nameForm m) (r .octets) long y z) p)
+
+  -- the end
+  pub pieces-done : {b₁ : List ℕ} {n₁ : ℕ} → r .step ≡ step.Done → Wrote b next (34 ∷ []) b₁ n₁ → Prints whole b₀ to b₁ (start + size) n₁
+  unfolding piecesText hexText
+  pieces-done q p = rest-end (rest-same (ap (hexed (start + size)) (pieces-next s (layoutIn kind size) start (start + size) at i (tells _ e q))) w) p
+
+  -- no fault is left
+  pub pieces-faultless : {f : FaultRead} → r .step ≡ step.Misfit f → ⊥
+  unfolding piecesText
+  pieces-faultless q =
+      let (fault, x, y) = tells _ e q in
+      readable≢bad (w .readable) (ap (hexed (start + size)) (pieces-next s (layoutIn kind size) start (start + size) at i x))

@@ -1,0 +1,202 @@
+// Questions and records of a message as the elements of its text. Definitions and laws are in specs/.
+ghost use mathlib.Core.Path.{_≡_};
+ghost use Prim.Native.Nat.{_+_, _*_, _^_, _<_, _≤_};
+ghost use lib.ListN.{length};
+ghost use Rattle.octets.specs.Overlay.{Wrote};
+ghost use Rattle.print_entry.specs.Prints.{Readable, Prints, Within};
+ghost use Rattle.print_entry.specs.Elements.{startText, fieldsText, rdataText, ordinaryText, rcodeOf, shows?, shownText, questionTextAt, recordTextAt, textAt};
+use edns::is_edns;
+use edns::put_edns;
+use octets::put;
+use octets::put_all;
+use octets::put_hex;
+use octets::wide;
+use print_head::put_number;
+use records::Head;
+use records::Question;
+use records::Record;
+use records::Step;
+use records::head_at;
+use records::question_at;
+use records::rdata_step;
+use spelling::put_name;
+use spelling::put_signed;
+
+// An offset of the message and a place of the text.
+pub struct Position {
+    pub at: usize,
+    pub to: usize,
+}
+
+// An element of an array: a question; or a record, with whether one of TYPE 41 shows as an EDNS element, which is so where it is the only one
+// of the additional section.
+pub enum Element {
+    Question,
+    Record(bool),
+}
+
+// Writes the members that a question and a record begin with: NAME by the name's form, TYPE, CLASS.
+fn put_start(out: &mut [u8], to: usize, form: &[u8], kind: u32, class: u32) -> usize
+    requires { ⌜ (to < 2 ^ 37) × (length (now form) ≤ 255) ⌝ }
+    ensures { λ r. ⌜ Wrote (now (out .entry)) to (startText (now (form .entry)) kind class) (now (out .exit)) r ⌝ }
+    ensures { λ r. ⌜ r ≤ to + 1326 ⌝ }
+{
+    let title = put_all(out, to, b"{\"NAME\":\"");
+    let name = put_name(out, title, form);
+    let number = put_number(out, name, b",\"TYPE\":", kind);
+    put_number(out, number, b",\"CLASS\":", class)
+}
+
+// Writes a record up to the quote before its RDATA.
+fn put_fields(out: &mut [u8], to: usize, form: &[u8], kind: u32, class: u32, ttl: u32) -> usize
+    requires { ⌜ (to < 2 ^ 36) × (length (now form) ≤ 255) ⌝ }
+    ensures { λ r. ⌜ Wrote (now (out .entry)) to (fieldsText (now (form .entry)) kind class ttl) (now (out .exit)) r ⌝ }
+    ensures { λ r. ⌜ r ≤ to + 1357 ⌝ }
+{
+    let start = put_start(out, to, form, kind, class);
+    let title = put_all(out, start, b",\"TTL\":");
+    let number = put_signed(out, title, ttl);
+    put_all(out, number, b",\"RDATAHEX\":\"")
+}
+
+// Writes RDATA, which has no fault, in hexadecimal, piece by piece, and the quote after it.
+fn put_rdata(s: &[u8], kind: u32, start: usize, size: usize, out: &mut [u8], to: usize) -> usize
+    requires { ⌜ (length (now s) ≤ 65535) × (start + size ≤ length (now s)) × (to < 2 ^ 37) × Readable (rdataText (now s) kind start size) ⌝ }
+    ensures { λ r. ⌜ Prints (rdataText (now (s .entry)) kind start size) (now (out .entry)) to (now (out .exit)) (start + size) r ⌝ }
+    ensures { λ r. ⌜ r ≤ to + 1531 + 2 * size ⌝ }
+{
+    let mut i = 0;
+    let mut at = start;
+    let mut next = to;
+    loop {
+        let stepped = rdata_step(s, kind, start, size, i, at);
+        let step = stepped.step;
+        let octets = stepped.octets;
+        match step {
+            Step::Part(end) => {
+                next = put_hex(out, next, &s[at..end]);
+                at = end;
+                i += 1;
+            }
+            Step::Name(length, end) => {
+                next = put_hex(out, next, &octets[0..length]);
+                at = end;
+                i += 1;
+            }
+            Step::Done => {
+                return put(out, next, b'"');
+            }
+            // not reached
+            Step::Misfit(_) => {
+                return to;
+            }
+        }
+    }
+}
+
+// Writes a record as it is, by its owner's form and its fields.
+fn put_ordinary(s: &[u8], form: &[u8], head: Head, out: &mut [u8], to: usize) -> usize
+    requires { ⌜ (length (now s) ≤ 65535) × (length (now form) ≤ 255) × (head .rdata + head .length ≤ length (now s)) × (to < 2 ^ 36) × Readable (ordinaryText (now s) (now form) head) ⌝ }
+    ensures { λ r. ⌜ Prints (ordinaryText (now (s .entry)) (now (form .entry)) head) (now (out .entry)) to (now (out .exit)) (head .rdata + head .length) r ⌝ }
+    ensures { λ r. ⌜ r ≤ to + 2889 + 2 * head .length ⌝ }
+{
+    let fields = put_fields(out, to, form, head.kind, head.class, head.ttl);
+    let rdata = put_rdata(s, head.kind, head.rdata, head.length, out, fields);
+    put(out, rdata, b'}')
+}
+
+// The header's RCODE.
+fn rcode_of(s: &[u8]) -> u32
+    requires { ⌜ 12 ≤ length (now s) ⌝ }
+    ensures { λ r. ⌜ r ≡ rcodeOf (now (s .entry)) ⌝ }
+    ensures { λ r. ⌜ r < 16 ⌝ }
+{
+    let rcode = wide(s[3]) % 16;
+    rcode as u32
+}
+
+// Whether a record shows as an EDNS element.
+fn is_element(s: &[u8], head: Head, lone: bool) -> bool
+    requires { ⌜ (12 ≤ length (now s)) × (length (now s) ≤ 65535) × (head .rdata + head .length ≤ length (now s)) ⌝ }
+    ensures { λ r. ⌜ r ≡ shows? (now (s .entry)) head lone ⌝ }
+{
+    if !lone {
+        return false;
+    }
+    if head.kind != 41 {
+        return false;
+    }
+    let rcode = rcode_of(s);
+    let start = head.rdata;
+    let end = start + head.length;
+    is_edns(head.size == 1, head.ttl, rcode, &s[start..end])
+}
+
+// Writes the question at an offset, which has no fault.
+fn put_question(s: &[u8], at: usize, out: &mut [u8], to: usize) -> Position
+    requires { ⌜ (length (now s) ≤ 65535) × (to < 2 ^ 36) × Readable (questionTextAt (now s) at) ⌝ }
+    ensures { λ r. ⌜ Prints (questionTextAt (now (s .entry)) at) (now (out .entry)) to (now (out .exit)) (r .at) (r .to) ⌝ }
+    ensures { λ r. ⌜ Within r at to (length (now (s .entry))) ⌝ }
+{
+    let read = question_at(s, at);
+    let answer = read.answer;
+    let name = read.name;
+    let Question::Read(asked) = answer else {
+        // not reached
+        return Position { at, to };
+    };
+    let size = asked.size;
+    let end = put_start(out, to, &name[0..size], asked.kind, asked.class);
+    Position {
+        at: asked.next,
+        to: put(out, end, b'}'),
+    }
+}
+
+// Writes a record by its owner's form and its fields: as an EDNS element, or as it is.
+fn put_shown(s: &[u8], form: &[u8], head: Head, lone: bool, out: &mut [u8], to: usize) -> usize
+    requires { ⌜ (12 ≤ length (now s)) × (length (now s) ≤ 65535) × (length (now form) ≤ 255) × (head .rdata + head .length ≤ length (now s)) × (to < 2 ^ 36) × Readable (shownText lone (now s) (now form) head) ⌝ }
+    ensures { λ r. ⌜ Prints (shownText lone (now (s .entry)) (now (form .entry)) head) (now (out .entry)) to (now (out .exit)) (head .rdata + head .length) r ⌝ }
+    ensures { λ r. ⌜ r ≤ to + 2889 + 64 * head .length ⌝ }
+{
+    if is_element(s, head, lone) {
+        let rcode = rcode_of(s);
+        let start = head.rdata;
+        let end = start + head.length;
+        return put_edns(out, to, head.class, head.ttl, rcode, &s[start..end]);
+    }
+    put_ordinary(s, form, head, out, to)
+}
+
+// Writes the record at an offset, which has no fault.
+fn put_record(s: &[u8], at: usize, lone: bool, out: &mut [u8], to: usize) -> Position
+    requires { ⌜ (12 ≤ length (now s)) × (length (now s) ≤ 65535) × (to < 2 ^ 36) × Readable (recordTextAt lone (now s) at) ⌝ }
+    ensures { λ r. ⌜ Prints (recordTextAt lone (now (s .entry)) at) (now (out .entry)) to (now (out .exit)) (r .at) (r .to) ⌝ }
+    ensures { λ r. ⌜ Within r at to (length (now (s .entry))) ⌝ }
+{
+    let read = head_at(s, at);
+    let answer = read.answer;
+    let name = read.name;
+    let Record::Read(head) = answer else {
+        // not reached
+        return Position { at, to };
+    };
+    let size = head.size;
+    let next = put_shown(s, &name[0..size], head, lone, out, to);
+    Position {
+        at: head.rdata + head.length,
+        to: next,
+    }
+}
+
+// Writes the element at an offset, which has no fault.
+pub fn put_element(s: &[u8], element: Element, at: usize, out: &mut [u8], to: usize) -> Position
+    requires { ⌜ (12 ≤ length (now s)) × (length (now s) ≤ 65535) × (to < 2 ^ 36) × Readable (textAt element (now s) at) ⌝ }
+    ensures { λ r. ⌜ Prints (textAt element (now (s .entry)) at) (now (out .entry)) to (now (out .exit)) (r .at) (r .to) ⌝ }
+    ensures { λ r. ⌜ Within r at to (length (now (s .entry))) ⌝ }
+{
+    match element {
+        Element::Question => put_question(s, at, out, to),
+        Element::Record(lone) => put_record(s, at, lone, out, to),
+    }
+}

@@ -1,0 +1,2 @@
+-- Members of the head of a message's text.
+pub mod Head

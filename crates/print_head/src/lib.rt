@@ -1,0 +1,42 @@
+// Members of the head of a message's text. Definitions and laws are in specs/.
+ghost use Prim.Native.Nat.{_+_, _^_, _<_, _≤_};
+ghost use lib.ListN.{length};
+ghost use Rattle.octets.specs.Overlay.{Wrote};
+ghost use Rattle.print_head.specs.Head.{numberText, highText, lowText};
+use octets::put_all;
+use octets::put_decimal;
+
+// Writes a member: its name with what is around it, and a number.
+pub fn put_number(out: &mut [u8], to: usize, title: &[u8], n: u32) -> usize
+    requires { ⌜ to + length (now title) < 2 ^ 39 ⌝ }
+    ensures { λ r. ⌜ Wrote (now (out .entry)) to (numberText (now (title .entry)) n) (now (out .exit)) r ⌝ }
+    ensures { λ r. ⌜ r ≤ to + length (now (title .entry)) + 10 ⌝ }
+{
+    let next = put_all(out, to, title);
+    put_decimal(out, next, n)
+}
+
+// Writes the members of the octet of QR, Opcode, AA, TC and RD.
+pub fn put_high(out: &mut [u8], to: usize, x: u8) -> usize
+    requires { ⌜ to + 100 < 2 ^ 39 ⌝ }
+    ensures { λ r. ⌜ Wrote (now (out .entry)) to (highText x) (now (out .exit)) r ⌝ }
+    ensures { λ r. ⌜ r ≤ to + 84 ⌝ }
+{
+    let qr = put_number(out, to, b",\"QR\":", (x / 128) as u32);
+    let opcode = put_number(out, qr, b",\"Opcode\":", (x / 8 % 16) as u32);
+    let aa = put_number(out, opcode, b",\"AA\":", (x / 4 % 2) as u32);
+    let tc = put_number(out, aa, b",\"TC\":", (x / 2 % 2) as u32);
+    put_number(out, tc, b",\"RD\":", (x % 2) as u32)
+}
+
+// Writes the members of the octet of RA, Z, AD, CD and RCODE; Z has none.
+pub fn put_low(out: &mut [u8], to: usize, x: u8) -> usize
+    requires { ⌜ to + 100 < 2 ^ 39 ⌝ }
+    ensures { λ r. ⌜ Wrote (now (out .entry)) to (lowText x) (now (out .exit)) r ⌝ }
+    ensures { λ r. ⌜ r ≤ to + 67 ⌝ }
+{
+    let ra = put_number(out, to, b",\"RA\":", (x / 128) as u32);
+    let ad = put_number(out, ra, b",\"AD\":", (x / 32 % 2) as u32);
+    let cd = put_number(out, ad, b",\"CD\":", (x / 16 % 2) as u32);
+    put_number(out, cd, b",\"RCODE\":", (x % 16) as u32)
+}

@@ -1,0 +1,25 @@
+-- `print_message::put_section` meets its contract: the title and the array.
+-- Assumes nothing.
+use borrow.Author.Needs.{needs}
+use Rattle.print_message.specs.Arrays.{section-readable, section-prints}
+use Rattle.print_message.proofs.put_section.Statement.{statement}
+use Rattle.print_message.proofs.put_section.Tie as tie
+
+two-at-requires : tie.Need-two-at-requires
+two-at-requires c κs = search needs
+
+put-all-requires : tie.Need-put-all-requires
+put-all-requires c κs = search needs
+
+put-array-requires : tie.Need-put-array-requires
+put-array-requires c κs = (search needs, search needs, search needs, search needs, search (section-readable, needs))
+
+same-length : tie.Need-same-length
+same-length c = search needs
+
+returns : tie.Need-returns
+returns c = (search (section-prints, needs), search needs)
+
+pub put-section-spec : {M : Type 1} → statement M
+put-section-spec =
+    tie.close (tie.spec two-at-requires put-all-requires put-array-requires same-length returns)

@@ -1,0 +1,65 @@
+-- The head of a message's text by the message's first 12 octets, in the parts that the writers write. Assumes nothing.
+use mathlib.Core.Path.{_≡_, refl, ap}
+use mathlib.Core.List.{List, [], _∷_, _++_}
+use Prim.Native.Nat.{ℕ}
+use lib.ListN.{getD}
+use Rattle.octets.specs.Lists.{ascii}
+use Rattle.octets.specs.Fields.{twoAt}
+use Rattle.octets.specs.Decimal.{decimal}
+use Rattle.octets.specs.Overlay.{Wrote, then}
+use Rattle.records.specs.Decode.{headerOf}
+use Rattle.json.specs.Document.{Document, headText}
+use Rattle.print_head.specs.Head.{numberText, withHigh, withLow, highText, lowText, high-after, low-after}
+
+-- a document with the header and the counts that the octets state
+abbrev pub headOf : List ℕ → Document
+headOf s = record {
+  header = headerOf s;
+  qdcount = twoAt s 4;
+  ancount = twoAt s 6;
+  nscount = twoAt s 8;
+  arcount = twoAt s 10;
+  questions = [];
+  answers = [];
+  authority = [];
+  additional = [];
+}
+
+unfoldable pub headAt : List ℕ → List ℕ
+headAt s = headText (headOf s)
+
+-- it is the head of every document with that header and those counts
+pub head-at : (s : List ℕ) (d : Document) → d .header ≡ headerOf s → d .qdcount ≡ twoAt s 4 → d .ancount ≡ twoAt s 6 → d .nscount ≡ twoAt s 8 → d .arcount ≡ twoAt s 10 → headText d ≡ headAt s
+unfolding headText headAt
+head-at s d h q a n r = rw (h, q, a, n, r)
+
+-- ---- its parts
+-- a text with the members of the counts after it
+unfoldable pub withCounts : List ℕ → List ℕ → List ℕ
+withCounts l s =
+    l
+    ++ ascii ",\"QDCOUNT\":" ++ decimal (twoAt s 4)
+    ++ ascii ",\"ANCOUNT\":" ++ decimal (twoAt s 6)
+    ++ ascii ",\"NSCOUNT\":" ++ decimal (twoAt s 8)
+    ++ ascii ",\"ARCOUNT\":" ++ decimal (twoAt s 10)
+
+-- the members alone
+abbrev pub countsText : List ℕ → List ℕ
+countsText s = withCounts [] s
+
+counts-after : (l s : List ℕ) → withCounts l s ≡ l ++ withCounts [] s
+unfolding withCounts
+counts-after [] s = refl
+counts-after (y ∷ l) s = ap (λ m. y ∷ m) (counts-after l s)
+
+-- the head is ID with the three parts after it
+head-parts : (s : List ℕ) → headAt s ≡ withCounts (withLow (withHigh (ascii "{\"ID\":" ++ decimal (twoAt s 0)) (getD s 2 0)) (getD s 3 0)) s
+unfolding headText headAt headerOf withHigh withLow withCounts
+head-parts s = refl
+
+-- ---- writing it
+pub wrote-head : (s : List ℕ) {n : ℕ} {b b₁ b₂ b₃ b₄ : List ℕ} {at r₁ r₂ r₃ r₄ : ℕ} → n ≡ twoAt s 0
+    → Wrote b at (numberText (ascii "{\"ID\":") n) b₁ r₁ → Wrote b₁ r₁ (highText (getD s 2 0)) b₂ r₂ → Wrote b₂ r₂ (lowText (getD s 3 0)) b₃ r₃ → Wrote b₃ r₃ (countsText s) b₄ r₄
+    → Wrote b at (headAt s) b₄ r₄
+unfolding numberText
+wrote-head s e t u v w = rw (head-parts s, counts-after, low-after, high-after, ← e) (then (then (then t u) v) w)

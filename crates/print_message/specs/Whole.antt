@@ -1,0 +1,195 @@
+-- The text by the octets of an accepted message is the text of the message. Assumes nothing.
+use mathlib.Core.Path.{_≡_, refl, sym, ap, _∙_, subst}
+use mathlib.Core.Bool.{Bool, true, false}
+use mathlib.Core.List.{List, [], _∷_, _++_, map, append-assoc}
+use Prim.Native.Nat.{ℕ, zero, suc, _≤_}
+use lib.Dec.{eqb}
+use lib.ListN.{length}
+use Rattle.octets.specs.Lists.{ascii, ended, listed, count}
+use Rattle.octets.specs.Fields.{twoAt}
+use Rattle.octets.specs.Overlay.{Wrote}
+use Rattle.records.specs.Message.{Question, Record, Message, opt?}
+use Rattle.records.specs.Read.{Entry, entry, bad, Reached, reached, stopped, Section, questionAt, recordAt, sectionAt, sectionFrom}
+use Rattle.records.specs.Decode.{headerOf, sectionsOf, messageOf, Decoded, accepted, refused, decode}
+use Rattle.records.specs.RecordLaws.{entry-value}
+use Rattle.records.specs.MessageLaws.{section-step, section-stop, from-reached, section-count, from-count, decode-back, stopped≢reached}
+use Rattle.json.specs.View.{Additional, additionalOf, viewOf}
+use Rattle.json.specs.ViewLaws.{entryOf, map-long, additional-map}
+use Rattle.json.specs.Document.{Document, questionText, recordText, itemText, documentText}
+use Rattle.json.specs.Text.{recordItem, item, documentOf, viewText, text}
+use Rattle.print_entry.specs.Prints.{texts, and-then, Readable, Prints}
+use Rattle.print_entry.specs.Elements.{rcodeOf, questionTextAt, entryText, recordTextAt, textAt}
+use Rattle.print_entry.specs.declared.Element.{Element}
+use Rattle.print_entry.specs.declared.Element.the-variants as element
+use Rattle.print_message.specs.Head.{headAt, head-at}
+use Rattle.print_message.specs.Arrays.{comma, restText, arrayText, sectionText, questionsText, answersText, authorityText, additionalText, fromAdditional, fromAuthority, fromAnswers, fromQuestions, wholeText}
+
+-- ---- sections
+abbrev offset : Reached → ℕ
+offset (reached at) = at
+offset (stopped at fault) = at
+
+-- the entries of a section after another
+module _ {A : Type 0} (read : List ℕ → ℕ → Entry A) (s : List ℕ) where
+  from-entries : (n : ℕ) (w : Reached) (at : ℕ) → w ≡ reached at → sectionFrom read s n w .entries ≡ sectionAt read s n at .entries
+  unfolding sectionFrom
+  from-entries n w at e = ap (λ (w : Reached). sectionFrom read s n w .entries) e
+
+-- ---- arrays of the entries that are read
+module _ {A : Type 0} (f : A → List ℕ) (read : List ℕ → ℕ → Entry A) (e : Element) (s : List ℕ) (same : (at : ℕ) → textAt e s at ≡ texts f (read s at)) where
+  -- after the first
+  later-text : (n at i : ℕ) → sectionAt read s n at .end ≡ reached i → restText e s false n at ≡ entry (ended (λ b. 44 ∷ f b) 93 (sectionAt read s n at .entries)) i
+  unfolding sectionAt restText
+  later-text zero at i q = ap (λ (k : ℕ). entry (93 ∷ []) k) (ap offset q)
+  later-text (suc n) at i q = go (read s at) refl (later-text n)
+    where
+      go : (w : Entry A) → read s at ≡ w → ((j k : ℕ) → sectionAt read s n j .end ≡ reached k → restText e s false n j ≡ entry (ended (λ b. 44 ∷ f b) 93 (sectionAt read s n j .entries)) k)
+          → restText e s false (suc n) at ≡ entry (ended (λ b. 44 ∷ f b) 93 (sectionAt read s (suc n) at .entries)) i
+      go (entry a next) p g =
+          ap (λ (x : Entry (List ℕ)). and-then (texts (λ t. comma false ++ t) x) (restText e s false n)) (same at ∙ ap (texts f) p)
+          ∙ ap (texts (λ u. (44 ∷ f a) ++ u)) (g next i (rw (section-step read s n at a next p) at q))
+          ∙ ap (λ (x : Section A). entry (ended (λ b. 44 ∷ f b) 93 (x .entries)) i) (sym (section-step read s n at a next p))
+      go (bad fault) p g = absurd (stopped≢reached (rw (section-stop read s n at fault p) at q))
+
+  array-text : (n at i : ℕ) → sectionAt read s n at .end ≡ reached i → arrayText e s n at ≡ entry (listed f (sectionAt read s n at .entries)) i
+  unfolding sectionAt restText arrayText
+  array-text zero at i q = ap (λ (k : ℕ). entry (91 ∷ 93 ∷ []) k) (ap offset q)
+  array-text (suc n) at i q = go (read s at) refl
+    where
+      go : (w : Entry A) → read s at ≡ w → arrayText e s (suc n) at ≡ entry (listed f (sectionAt read s (suc n) at .entries)) i
+      go (entry a next) p =
+          ap (λ (x : Entry (List ℕ)). texts (λ t. (91 ∷ []) ++ t) (and-then (texts (λ t. comma true ++ t) x) (restText e s false n))) (same at ∙ ap (texts f) p)
+          ∙ ap (λ (x : Entry (List ℕ)). texts (λ t. (91 ∷ []) ++ t) (texts (λ u. f a ++ u) x)) (later-text n next i (rw (section-step read s n at a next p) at q))
+          ∙ ap (λ (x : Section A). entry (listed f (x .entries)) i) (sym (section-step read s n at a next p))
+      go (bad fault) p = absurd (stopped≢reached (rw (section-stop read s n at fault p) at q))
+
+  section-text : (title l : List ℕ) (n at i : ℕ) → sectionAt read s n at .end ≡ reached i → listed f (sectionAt read s n at .entries) ≡ l → sectionText title e s n at ≡ entry (title ++ l) i
+  unfolding sectionText
+  section-text title l n at i q p = ap (texts (λ t. title ++ t)) (array-text n at i q) ∙ ap (λ (m : List ℕ). entry (title ++ m) i) p
+
+-- the texts of the elements are those of the entries
+question-same : (s : List ℕ) (at : ℕ) → textAt element.Question s at ≡ texts questionText (questionAt s at)
+unfolding textAt questionTextAt
+question-same s at = refl
+
+entry-same : (lone : Bool) (s : List ℕ) (at : ℕ) → textAt (element.Record lone) s at ≡ texts (entryText (rcodeOf s) lone) (recordAt s at)
+unfolding textAt recordTextAt
+entry-same lone s at = refl
+
+record-same : (s : List ℕ) (at : ℕ) → textAt (element.Record false) s at ≡ texts (λ (r : Record). recordText (recordItem r)) (recordAt s at)
+unfolding textAt recordTextAt entryText itemText item
+record-same s at = refl
+
+-- ---- texts of lists
+module _ {A B : Type 0} (f : B → List ℕ) (g : A → B) where
+  ended-map : (l : List A) → ended (λ b. 44 ∷ f b) 93 (map g l) ≡ ended (λ a. 44 ∷ f (g a)) 93 l
+  ended-map [] = refl
+  ended-map (a ∷ l) = ap (λ (t : List ℕ). (44 ∷ f (g a)) ++ t) (ended-map l)
+
+  listed-map : (l : List A) → listed f (map g l) ≡ listed (λ a. f (g a)) l
+  listed-map [] = refl
+  listed-map (a ∷ l) = ap (λ (t : List ℕ). 91 ∷ (f (g a) ++ t)) (ended-map l)
+
+-- the elements of the additional section
+additional-text : (rcode : ℕ) (l : List Record) → listed itemText (map (item rcode) (additionalOf rcode l)) ≡ listed (entryText rcode (eqb (count opt? l) 1)) l
+unfolding entryText
+additional-text rcode l =
+    ap (λ (m : List Additional). listed itemText (map (item rcode) m)) (additional-map rcode l)
+    ∙ listed-map itemText (item rcode) (map (entryOf rcode (eqb (count opt? l) 1)) l)
+    ∙ listed-map (λ (a : Additional). itemText (item rcode a)) (entryOf rcode (eqb (count opt? l) 1)) l
+
+additional-long : (rcode : ℕ) (l : List Record) → length (additionalOf rcode l) ≡ length l
+additional-long rcode l = ap length (additional-map rcode l) ∙ map-long (entryOf rcode (eqb (count opt? l) 1)) l
+
+-- ---- the whole
+joined : (h t₁ l₁ t₂ l₂ t₃ l₃ t₄ l₄ z : List ℕ) → h ++ (t₁ ++ l₁ ++ (t₂ ++ l₂ ++ (t₃ ++ l₃ ++ (t₄ ++ l₄ ++ z)))) ≡ h ++ t₁ ++ l₁ ++ t₂ ++ l₂ ++ t₃ ++ l₃ ++ t₄ ++ l₄ ++ z
+joined h t₁ l₁ t₂ l₂ t₃ l₃ t₄ l₄ z = simp append-assoc
+
+-- the text of a document by its parts
+document-parts : (s : List ℕ) (d : Document) → d .header ≡ headerOf s → d .qdcount ≡ twoAt s 4 → d .ancount ≡ twoAt s 6 → d .nscount ≡ twoAt s 8 → d .arcount ≡ twoAt s 10
+    → headAt s
+    ++ (ascii ",\"questionRRs\":" ++ listed questionText (d .questions)
+    ++ (ascii ",\"answerRRs\":" ++ listed recordText (d .answers)
+    ++ (ascii ",\"authorityRRs\":" ++ listed recordText (d .authority)
+    ++ (ascii ",\"additionalRRs\":" ++ listed itemText (d .additional)
+    ++ ascii "}")))) ≡ documentText d
+unfolding documentText
+document-parts s d h q a n r =
+    joined (headAt s) (ascii ",\"questionRRs\":") (listed questionText (d .questions)) (ascii ",\"answerRRs\":") (listed recordText (d .answers))
+    (ascii ",\"authorityRRs\":") (listed recordText (d .authority)) (ascii ",\"additionalRRs\":") (listed itemText (d .additional)) (ascii "}")
+    ∙ ap (λ (t : List ℕ). t
+    ++ ascii ",\"questionRRs\":" ++ listed questionText (d .questions)
+    ++ ascii ",\"answerRRs\":" ++ listed recordText (d .answers)
+    ++ ascii ",\"authorityRRs\":" ++ listed recordText (d .authority)
+    ++ ascii ",\"additionalRRs\":" ++ listed itemText (d .additional)
+    ++ ascii "}") (sym (head-at s d h q a n r))
+
+-- a text, and then another
+on-text : {e : Entry (List ℕ)} (f : ℕ → Entry (List ℕ)) {t u : List ℕ} {i j : ℕ} → e ≡ entry t i → f i ≡ entry u j → and-then e f ≡ entry (t ++ u) j
+on-text f {t} p q = ap (λ (x : Entry (List ℕ)). and-then x f) p ∙ ap (texts (λ v. t ++ v)) q
+
+-- octets whose sections are read to their end
+sections-text : (s : List ℕ) (i : ℕ) → sectionsOf s .additional .end ≡ reached i
+    → wholeText (eqb (count opt? (messageOf s .additional)) 1) s ≡ entry (text (messageOf s)) i
+unfolding sectionsOf messageOf wholeText text viewText documentOf viewOf headerOf
+sections-text s i e =
+    let lone = eqb (count opt? (messageOf s .additional)) 1 in
+    let f₁ = sectionAt questionAt s (twoAt s 4) 12 in
+    let f₂ = sectionFrom recordAt s (twoAt s 6) (f₁ .end) in
+    let f₃ = sectionFrom recordAt s (twoAt s 8) (f₂ .end) in
+    let f₄ = sectionFrom recordAt s (twoAt s 10) (f₃ .end) in
+    let (i₃, p₃, g₄) = from-reached recordAt s (twoAt s 10) (f₃ .end) i e in
+    let (i₂, p₂, g₃) = from-reached recordAt s (twoAt s 8) (f₂ .end) i₃ p₃ in
+    let (i₁, p₁, g₂) = from-reached recordAt s (twoAt s 6) (f₁ .end) i₂ p₂ in
+    let asText : Record → List ℕ = λ r. recordText (recordItem r) in
+    let d = documentOf (viewOf (messageOf s)) in
+    let l₂ : listed asText (sectionAt recordAt s (twoAt s 6) i₁ .entries) ≡ listed recordText (d .answers) =
+    ap (listed asText) (sym (from-entries recordAt s (twoAt s 6) (f₁ .end) i₁ p₁)) ∙ sym (listed-map recordText recordItem (f₂ .entries)) in
+    let l₃ : listed asText (sectionAt recordAt s (twoAt s 8) i₂ .entries) ≡ listed recordText (d .authority) =
+    ap (listed asText) (sym (from-entries recordAt s (twoAt s 8) (f₂ .end) i₂ p₂)) ∙ sym (listed-map recordText recordItem (f₃ .entries)) in
+    let l₄ : listed (entryText (rcodeOf s) lone) (sectionAt recordAt s (twoAt s 10) i₃ .entries) ≡ listed itemText (d .additional) =
+    ap (listed (entryText (rcodeOf s) lone)) (sym (from-entries recordAt s (twoAt s 10) (f₃ .end) i₃ p₃)) ∙ sym (additional-text (rcodeOf s) (f₄ .entries)) in
+    let t₄ = on-text (λ next. entry (ascii "}") next)
+    (section-text (entryText (rcodeOf s) lone) recordAt (element.Record lone) s (entry-same lone s) (ascii ",\"additionalRRs\":") _ (twoAt s 10) i₃ i g₄ l₄) refl in
+    let t₃ = on-text (fromAdditional lone s) (section-text asText recordAt (element.Record false) s (record-same s) (ascii ",\"authorityRRs\":") _ (twoAt s 8) i₂ i₃ g₃ l₃) t₄ in
+    let t₂ = on-text (fromAuthority lone s) (section-text asText recordAt (element.Record false) s (record-same s) (ascii ",\"answerRRs\":") _ (twoAt s 6) i₁ i₂ g₂ l₂) t₃ in
+    let t₁ = on-text (fromAnswers lone s) (section-text questionText questionAt element.Question s (question-same s) (ascii ",\"questionRRs\":") _ (twoAt s 4) 12 i₁ p₁ refl) t₂ in
+    ap (texts (λ t. headAt s ++ t)) t₁
+    ∙ ap (λ (a : List ℕ). entry a i) (document-parts s d refl
+    (section-count questionAt s (twoAt s 4) 12 i₁ p₁)
+    (from-count recordAt s (twoAt s 6) (f₁ .end) i₂ p₂)
+    (from-count recordAt s (twoAt s 8) (f₂ .end) i₃ p₃)
+    (additional-long (rcodeOf s) (f₄ .entries) ∙ from-count recordAt s (twoAt s 10) (f₃ .end) i e))
+
+-- ---- accepted messages
+-- the text of the message, none of octets that are refused
+abbrev pub textFrom : Decoded → List ℕ
+textFrom (accepted m) = text m
+textFrom (refused number place) = []
+
+unfoldable pub textOf : List ℕ → List ℕ
+textOf s = textFrom (decode s)
+
+-- the octets are a message's; `lone` says whether its additional section has one TYPE 41 record
+pub record Accepted (s : List ℕ) (lone : Bool) : Type 0 where
+  pub message : Message
+  pub decodes : decode s ≡ accepted message
+  pub alone : lone ≡ eqb (count opt? (message .additional)) 1
+
+module _ {s : List ℕ} {lone : Bool} (a : Accepted s lone) where
+  pub accepted-limits : (12 ≤ length s) × (length s ≤ 65535)
+  accepted-limits = let k = decode-back s (a .message) (a .decodes) in (k .room, k .small)
+
+  -- the text by the octets is the text of the message
+  whole-text : (last : ℕ) × (wholeText lone s ≡ entry (textOf s) last)
+  unfolding textOf
+  whole-text =
+      let m = a .message in
+      let k = decode-back s m (a .decodes) in
+      (k .last, rw (a .alone, a .decodes) (subst (λ (n : Message). wholeText (eqb (count opt? (n .additional)) 1) s ≡ entry (text n) (k .last)) (k .same) (sections-text s (k .last) (k .came))))
+
+  pub accepted-readable : Readable (wholeText lone s)
+  accepted-readable = record { value = textOf s; next = whole-text .0; reads = whole-text .1 }
+
+  pub accepted-text : {b b′ : List ℕ} {at n : ℕ} → Prints (wholeText lone s) b 0 b′ at n → Wrote b 0 (textOf s) b′ n
+  accepted-text {b} {b′} {n = n} p = subst (λ (t : List ℕ). Wrote b 0 t b′ n) (entry-value (sym (p .reads) ∙ whole-text .1)) (p .wrote)

@@ -1,0 +1,33 @@
+// The head of a message's text: the members of the header and its counts.
+ghost use Prim.Native.Nat.{_+_, _^_, _<_, _≤_};
+ghost use lib.ListN.{length};
+ghost use Rattle.octets.specs.Overlay.{Wrote};
+ghost use Rattle.print_message.specs.Head.{headAt, countsText};
+use octets::two_at;
+use print_head::put_high;
+use print_head::put_low;
+use print_head::put_number;
+
+// Writes the counts of the sections.
+fn put_counts(out: &mut [u8], to: usize, s: &[u8]) -> usize
+    requires { ⌜ (to + 100 < 2 ^ 39) × (12 ≤ length (now s)) ⌝ }
+    ensures { λ r. ⌜ Wrote (now (out .entry)) to (countsText (now (s .entry))) (now (out .exit)) r ⌝ }
+    ensures { λ r. ⌜ r ≤ to + 84 ⌝ }
+{
+    let questions = put_number(out, to, b",\"QDCOUNT\":", two_at(s, 4));
+    let answers = put_number(out, questions, b",\"ANCOUNT\":", two_at(s, 6));
+    let authority = put_number(out, answers, b",\"NSCOUNT\":", two_at(s, 8));
+    put_number(out, authority, b",\"ARCOUNT\":", two_at(s, 10))
+}
+
+// Writes the head of the text of a message, whose first 12 octets s has at least.
+pub fn put_head(out: &mut [u8], to: usize, s: &[u8]) -> usize
+    requires { ⌜ (to < 2 ^ 38) × (12 ≤ length (now s)) ⌝ }
+    ensures { λ r. ⌜ Wrote (now (out .entry)) to (headAt (now (s .entry))) (now (out .exit)) r ⌝ }
+    ensures { λ r. ⌜ r ≤ to + 251 ⌝ }
+{
+    let id = put_number(out, to, b"{\"ID\":", two_at(s, 0));
+    let high = put_high(out, id, s[2]);
+    let low = put_low(out, high, s[3]);
+    put_counts(out, low, s)
+}

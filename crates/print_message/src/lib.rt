@@ -1,0 +1,114 @@
+// The text of a message by its octets. Definitions and laws are in specs/.
+ghost use mathlib.Core.Path.{_≡_};
+ghost use Prim.Native.Nat.{_+_, _*_, _^_, _<_, _≤_};
+ghost use lib.ListN.{length};
+ghost use Rattle.octets.specs.Fields.{twoAt};
+ghost use Rattle.octets.specs.Overlay.{Wrote};
+ghost use Rattle.print_entry.specs.Prints.{Readable, Prints};
+ghost use Rattle.print_message.specs.Arrays.{comma, arrayText, sectionText, Arrives, Placed};
+ghost use Rattle.print_message.specs.Whole.{textOf, Accepted};
+use head::put_head;
+use octets::put;
+use octets::put_all;
+use octets::two_at;
+use print_entry::Element;
+use print_entry::Position;
+use print_entry::put_element;
+
+mod head;
+
+// Writes what is before an element.
+fn put_comma(out: &mut [u8], to: usize, first: bool) -> usize
+    requires { ⌜ to < 2 ^ 37 ⌝ }
+    ensures { λ r. ⌜ Wrote (now (out .entry)) to (comma first) (now (out .exit)) r ⌝ }
+    ensures { λ r. ⌜ r ≤ to + 1 ⌝ }
+{
+    if first {
+        return to;
+    }
+    put(out, to, b',')
+}
+
+// Writes an array of `count` elements without a fault, from the one at an offset on.
+fn put_array(
+    s: &[u8],
+    element: Element,
+    count: u32,
+    at: usize,
+    out: &mut [u8],
+    to: usize,
+) -> Position
+    requires { ⌜ (12 ≤ length (now s)) × (length (now s) ≤ 65535) × (at ≤ length (now s)) × (to ≤ 4096 * at + 400) × Readable (arrayText element (now s) count at) ⌝ }
+    ensures { λ r. ⌜ Prints (arrayText element (now (s .entry)) count at) (now (out .entry)) to (now (out .exit)) (r .at) (r .to) ⌝ }
+    ensures { λ r. ⌜ Arrives r at to (length (now (s .entry))) ⌝ }
+{
+    let mut left = count;
+    let mut from = at;
+    let mut next = put(out, to, b'[');
+    while left > 0 {
+        let place = put_comma(out, next, left == count);
+        let end = put_element(s, element, from, out, place);
+        from = end.at;
+        next = end.to;
+        left -= 1;
+    }
+    Position {
+        at: from,
+        to: put(out, next, b']'),
+    }
+}
+
+// Writes a section's title and array, without a fault, from where the section before it ended; `place` is the offset of its count.
+fn put_section(
+    s: &[u8],
+    start: Position,
+    title: &[u8],
+    element: Element,
+    place: usize,
+    out: &mut [u8],
+) -> Position
+    requires { ⌜ (12 ≤ length (now s)) × (length (now s) ≤ 65535) × (length (now title) ≤ 18) × (place ≤ 10) × Placed start (length (now s)) place × Readable (sectionText (now title) element (now s) (twoAt (now s) place) (start .at)) ⌝ }
+    ensures { λ r. ⌜ Prints (sectionText (now (title .entry)) element (now (s .entry)) (twoAt (now (s .entry)) place) (start .at)) (now (out .entry)) (start .to) (now (out .exit)) (r .at) (r .to) ⌝ }
+    ensures { λ r. ⌜ Placed r (length (now (s .entry))) (place + 2) ⌝ }
+{
+    let count = two_at(s, place);
+    let next = put_all(out, start.to, title);
+    put_array(s, element, count, start.at, out, next)
+}
+
+// Writes the text of an accepted message; `lone` says whether its additional section has one TYPE 41 record.
+pub fn put_text(s: &[u8], lone: bool, out: &mut [u8]) -> usize
+    requires { ⌜ Accepted (now s) lone ⌝ }
+    ensures { λ r. ⌜ Wrote (now (out .entry)) 0 (textOf (now (s .entry))) (now (out .exit)) r ⌝ }
+{
+    let head = Position {
+        at: 12,
+        to: put_head(out, 0, s),
+    };
+    let questions = put_section(s, head, b",\"questionRRs\":", Element::Question, 4, out);
+    let answers = put_section(
+        s,
+        questions,
+        b",\"answerRRs\":",
+        Element::Record(false),
+        6,
+        out,
+    );
+    let authority = put_section(
+        s,
+        answers,
+        b",\"authorityRRs\":",
+        Element::Record(false),
+        8,
+        out,
+    );
+    let additional = put_section(
+        s,
+        authority,
+        b",\"additionalRRs\":",
+        Element::Record(lone),
+        10,
+        out,
+    );
+    put(out, additional.to, b'}')
+}

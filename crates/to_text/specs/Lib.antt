@@ -1,0 +1,2 @@
+-- Message to text: how the promise of the conversion follows from its runs.
+pub mod Promise
