@@ -78,6 +78,11 @@ nthOf i a b c = cond (eqb i 0) a (cond (eqb i 1) b (cond (eqb i 2) c piece.End))
 unfoldable pub plainly : Step → Stepped
 plainly x = record { step = x; octets = replicate 255 0 }
 
+-- the step of a name that can't be read
+abbrev pub faultStep : Named → Step
+faultStep (named.Faulty fault) = step.Misfit fault
+faultStep (named.Read next size) = step.Done
+
 unfoldable pub stepRead : StepOf → Stepped
 stepRead (part-to next) = plainly (step.Part next)
 stepRead (name-to n next) = record { step = step.Name (length (nameForm n)) next; octets = padded (nameForm n) }

@@ -11,7 +11,7 @@ use lib.Dec.{ltb, eqb}
 use lib.ListN.{length, drop}
 use Rattle.octets.specs.Fields.{twoAt, fourAt}
 use Rattle.names.specs.Name.{Name, nameForm, cut, short, surplus, Fault}
-use Rattle.names.specs.Walk.{part, message, rdata, Named, named, faulty, nameFrom, nameAt}
+use Rattle.names.specs.Walk.{part, message, rdata, Named, named, faulty, nameAt}
 use Rattle.records.specs.Layout.{Piece, fixed, name, layoutOf, Laid, laid, misfit, before, pieces, rdataAt}
 use Rattle.records.specs.Message.{Record}
 use Rattle.records.specs.RecordLaws.{bad≢entry, entry-value, entry-next, filled, elim-filled}
@@ -98,7 +98,7 @@ nameStep (faulty fault) = stops fault
 unfoldable pub stepAt : List Piece → List ℕ → ℕ → ℕ → ℕ → StepOf
 stepAt [] s start end at = cond (ltb at end) (stops (record { kind = surplus; octet = at })) done
 stepAt (fixed n ∷ layout) s start end at = cond (ltb end (at + n)) (stops (record { kind = short; octet = start })) (part-to (at + n))
-stepAt (name ∷ layout) s start end at = nameStep (nameFrom s (rdata start end) at at)
+stepAt (name ∷ layout) s start end at = nameStep (nameAt s (rdata start end) at)
 
 -- ---- a record by its head
 -- a record is its head, then its RDATA
@@ -178,7 +178,7 @@ pieces-step (fixed n ∷ layout) s start end at = go (ltb end (at + n))
         ≡ follow s at later (cond b (stops (record { kind = short; octet = start })) (part-to (at + n)))
     go true = refl
     go false = let e : at + n - at ≡ n = omega arith in rw e
-pieces-step (name ∷ layout) s start end at = go (nameFrom s (rdata start end) at at)
+pieces-step (name ∷ layout) s start end at = go (nameAt s (rdata start end) at)
   where
     later : ℕ → Laid
     later = pieces true layout s start end
