@@ -53,7 +53,7 @@ rdataText s type start size = hexed (start + size) (rdataAt true s type start si
 -- a record by its owner's form and what the code reads of it before RDATA
 unfoldable pub ordinaryText : List ℕ → List ℕ → Head → Entry (List ℕ)
 ordinaryText s form h =
-    and-then (texts (λ t. fieldsText form (h .kind) (h .class) (h .ttl) ++ t) (rdataText s (h .kind) (h .rdata) (h .length))) (λ next. entry (ascii "}") next)
+    and-then (texts (λ t. fieldsText form (h .kind) (h .class) (h .ttl) ++ t) (rdataText s (h .kind) (h .rdata) (h .rdlength))) (λ next. entry (ascii "}") next)
 
 -- the header's RCODE
 abbrev pub rcodeOf : List ℕ → ℕ
@@ -61,7 +61,7 @@ rcodeOf s = getD s 3 0 % 16
 
 -- RDATA as it stands
 abbrev pub rdataOf : List ℕ → Head → List ℕ
-rdataOf s h = part s (h .rdata) (h .rdata + h .length - h .rdata)
+rdataOf s h = part s (h .rdata) (h .rdata + h .rdlength - h .rdata)
 
 -- it shows as an EDNS element
 unfoldable pub shows? : List ℕ → Head → Bool → Bool

@@ -50,7 +50,7 @@ does-around p (wrote q) v = wrote (then (then p q) v)
 fails-around : {e : Entry (List ℕ)} (t u : List ℕ) {b b₁ b₂ b₃ : List ℕ} {to n₁ : ℕ} → Does e b₁ n₁ b₂ Faulty → Does (around t u e) b to b₃ Faulty
 fails-around t u fails = fails
 
-module _ (s form : List ℕ) (h : Head) {b b₁ b₂ : List ℕ} {to n₁ : ℕ} {w : Went} (d : Does (rdataText s (h .kind) (h .rdata) (h .length)) b₁ n₁ b₂ w) where
+module _ (s form : List ℕ) (h : Head) {b b₁ b₂ : List ℕ} {to n₁ : ℕ} {w : Went} (d : Does (rdataText s (h .kind) (h .rdata) (h .rdlength)) b₁ n₁ b₂ w) where
   pub ordinary-does : {b₃ : List ℕ} {n₂ n₃ next : ℕ} → Wrote b to (fieldsText form (h .kind) (h .class) (h .ttl)) b₁ n₁ → w ≡ To next n₂ → Wrote b₂ n₂ (125 ∷ []) b₃ n₃
       → Does (ordinaryText s form h) b to b₃ (To next n₃)
   unfolding ordinaryText
@@ -67,13 +67,13 @@ record-parts r h =
     ap (λ (t : List ℕ). t ++ ascii ",\"TTL\":" ++ signedText (signed (r .ttl)) ++ ascii ",\"RDATAHEX\":\"" ++ hexText (r .rdata) ++ ascii "}") (front-text (r .name) (r .type) (r .class) h)
 
 ordinary-text : (s : List ℕ) (k : HeadOf) → Sized (k .name)
-    → ordinaryText s (nameForm (k .name)) (headRead k) ≡ texts (λ (r : Record). recordText (recordItem r)) (with-rdata s (entry k (k .rdata + k .length)))
+    → ordinaryText s (nameForm (k .name)) (headRead k) ≡ texts (λ (r : Record). recordText (recordItem r)) (with-rdata s (entry k (k .rdata + k .rdlength)))
 unfolding ordinaryText rdataText
-ordinary-text s k h = go (rdataAt true s (k .type) (k .rdata) (k .length))
+ordinary-text s k h = go (rdataAt true s (k .type) (k .rdata) (k .rdlength))
   where
-    go : (w : layout.Laid) → around (fieldsText (nameForm (k .name)) (k .type) (k .class) (k .ttl)) (ascii "}") (hexed (k .rdata + k .length) w)
-        ≡ texts (λ (r : Record). recordText (recordItem r)) (filled (withRdata k) (k .rdata + k .length) w)
-    go (laid d) = ap (λ (t : List ℕ). entry t (k .rdata + k .length)) (sym (record-parts (withRdata k d) h))
+    go : (w : layout.Laid) → around (fieldsText (nameForm (k .name)) (k .type) (k .class) (k .ttl)) (ascii "}") (hexed (k .rdata + k .rdlength) w)
+        ≡ texts (λ (r : Record). recordText (recordItem r)) (filled (withRdata k) (k .rdata + k .rdlength) w)
+    go (laid d) = ap (λ (t : List ℕ). entry t (k .rdata + k .rdlength)) (sym (record-parts (withRdata k d) h))
     go (misfit fault) = refl
 
 -- ---- a record as an element or as it is
@@ -112,11 +112,11 @@ root-form (l ∷ n) = ne-eqb _ 1 λ e. some-octet n e
 
 -- the record of a head, where RDATA is read
 module _ (s : List ℕ) (k : HeadOf) (lone : Bool) where
-  size-same : k .rdata + k .length - k .rdata ≡ k .length
+  size-same : k .rdata + k .rdlength - k .rdata ≡ k .rdlength
   size-same = omega arith
 
   -- what the code tests is what the definition tests
-  head-shows : (d : List ℕ) → rdataAt true s (k .type) (k .rdata) (k .length) ≡ laid d → shows? s (headRead k) lone ≡ shown? (rcodeOf s) lone (withRdata k d)
+  head-shows : (d : List ℕ) → rdataAt true s (k .type) (k .rdata) (k .rdlength) ≡ laid d → shows? s (headRead k) lone ≡ shown? (rcodeOf s) lone (withRdata k d)
   unfolding shows?
   head-shows d e = go lone (eqb (k .type) 41) refl
     where
@@ -124,21 +124,21 @@ module _ (s : List ℕ) (k : HeadOf) (lone : Bool) where
       go false t p = refl
       go true false p = rw p
       go true true p =
-          let f : rdataAt true s 41 (k .rdata) (k .length) ≡ laid d = subst (λ (n : ℕ). rdataAt true s n (k .rdata) (k .length) ≡ laid d) (eqb-true (k .type) 41 p) e in
-          let g : part s (k .rdata) (k .length) ≡ d = laid-octets (sym (opt-rdata s (k .rdata) (k .length)) ∙ f) in
+          let f : rdataAt true s 41 (k .rdata) (k .rdlength) ≡ laid d = subst (λ (n : ℕ). rdataAt true s n (k .rdata) (k .rdlength) ≡ laid d) (eqb-true (k .type) 41 p) e in
+          let g : part s (k .rdata) (k .rdlength) ≡ d = laid-octets (sym (opt-rdata s (k .rdata) (k .rdlength)) ∙ f) in
           rw (p, root-form (k .name), size-same, g)
 
   -- where it shows as no element, its text is that of the record as it is
-  as-is : (w : layout.Laid) → rdataAt true s (k .type) (k .rdata) (k .length) ≡ w → shows? s (headRead k) lone ≡ false
-      → texts (entryText (rcodeOf s) lone) (filled (withRdata k) (k .rdata + k .length) w) ≡ texts (λ (r : Record). recordText (recordItem r)) (filled (withRdata k) (k .rdata + k .length) w)
-  as-is (laid d) p q = ap (λ (t : List ℕ). entry t (k .rdata + k .length)) (entry-text (rcodeOf s) lone (withRdata k d) ∙ rw (← (head-shows d p), q))
+  as-is : (w : layout.Laid) → rdataAt true s (k .type) (k .rdata) (k .rdlength) ≡ w → shows? s (headRead k) lone ≡ false
+      → texts (entryText (rcodeOf s) lone) (filled (withRdata k) (k .rdata + k .rdlength) w) ≡ texts (λ (r : Record). recordText (recordItem r)) (filled (withRdata k) (k .rdata + k .rdlength) w)
+  as-is (laid d) p q = ap (λ (t : List ℕ). entry t (k .rdata + k .rdlength)) (entry-text (rcodeOf s) lone (withRdata k d) ∙ rw (← (head-shows d p), q))
   as-is (misfit fault) p q = refl
 
   -- where it shows as one, its text is the element's
-  as-element : (w : layout.Laid) → rdataAt true s (k .type) (k .rdata) (k .length) ≡ w → w ≡ laid (rdataOf s (headRead k)) → shows? s (headRead k) lone ≡ true
-      → texts (entryText (rcodeOf s) lone) (filled (withRdata k) (k .rdata + k .length) w) ≡ entry (elementText (k .class) (k .ttl) (rcodeOf s) (rdataOf s (headRead k))) (k .rdata + k .length)
+  as-element : (w : layout.Laid) → rdataAt true s (k .type) (k .rdata) (k .rdlength) ≡ w → w ≡ laid (rdataOf s (headRead k)) → shows? s (headRead k) lone ≡ true
+      → texts (entryText (rcodeOf s) lone) (filled (withRdata k) (k .rdata + k .rdlength) w) ≡ entry (elementText (k .class) (k .ttl) (rcodeOf s) (rdataOf s (headRead k))) (k .rdata + k .rdlength)
   as-element (laid d) p g q =
-      ap (λ (t : List ℕ). entry t (k .rdata + k .length))
+      ap (λ (t : List ℕ). entry t (k .rdata + k .rdlength))
       (entry-text (rcodeOf s) lone (withRdata k d) ∙ rw (← (head-shows d p), q) (ap (elementText (k .class) (k .ttl) (rcodeOf s)) (laid-octets g)))
   as-element (misfit fault) p g q = absurd (misfit≢laid g)
 
@@ -163,10 +163,10 @@ element-kind s h lone e =
     let p = both-true (lone && eqb (h .kind) 41) _ e .0 in
     eqb-true (h .kind) 41 (both-true lone (eqb (h .kind) 41) p .1)
 
-element-rdata : (s : List ℕ) (k : HeadOf) → k .type ≡ 41 → rdataAt true s (k .type) (k .rdata) (k .length) ≡ laid (rdataOf s (headRead k))
+element-rdata : (s : List ℕ) (k : HeadOf) → k .type ≡ 41 → rdataAt true s (k .type) (k .rdata) (k .rdlength) ≡ laid (rdataOf s (headRead k))
 element-rdata s k e =
-    let z : k .rdata + k .length - k .rdata ≡ k .length = omega arith in
-    ap (λ (n : ℕ). rdataAt true s n (k .rdata) (k .length)) e ∙ opt-rdata s (k .rdata) (k .length) ∙ ap (λ (n : ℕ). laid (part s (k .rdata) n)) (sym z)
+    let z : k .rdata + k .rdlength - k .rdata ≡ k .rdlength = omega arith in
+    ap (λ (n : ℕ). rdataAt true s n (k .rdata) (k .rdlength)) e ∙ opt-rdata s (k .rdata) (k .rdlength) ∙ ap (λ (n : ℕ). laid (part s (k .rdata) n)) (sym z)
 
 -- the test as the code makes it
 pub shows-many : (s : List ℕ) (h : Head) (lone : Bool) → not lone ≡ true → false ≡ shows? s h lone
@@ -188,11 +188,11 @@ shows-lone s h false e k c p = absurd (false≢true (sym e))
 -- ---- records
 -- the record's text by its head and RDATA
 record-text : (lone : Bool) (s : List ℕ) (at : ℕ) (k : HeadOf) (next : ℕ) → headAt s at ≡ entry k next
-    → recordTextAt lone s at ≡ texts (entryText (rcodeOf s) lone) (filled (withRdata k) (k .rdata + k .length) (rdataAt true s (k .type) (k .rdata) (k .length)))
+    → recordTextAt lone s at ≡ texts (entryText (rcodeOf s) lone) (filled (withRdata k) (k .rdata + k .rdlength) (rdataAt true s (k .type) (k .rdata) (k .rdlength)))
 unfolding recordTextAt
 record-text lone s at k next e =
     ap (texts (entryText (rcodeOf s) lone))
-    (record-head s at ∙ ap (with-rdata s) e ∙ ap (λ (i : ℕ). filled (withRdata k) i (rdataAt true s (k .type) (k .rdata) (k .length))) (head-next s at k next e))
+    (record-head s at ∙ ap (with-rdata s) e ∙ ap (λ (i : ℕ). filled (withRdata k) i (rdataAt true s (k .type) (k .rdata) (k .rdlength))) (head-next s at k next e))
 
 module _ (s : List ℕ) (at : ℕ) (lone : Bool) {r : RecordRead} (e : r ≡ recordRead (headAt s at)) where
   pub record-fails : {f : FaultRead} {b b′ : List ℕ} {to : ℕ} → r .answer ≡ record′.Faulty f → Does (recordTextAt lone s at) b to b′ Faulty
@@ -201,11 +201,11 @@ module _ (s : List ℕ) (at : ℕ) (lone : Bool) {r : RecordRead} (e : r ≡ rec
 
   module _ {h : Head} (p : r .answer ≡ record′.Read h) where
     pub record-element : {t : Bool} {rcode : ℕ} {b b′ : List ℕ} {to n : ℕ} → t ≡ shows? s h lone → t ≡ true → rcode ≡ rcodeOf s
-        → Wrote b to (elementText (h .class) (h .ttl) rcode (rdataOf s h)) b′ n → Does (recordTextAt lone s at) b to b′ (To (h .rdata + h .length) n)
+        → Wrote b to (elementText (h .class) (h .ttl) rcode (rdataOf s h)) b′ n → Does (recordTextAt lone s at) b to b′ (To (h .rdata + h .rdlength) n)
     record-element {b = b} {b′ = b′} {to = to} {n = n} x t c y = go (headed (headAt s at) e p) (sym x ∙ t) (rw c at y)
       where
         Given : Head → Type 0
-        Given c = shows? s c lone ≡ true → Wrote b to (elementText (c .class) (c .ttl) (rcodeOf s) (rdataOf s c)) b′ n → Does (recordTextAt lone s at) b to b′ (To (c .rdata + c .length) n)
+        Given c = shows? s c lone ≡ true → Wrote b to (elementText (c .class) (c .ttl) (rcodeOf s) (rdataOf s c)) b′ n → Does (recordTextAt lone s at) b to b′ (To (c .rdata + c .rdlength) n)
 
         go : (z : (k : HeadOf) × (next : ℕ) × (headAt s at ≡ entry k next) × (h ≡ headRead k) × (r .name ≡ padded (nameForm (k .name)))) → Given h
         go (k, next, u, v, l) =

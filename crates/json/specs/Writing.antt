@@ -103,7 +103,7 @@ head-sized s at h next e = begun-entry (λ (h : HeadOf). h .name) s (2 ∷ 2 ∷
     room n false fault k i a j p q = sym (ap (λ (h : HeadOf). h .name) (entry-value q)) ∙ p
 
     same : (n : Name) (i : ℕ) (a : HeadOf) (j : ℕ) → headed s n i ≡ entry a j → a .name ≡ n
-    same n i a j p = room n (ltb (length s) (i + 10 + twoAt s (i + 8))) (record { kind = cut; octet = i + 10 }) (record { name = n; type = twoAt s i; class = twoAt s (i + 2); ttl = fourAt s (i + 4); rdata = i + 10; length = twoAt s (i + 8) }) (i + 10 + twoAt s (i + 8)) a j refl p
+    same n i a j p = room n (ltb (length s) (i + 10 + twoAt s (i + 8))) (record { kind = cut; octet = i + 10 }) (record { name = n; type = twoAt s i; class = twoAt s (i + 2); ttl = fourAt s (i + 4); rdata = i + 10; rdlength = twoAt s (i + 8) }) (i + 10 + twoAt s (i + 8)) a j refl p
 
 -- ---- questions
 -- the texts that a question and a record begin with

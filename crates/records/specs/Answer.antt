@@ -52,7 +52,7 @@ Asks (question.Faulty fault) at end = Unit {0}
 
 -- ---- records without what is inside RDATA
 abbrev pub headRead : HeadOf → Head
-headRead h = record { size = length (nameForm (h .name)); kind = h .type; class = h .class; ttl = h .ttl; rdata = h .rdata; length = h .length }
+headRead h = record { size = length (nameForm (h .name)); kind = h .type; class = h .class; ttl = h .ttl; rdata = h .rdata; rdlength = h .rdlength }
 
 unfoldable pub recordRead : Entry HeadOf → RecordRead
 recordRead (entry h next) = record { answer = record′.Read (headRead h); name = padded (nameForm (h .name)) }
@@ -60,7 +60,7 @@ recordRead (bad fault) = record { answer = record′.Faulty (faultOf fault); nam
 
 abbrev pub Heads : Record → ℕ → ℕ → Type 0
 Heads (record′.Read h) at end =
-    (h .size ≤ 255) × (h .kind < 65536) × (h .class < 65536) × (at + 11 ≤ h .rdata) × (h .rdata + h .length ≤ end) × (h .length < 65536)
+    (h .size ≤ 255) × (h .kind < 65536) × (h .class < 65536) × (at + 11 ≤ h .rdata) × (h .rdata + h .rdlength ≤ end) × (h .rdlength < 65536)
 Heads (record′.Faulty fault) at end = Unit {0}
 
 -- ---- RDATA, piece by piece

@@ -54,7 +54,7 @@ pub record HeadOf : Type 0 where
   pub class : ℕ
   pub ttl : ℕ
   pub rdata : ℕ
-  pub length : ℕ
+  pub rdlength : ℕ
 
 -- the record of a head, with RDATA
 abbrev pub withRdata : HeadOf → List ℕ → Record
@@ -65,14 +65,14 @@ abbrev pub headed : List ℕ → Name → ℕ → Entry HeadOf
 headed s n next =
     let size = twoAt s (next + 8) in
     cond (ltb (length s) (next + 10 + size)) (past-end (next + 10))
-    (entry (record { name = n; type = twoAt s next; class = twoAt s (next + 2); ttl = fourAt s (next + 4); rdata = next + 10; length = size }) (next + 10 + size))
+    (entry (record { name = n; type = twoAt s next; class = twoAt s (next + 2); ttl = fourAt s (next + 4); rdata = next + 10; rdlength = size }) (next + 10 + size))
 
 unfoldable pub headAt : List ℕ → ℕ → Entry HeadOf
 headAt s at = with-name (begunAt s at (2 ∷ 2 ∷ 4 ∷ 2 ∷ [])) (headed s)
 
 -- a record's head, then its RDATA
 abbrev pub with-rdata : List ℕ → Entry HeadOf → Entry Record
-with-rdata s (entry h next) = filled (withRdata h) next (rdataAt true s (h .type) (h .rdata) (h .length))
+with-rdata s (entry h next) = filled (withRdata h) next (rdataAt true s (h .type) (h .rdata) (h .rdlength))
 with-rdata s (bad fault) = bad fault
 
 -- ---- RDATA as one list of pieces
@@ -119,7 +119,7 @@ record-head s at = begun-fields s (2 ∷ 2 ∷ 4 ∷ 2 ∷ []) read (nameAt s me
     room : (b : Bool) (n : Name) (next : ℕ)
         → cond b (past-end (next + 10)) (filled (made n next) (next + 10 + twoAt s (next + 8)) (inside n next))
         ≡ with-rdata s (cond b (past-end (next + 10))
-        (entry (record { name = n; type = twoAt s next; class = twoAt s (next + 2); ttl = fourAt s (next + 4); rdata = next + 10; length = twoAt s (next + 8) }) (next + 10 + twoAt s (next + 8))))
+        (entry (record { name = n; type = twoAt s next; class = twoAt s (next + 2); ttl = fourAt s (next + 4); rdata = next + 10; rdlength = twoAt s (next + 8) }) (next + 10 + twoAt s (next + 8))))
     room true n next = refl
     room false n next = refl
 
@@ -130,15 +130,15 @@ record-head s at = begun-fields s (2 ∷ 2 ∷ 4 ∷ 2 ∷ []) read (nameAt s me
     go (faulty fault) = refl
 
 -- a record ends behind its RDATA
-pub head-next : (s : List ℕ) (at : ℕ) (h : HeadOf) (next : ℕ) → headAt s at ≡ entry h next → next ≡ h .rdata + h .length
+pub head-next : (s : List ℕ) (at : ℕ) (h : HeadOf) (next : ℕ) → headAt s at ≡ entry h next → next ≡ h .rdata + h .rdlength
 unfolding headAt
 head-next s at h next e = go (begunAt s at (2 ∷ 2 ∷ 4 ∷ 2 ∷ [])) e
   where
-    room : (b : Bool) (i : ℕ) (k : HeadOf) → cond b (past-end i) (entry k (k .rdata + k .length)) ≡ entry h next → next ≡ h .rdata + h .length
+    room : (b : Bool) (i : ℕ) (k : HeadOf) → cond b (past-end i) (entry k (k .rdata + k .rdlength)) ≡ entry h next → next ≡ h .rdata + h .rdlength
     room true i k q = absurd (bad≢entry q)
-    room false i k q = sym (entry-next q) ∙ ap (λ (x : HeadOf). x .rdata + x .length) (entry-value q)
+    room false i k q = sym (entry-next q) ∙ ap (λ (x : HeadOf). x .rdata + x .rdlength) (entry-value q)
 
-    go : (w : Named) → with-name w (headed s) ≡ entry h next → next ≡ h .rdata + h .length
+    go : (w : Named) → with-name w (headed s) ≡ entry h next → next ≡ h .rdata + h .rdlength
     go (named n i) q = room (ltb (length s) (i + 10 + twoAt s (i + 8))) (i + 10) _ q
     go (faulty fault) q = absurd (bad≢entry q)
 

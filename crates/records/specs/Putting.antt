@@ -191,9 +191,9 @@ module _ (s : List ℕ) (at : ℕ) {r : QuestionRead} (e : r ≡ questionRead (q
 -- ---- records
 -- the record by its head and RDATA
 record-part : (s : List ℕ) (at : ℕ) (k : HeadOf) (next : ℕ) → headAt s at ≡ entry k next
-    → partAt true s at ≡ mapped recordPart (filled (withRdata k) (k .rdata + k .length) (rdataAt true s (k .type) (k .rdata) (k .length)))
+    → partAt true s at ≡ mapped recordPart (filled (withRdata k) (k .rdata + k .rdlength) (rdataAt true s (k .type) (k .rdata) (k .rdlength)))
 unfolding partAt
-record-part s at k next e = ap (mapped recordPart) (record-head s at ∙ ap (with-rdata s) e ∙ ap (λ (i : ℕ). filled (withRdata k) i (rdataAt true s (k .type) (k .rdata) (k .length))) (head-next s at k next e))
+record-part s at k next e = ap (mapped recordPart) (record-head s at ∙ ap (with-rdata s) e ∙ ap (λ (i : ℕ). filled (withRdata k) i (rdataAt true s (k .type) (k .rdata) (k .rdlength))) (head-next s at k next e))
 
 -- RDATA has a fault
 missed : {x : layout.Laid} {b b₂ b₃ : List ℕ} {to n₂ : ℕ} {f : FaultRead} (k : HeadOf) (i : ℕ) → Lays x b₂ n₂ b₃ (laying.Misfit f)
@@ -222,33 +222,33 @@ module _ (s : List ℕ) (at : ℕ) {r : RecordRead} (e : r ≡ recordRead (headA
 
   module _ {h : Head} (p : r .answer ≡ record′.Read h) {b b₂ : List ℕ} {to n₂ : ℕ} {w : Laid} where
     -- RDATA has a fault
-    pub record-misses : {b₃ : List ℕ} {f : FaultRead} → Lays (rdataAt true s (h .kind) (h .rdata) (h .length)) b₂ n₂ b₃ w → w ≡ laying.Misfit f
+    pub record-misses : {b₃ : List ℕ} {f : FaultRead} → Lays (rdataAt true s (h .kind) (h .rdata) (h .rdlength)) b₂ n₂ b₃ w → w ≡ laying.Misfit f
         → Puts (partAt true s at) b to b₃ (gone.Faulty f)
     record-misses {b₃} {f} d q = go (headed (headAt s at) e p) (rw q at d)
       where
         go : (x : (k : HeadOf) × (next : ℕ) × (headAt s at ≡ entry k next) × (h ≡ headRead k) × (r .name ≡ padded (nameForm (k .name))))
-            → Lays (rdataAt true s (h .kind) (h .rdata) (h .length)) b₂ n₂ b₃ (laying.Misfit f) → Puts (partAt true s at) b to b₃ (gone.Faulty f)
+            → Lays (rdataAt true s (h .kind) (h .rdata) (h .rdlength)) b₂ n₂ b₃ (laying.Misfit f) → Puts (partAt true s at) b to b₃ (gone.Faulty f)
         go (k, next, u, v, l) =
             rw (record-part s at k next u)
-            (subst (λ (c : Head). Lays (rdataAt true s (c .kind) (c .rdata) (c .length)) b₂ n₂ b₃ (laying.Misfit f)
-            → Puts (mapped recordPart (filled (withRdata k) (k .rdata + k .length) (rdataAt true s (k .type) (k .rdata) (k .length)))) b to b₃ (gone.Faulty f)) (sym v) (missed k (k .rdata + k .length)))
+            (subst (λ (c : Head). Lays (rdataAt true s (c .kind) (c .rdata) (c .rdlength)) b₂ n₂ b₃ (laying.Misfit f)
+            → Puts (mapped recordPart (filled (withRdata k) (k .rdata + k .rdlength) (rdataAt true s (k .type) (k .rdata) (k .rdlength)))) b to b₃ (gone.Faulty f)) (sym v) (missed k (k .rdata + k .rdlength)))
 
     -- all was written
     pub record-puts : {b₁ b₃ b₄ : List ℕ} {n₁ n₃ n₄ : ℕ} → Wrote b to (take (h .size - 0) (r .name) ++ two (h .kind) ++ two (h .class)) b₁ n₁ → Wrote b₁ n₁ (four (h .ttl)) b₂ n₂
-        → Lays (rdataAt true s (h .kind) (h .rdata) (h .length)) b₂ (n₂ + 2) b₃ w → w ≡ laying.To n₃ → Wrote b₃ n₂ (two (n₃ - (n₂ + 2))) b₄ n₄
-        → Puts (partAt true s at) b to b₄ (gone.To (h .rdata + h .length) n₃ (h .kind))
+        → Lays (rdataAt true s (h .kind) (h .rdata) (h .rdlength)) b₂ (n₂ + 2) b₃ w → w ≡ laying.To n₃ → Wrote b₃ n₂ (two (n₃ - (n₂ + 2))) b₄ n₄
+        → Puts (partAt true s at) b to b₄ (gone.To (h .rdata + h .rdlength) n₃ (h .kind))
     record-puts {b₁} {b₃} {b₄} {n₁} {n₃} {n₄} x y d q z = go (headed (headAt s at) e p) x y (rw q at d) z
       where
         Given : Head → Type 0
         Given c =
             Wrote b to (take (c .size - 0) (r .name) ++ two (c .kind) ++ two (c .class)) b₁ n₁ → Wrote b₁ n₁ (four (c .ttl)) b₂ n₂
-            → Lays (rdataAt true s (c .kind) (c .rdata) (c .length)) b₂ (n₂ + 2) b₃ (laying.To n₃) → Wrote b₃ n₂ (two (n₃ - (n₂ + 2))) b₄ n₄
-            → Puts (partAt true s at) b to b₄ (gone.To (c .rdata + c .length) n₃ (c .kind))
+            → Lays (rdataAt true s (c .kind) (c .rdata) (c .rdlength)) b₂ (n₂ + 2) b₃ (laying.To n₃) → Wrote b₃ n₂ (two (n₃ - (n₂ + 2))) b₄ n₄
+            → Puts (partAt true s at) b to b₄ (gone.To (c .rdata + c .rdlength) n₃ (c .kind))
 
         go : (x : (k : HeadOf) × (next : ℕ) × (headAt s at ≡ entry k next) × (h ≡ headRead k) × (r .name ≡ padded (nameForm (k .name)))) → Given h
         go (k, next, u, v, l) =
             subst Given (sym v) (rw (record-part s at k next u) λ x y d z.
-            placed k (k .rdata + k .length) (rw (form-part (nameForm (k .name)) (r .name) (length (nameForm (k .name))) refl l) at x) y d z)
+            placed k (k .rdata + k .rdlength) (rw (form-part (nameForm (k .name)) (r .name) (length (nameForm (k .name))) refl l) at x) y d z)
 
 -- the bounds of an answer
 pub asks-within : (x : QuestionAnswer) (at : ℕ) {end : ℕ} {a : Asked} → Asks x at end → x ≡ question.Read a
@@ -256,7 +256,7 @@ pub asks-within : (x : QuestionAnswer) (at : ℕ) {end : ℕ} {a : Asked} → As
 asks-within x at {end} h e = subst (λ (y : QuestionAnswer). Asks y at end) e h
 
 pub heads-within : (x : RecordAnswer) (at : ℕ) {end : ℕ} {a : Head} → Heads x at end → x ≡ record′.Read a
-    → (a .size ≤ 255) × (a .kind < 65536) × (a .class < 65536) × (at + 11 ≤ a .rdata) × (a .rdata + a .length ≤ end) × (a .length < 65536)
+    → (a .size ≤ 255) × (a .kind < 65536) × (a .class < 65536) × (at + 11 ≤ a .rdata) × (a .rdata + a .rdlength ≤ end) × (a .rdlength < 65536)
 heads-within x at {end} h e = subst (λ (y : RecordAnswer). Heads y at end) e h
 
 pub laying-within : (x : Laid) {to most r : ℕ} → Laying x to most → x ≡ laying.To r → (r ≤ most) × (to ≤ r) × (r ≤ to + 65535)

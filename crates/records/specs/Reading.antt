@@ -169,20 +169,20 @@ module _ (s : List ℕ) (at : ℕ) {r : NameRead} (e : r ≡ nameRead (begunAt s
           → record { answer = record′.Faulty f; name = r .octets } ≡ recordRead (headAt s at)
       go (fault, q, a, b) = rw (q, a, b)
 
-  module _ {next size : ℕ} (p : r .answer ≡ Read next size) {length′ : ℕ} (l : length′ ≡ twoAt s (next + 8)) where
-    pub head-cut : length s < next + 10 + length′ → record { answer = record′.Faulty (Cut (next + 10)); name = replicate 255 0 } ≡ recordRead (headAt s at)
+  module _ {next size : ℕ} (p : r .answer ≡ Read next size) {rdlength : ℕ} (l : rdlength ≡ twoAt s (next + 8)) where
+    pub head-cut : length s < next + 10 + rdlength → record { answer = record′.Faulty (Cut (next + 10)); name = replicate 255 0 } ≡ recordRead (headAt s at)
     unfolding recordRead headAt
     head-cut h =
         let (n, q, a, b) = name-read (begunAt s at (2 ∷ 2 ∷ 4 ∷ 2 ∷ [])) e p in
-        rw (q, ← l, lt-ltb (length s) (next + 10 + length′) h)
+        rw (q, ← l, lt-ltb (length s) (next + 10 + rdlength) h)
 
-    pub head-whole : {kind class ttl : ℕ} → next + 10 + length′ ≤ length s → kind ≡ twoAt s next → class ≡ twoAt s (next + 2) → ttl ≡ fourAt s (next + 4)
-        → record { answer = record′.Read (record { size = size; kind = kind; class = class; ttl = ttl; rdata = next + 10; length = length′ }); name = r .octets }
+    pub head-whole : {kind class ttl : ℕ} → next + 10 + rdlength ≤ length s → kind ≡ twoAt s next → class ≡ twoAt s (next + 2) → ttl ≡ fourAt s (next + 4)
+        → record { answer = record′.Read (record { size = size; kind = kind; class = class; ttl = ttl; rdata = next + 10; rdlength = rdlength }); name = r .octets }
         ≡ recordRead (headAt s at)
     unfolding recordRead headAt
     head-whole {kind} {class} {ttl} h k c t = go (name-read (begunAt s at (2 ∷ 2 ∷ 4 ∷ 2 ∷ [])) e p)
       where
         go : (x : (n : Name) × (begunAt s at (2 ∷ 2 ∷ 4 ∷ 2 ∷ []) ≡ named n next) × (size ≡ length (nameForm n)) × (r .octets ≡ padded (nameForm n)))
-            → record { answer = record′.Read (record { size = size; kind = kind; class = class; ttl = ttl; rdata = next + 10; length = length′ }); name = r .octets }
+            → record { answer = record′.Read (record { size = size; kind = kind; class = class; ttl = ttl; rdata = next + 10; rdlength = rdlength }); name = r .octets }
             ≡ recordRead (headAt s at)
-        go (n, q, a, b) = rw (q, a, b, k, c, t, ← l, le-ltb (length s) (next + 10 + length′) h)
+        go (n, q, a, b) = rw (q, a, b, k, c, t, ← l, le-ltb (length s) (next + 10 + rdlength) h)

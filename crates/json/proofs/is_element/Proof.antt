@@ -33,7 +33,7 @@ part-is-edns-end c = search needs
 is-edns-requires : tie.Need-is-edns-requires
 is-edns-requires c κs =
     let m = c .before .before .before .before .before .before .before .before in
-    (c .before .before .before .rcode-of .ensures .1, omega (arith, part-short (m .args .head .rdata + m .args .head .length - m .args .head .rdata) (drop (m .args .head .rdata) (m .args .s .now)) 65535 (omega (arith, m .pre))))
+    (c .before .before .before .rcode-of .ensures .1, omega (arith, part-short (m .args .head .rdata + m .args .head .rdlength - m .args .head .rdata) (drop (m .args .head .rdata) (m .args .s .now)) 65535 (omega (arith, m .pre))))
 
 returns-3 : tie.Need-returns-3
 returns-3 c =

@@ -56,7 +56,7 @@ put-edns-requires c κs =
     let h = m .answer .given .0 .0 in (
       search needs,
       c .before .before .before .rcode-of .ensures .1,
-      omega (arith, part-short (h .rdata + h .length - h .rdata) (drop (h .rdata) (m .before .before .before .before .before .before .args .s .now)) 65535 (omega arith)),
+      omega (arith, part-short (h .rdata + h .rdlength - h .rdata) (drop (h .rdata) (m .before .before .before .before .before .before .args .s .now)) 65535 (omega arith)),
       element-shows _ _ _ (c .before .before .before .before .before .is-element .ensures) (c .before .before .before .before .if1 .taken) (c .before .before .before .rcode-of .ensures .0),
     )
 
@@ -69,7 +69,7 @@ returns-2 c =
     let j = m .before .before .before in
     let k = heads-within _ (j .before .before .before .args .at) (j .head-at .ensures .1) (m .answer .given .1) in
     let h = m .answer .given .0 .0 in
-    let l = part-short (h .rdata + h .length - h .rdata) (drop (h .rdata) (j .before .before .before .args .s .now)) (h .length) (omega arith) in (
+    let l = part-short (h .rdata + h .rdlength - h .rdata) (drop (h .rdata) (j .before .before .before .args .s .now)) (h .rdlength) (omega arith) in (
       record-element _ _ _ (j .head-at .ensures .0) (m .answer .given .1) (c .before .before .before .before .before .before .before .before .is-element .ensures) (c .before .before .before .before .before .before .before .if1 .taken) (c .before .before .before .before .before .before .rcode-of .ensures .0) (c .before .before .put-edns .ensures .0),
       (omega arith, omega arith, omega (arith, c .before .before .put-edns .ensures .1)),
     )
@@ -99,7 +99,7 @@ returns-3 c =
     let k = heads-within _ (j .args .at) (m .before .before .before .head-at .ensures .1) (m .answer .given .1) in
     let h = m .answer .given .0 .0 in (
       record-ordinary _ _ _ (m .before .before .before .head-at .ensures .0) (m .answer .given .1) (c .before .before .before .before .before .before .before .is-element .ensures) (c .before .before .before .before .before .before .if1 .left) (c .before .before .put-ordinary .ensures .0),
-      ends-within (c .before .before .put-ordinary .result) (j .args .at) (j .args .to) (h .rdata) (h .length) _ (c .before .before .put-ordinary .ensures .1) (k .3) (k .4),
+      ends-within (c .before .before .put-ordinary .result) (j .args .at) (j .args .to) (h .rdata) (h .rdlength) _ (c .before .before .put-ordinary .ensures .1) (k .3) (k .4),
     )
 
 pub put-record-spec : {M : Type 1} → statement M
