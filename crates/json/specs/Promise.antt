@@ -16,8 +16,8 @@ use Rattle.records.specs.Message.{Message, form, opt?}
 use Rattle.records.specs.Read.{Entry, entry, bad}
 use Rattle.records.specs.Decode.{Decoded, accepted, refused, decode}
 use Rattle.records.specs.MessageLaws.{decode-back, decode-valid}
-use Rattle.records.specs.Uncompressed.{scanOf, Uncompressed}
-use Rattle.records.specs.declared.Scan.{Scan}
+use Rattle.forms.specs.Uncompressed.{scanOf, Uncompressed}
+use Rattle.forms.specs.declared.Scan.{Scan}
 use Rattle.json.specs.Text.{text}
 use Rattle.json.specs.Converted.{converted, toText}
 use Rattle.json.specs.Elements.{wholeText}

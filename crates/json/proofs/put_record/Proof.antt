@@ -4,7 +4,7 @@ use Prim.Native.Nat.{_+_, _-_}
 use native.Mathlib.Omega.{arith}
 use borrow.Author.Needs.{needs}
 use lib.ListN.{drop}
-use Rattle.records.specs.Putting.{heads-within, record-room}
+use Rattle.records.specs.Told.{heads-within, record-room}
 use Rattle.json.specs.Does.{ends-within}
 use Rattle.json.specs.Showing.{record-fails, record-element, record-ordinary, element-shows}
 use Rattle.json.specs.Writing.{part-short}
