@@ -18,7 +18,8 @@ use Rattle.names.specs.declared.Fault.{Fault as FaultRead}
 use Rattle.records.specs.Message.{questionForm, recordForm, headerForm, form, opt?}
 use Rattle.records.specs.Read.{Entry, entry, bad, questionAt, recordAt, Reached, reached, stopped, sectionAt, sectionFrom}
 use Rattle.records.specs.Decode.{headerOf, zOf, sectionsOf, messageOf, Decoded, accepted, refused, decode}
-use Rattle.records.specs.MessageLaws.{section-step, section-stop, section-count, from-count, from-reached}
+use Rattle.records.specs.MessageLaws.{section-step, section-stop}
+use Rattle.records.specs.Kept.{header-same}
 use Rattle.forms.specs.Putting.{Part, mapped, questionPart, recordPart, partAt, Run, ran, halted, after, turned, sectionRun, Runs, runs, halts, joined, chained, messageRun}
 use Rattle.forms.specs.declared.Came.{Came}
 use Rattle.forms.specs.declared.Came.the-variants as came
@@ -120,74 +121,6 @@ module _ (s : List ℕ) where
       ∙ ap (joined (each recordForm (a .entries)))
       (from-chained (twoAt s 8) (a .end) f₄
       ∙ ap (joined (each recordForm (n .entries))) (from-run (twoAt s 10) (n .end)))))
-
--- ---- the header's octets
-first-twelve : (s : List ℕ) → 12 ≤ length s
-    → take 12 s ≡ getD s 0 0 ∷ getD s 1 0 ∷ getD s 2 0 ∷ getD s 3 0 ∷ getD s 4 0 ∷ getD s 5 0 ∷ getD s 6 0 ∷ getD s 7 0 ∷ getD s 8 0 ∷ getD s 9 0 ∷ getD s 10 0 ∷ getD s 11 0 ∷ []
-first-twelve s h =
-    rw (
-      take-suc s 11 0 (omega arith),
-      take-suc s 10 0 (omega arith),
-      take-suc s 9 0 (omega arith),
-      take-suc s 8 0 (omega arith),
-      take-suc s 7 0 (omega arith),
-      take-suc s 6 0 (omega arith),
-      take-suc s 5 0 (omega arith),
-      take-suc s 4 0 (omega arith),
-      take-suc s 3 0 (omega arith),
-      take-suc s 2 0 (omega arith),
-      take-suc s 1 0 (omega arith),
-      take-suc s 0 0 (omega arith),
-    )
-
--- in sections that are read to their end the counts are the header's
-sections-count : (s : List ℕ) (i : ℕ) → sectionsOf s .additional .end ≡ reached i
-    → (length (sectionsOf s .questions .entries) ≡ twoAt s 4) × (length (sectionsOf s .answers .entries) ≡ twoAt s 6)
-    × (length (sectionsOf s .authority .entries) ≡ twoAt s 8) × (length (sectionsOf s .additional .entries) ≡ twoAt s 10)
-unfolding sectionsOf
-sections-count s i e =
-    let f₁ = sectionAt questionAt s (twoAt s 4) 12 in
-    let f₂ = sectionFrom recordAt s (twoAt s 6) (f₁ .end) in
-    let f₃ = sectionFrom recordAt s (twoAt s 8) (f₂ .end) in
-    let (i₃, p₃, g₄) = from-reached recordAt s (twoAt s 10) (f₃ .end) i e in
-    let (i₂, p₂, g₃) = from-reached recordAt s (twoAt s 8) (f₂ .end) i₃ p₃ in
-    let (i₁, p₁, g₂) = from-reached recordAt s (twoAt s 6) (f₁ .end) i₂ p₂ in
-    (section-count questionAt s (twoAt s 4) 12 i₁ p₁, from-count recordAt s (twoAt s 6) (f₁ .end) i₂ p₂, from-count recordAt s (twoAt s 8) (f₂ .end) i₃ p₃, from-count recordAt s (twoAt s 10) (f₃ .end) i e)
-
--- the flags' octets from their bits
-high-bits : (x : ℕ) → x / 128 * 128 + x / 8 % 16 * 8 + x / 4 % 2 * 4 + x / 2 % 2 * 2 + x % 2 ≡ x
-high-bits x =
-    let a : x / 4 ≡ x / 2 / 2 = omega arith in
-    let b : x / 8 ≡ x / 4 / 2 = omega arith in
-    let c : x / 128 ≡ x / 8 / 16 = omega arith in
-    let p : x / 8 % 16 * 8 + x / 128 * 128 ≡ x / 8 * 8 = omega arith in
-    let q : x / 4 % 2 * 4 + x / 8 * 8 ≡ x / 4 * 4 = omega arith in
-    let r : x / 2 % 2 * 2 + x / 4 * 4 ≡ x / 2 * 2 = omega arith in
-    omega arith
-
-low-bits : (x : ℕ) → x / 64 % 2 ≡ 0 → x / 128 * 128 + x / 32 % 2 * 32 + x / 16 % 2 * 16 + x % 16 ≡ x
-low-bits x z =
-    let a : x / 32 ≡ x / 16 / 2 = omega arith in
-    let b : x / 64 ≡ x / 32 / 2 = omega arith in
-    let c : x / 128 ≡ x / 64 / 2 = omega arith in
-    let p : x / 128 * 128 ≡ x / 64 * 64 = omega arith in
-    let q : x / 32 % 2 * 32 + x / 64 * 64 ≡ x / 32 * 32 = omega arith in
-    let r : x / 16 % 2 * 16 + x / 32 * 32 ≡ x / 16 * 16 = omega arith in
-    omega arith
-
--- the first 12 octets of the form are the message's: Z is clear and the counts are those of the sections
-header-same : (s : List ℕ) (i : ℕ) → ((j : ℕ) → getD s j 0 < 256) → 12 ≤ length s → (zOf s ≡ 1 → ⊥) → sectionsOf s .additional .end ≡ reached i → headerForm (messageOf s) ≡ take 12 s
-unfolding headerForm messageOf headerOf
-header-same s i o h z e =
-    let c = sections-count s i e in
-    let clear : getD s 3 0 / 64 % 2 ≡ 0 = omega arith in
-    ap₂ (λ (x y : List ℕ). x ++ y) (ap₂ (λ (x y : List ℕ). x ++ y) (ap₂ (λ (x y : List ℕ). x ++ y) (ap₂ (λ (x y : List ℕ). x ++ y) (ap₂ (λ (x y : List ℕ). x ++ y)
-    (two-same (getD s 0 0) (getD s 1 0) (o 0) (o 1)) (ap₂ (λ (x y : ℕ). x ∷ y ∷ []) (high-bits (getD s 2 0)) (low-bits (getD s 3 0) clear)))
-    (ap two (c .0) ∙ two-same (getD s 4 0) (getD s 5 0) (o 4) (o 5)))
-    (ap two (c .1) ∙ two-same (getD s 6 0) (getD s 7 0) (o 6) (o 7)))
-    (ap two (c .2) ∙ two-same (getD s 8 0) (getD s 9 0) (o 8) (o 9)))
-    (ap two (c .3) ∙ two-same (getD s 10 0) (getD s 11 0) (o 10) (o 11))
-    ∙ sym (first-twelve s h)
 
 -- ---- the answer by the run
 -- the parts of a run

@@ -344,6 +344,14 @@ pub read-form : (s : List ℕ) (limit : Limit) (at : ℕ) (n : Name) (next : ℕ
 unfolding nameFrom
 read-form s limit at n next h e = walk-whole s (suc (0 + 255)) limit 0 0 at n next e h refl
 
+-- a name that is read where no pointer is taken is read so wherever a pointer may go
+pub read-plain : (s : List ℕ) (limit : Limit) (run at : ℕ) (n : Name) (next : ℕ) → endOf s limit ≤ length s
+    → nameFrom s limit 0 at ≡ named n next → nameFrom s limit run at ≡ named n next
+read-plain s limit run at n next h e =
+    let (own, place) = read-form s limit at n next h e in
+    let w = read-sized s limit 0 at n next h e in
+    read-back-sized s (drop next s) limit run at n (w .0) (w .1) own (omega (arith, w .3)) ∙ ap (named n) (sym place)
+
 -- ---- the bound on steps is never met
 -- two choices by one test are equal if they are equal each way
 cond-same : (b : Bool) (x x′ y y′ : Named) → (b ≡ true → x ≡ x′) → (b ≡ false → y ≡ y′) → cond b x y ≡ cond b x′ y′

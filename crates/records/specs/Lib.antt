@@ -7,6 +7,7 @@ pub mod RecordLaws
 pub mod MessageLaws
 pub mod Boundaries
 pub mod Parts
+pub mod Kept
 pub mod Answer
 pub mod Reading
 pub mod Pieces

@@ -131,7 +131,7 @@ pieces-octets jumps (name ∷ layout) s start end at d o h e =
     rw r (All-append (λ x. x < 256) (nameForm labels) m (N.form-octets labels (w .0)) (pieces-octets jumps layout s start end next m o h q))
 
 -- octets of a layout are read as themselves wherever they stand
-pieces-same : (jumps : Bool) (layout : List Piece) (s r : List ℕ) (start end at : ℕ) (d : List ℕ) → Fills layout d → drop at s ≡ d ++ r → at + length d ≡ end
+pub pieces-same : (jumps : Bool) (layout : List Piece) (s r : List ℕ) (start end at : ℕ) (d : List ℕ) → Fills layout d → drop at s ≡ d ++ r → at + length d ≡ end
     → pieces jumps layout s start end at ≡ laid d
 unfolding pieces
 pieces-same jumps [] s r start end at d f e h =
@@ -154,7 +154,7 @@ pieces-same jumps (name ∷ layout) s r start end at d (m, b, z, k, g, q) e h =
     ∙ ap laid (sym q)
 
 -- with no pointer allowed, what is read is what stands there
-pieces-whole : (layout : List Piece) (s : List ℕ) (start end at : ℕ) (d : List ℕ) → end ≤ length s → at ≤ end
+pub pieces-whole : (layout : List Piece) (s : List ℕ) (start end at : ℕ) (d : List ℕ) → end ≤ length s → at ≤ end
     → pieces false layout s start end at ≡ laid d → drop at s ≡ d ++ drop end s
 pieces-whole [] s start end at d h k e =
     let (p, q) = end-back false s start end at d e in
@@ -256,7 +256,7 @@ fields-fit s at [] h = refl
 fields-fit s at (width ∷ widths) h = rw (le-leb (at + width) (length s) (omega arith)) (fields-fit s (at + width) widths (omega arith))
 
 -- fields that fit end within the message
-fields-room : (s : List ℕ) (at : ℕ) (widths : List ℕ) → at ≤ length s → unfit s at widths ≡ none → at + sum widths ≤ length s
+pub fields-room : (s : List ℕ) (at : ℕ) (widths : List ℕ) → at ≤ length s → unfit s at widths ≡ none → at + sum widths ≤ length s
 unfolding unfit
 fields-room s at [] h e = omega arith
 fields-room s at (width ∷ widths) h e = let k = go (leb (at + width) (length s)) refl (fields-room s (at + width) widths) e in omega arith
@@ -296,13 +296,13 @@ module _ {A : Type 0} where
   entry-next e = ap behind e
 
   -- what stands behind a name that was read, and behind fields that fit
-  with-name-back : (w : Named) (f : Name → ℕ → Entry A) (a : A) (i : ℕ) → with-name w f ≡ entry a i
+  pub with-name-back : (w : Named) (f : Name → ℕ → Entry A) (a : A) (i : ℕ) → with-name w f ≡ entry a i
       → (n : Name) × (next : ℕ) × (w ≡ named n next) × (f n next ≡ entry a i)
   with-name-back (named n next) f a i e = (n, next, refl, e)
   with-name-back (faulty fault) f a i e = absurd (bad≢entry e)
 
   -- fields before an entry that was read fit
-  with-fields-back : (o : Option ℕ) (w : Entry A) (a : A) (i : ℕ) → with-fields o w ≡ entry a i → (o ≡ none) × (w ≡ entry a i)
+  pub with-fields-back : (o : Option ℕ) (w : Entry A) (a : A) (i : ℕ) → with-fields o w ≡ entry a i → (o ≡ none) × (w ≡ entry a i)
   with-fields-back none w a i e = (refl, e)
   with-fields-back (some at) w a i e = absurd (bad≢entry e)
 
@@ -459,12 +459,12 @@ filled f next (laid d) = entry (f d) next
 filled f next (misfit fault) = bad fault
 
 -- a record that was read has RDATA that was read
-filled-back : (f : List ℕ → Record) (next : ℕ) (w : Laid) (q : Record) (i : ℕ) → filled f next w ≡ entry q i → (d : List ℕ) × (w ≡ laid d) × (f d ≡ q) × (next ≡ i)
+pub filled-back : (f : List ℕ → Record) (next : ℕ) (w : Laid) (q : Record) (i : ℕ) → filled f next w ≡ entry q i → (d : List ℕ) × (w ≡ laid d) × (f d ≡ q) × (next ≡ i)
 filled-back f next (laid d) q i e = (d, refl, entry-value e, entry-next e)
 filled-back f next (misfit fault) q i e = absurd (bad≢entry e)
 
 -- RDATA of a record that was read lies within the message
-room-back : (s : List ℕ) (next : ℕ) (fault : Fault) (w : Entry Record) (q : Record) (i : ℕ) → cond (ltb (length s) next) (bad fault) w ≡ entry q i → (next ≤ length s) × (w ≡ entry q i)
+pub room-back : (s : List ℕ) (next : ℕ) (fault : Fault) (w : Entry Record) (q : Record) (i : ℕ) → cond (ltb (length s) next) (bad fault) w ≡ entry q i → (next ≤ length s) × (w ≡ entry q i)
 room-back s next fault w q i = go (ltb (length s) next) refl
   where
     go : (b : Bool) → ltb (length s) next ≡ b → cond b (bad fault) w ≡ entry q i → (next ≤ length s) × (w ≡ entry q i)
