@@ -17,8 +17,8 @@ use Rattle.names.specs.declared.Fault.{Fault as FaultRead}
 use Rattle.records.specs.Layout.{Piece, fixed, name, laid, misfit, before, pieces, rdataAt}
 use Rattle.records.specs.Layout as layout
 use Rattle.records.specs.Message.{Question, Record, questionForm, recordForm}
-use Rattle.records.specs.Read.{Entry, entry, bad, questionAt, recordAt}
-use Rattle.records.specs.RecordLaws.{Fills, pieces-fill, filled}
+use Rattle.records.specs.Read.{Entry, entry, bad, filled, questionAt, recordAt}
+use Rattle.records.specs.RecordLaws.{Fills, pieces-fill}
 use Rattle.records.specs.Parts.{HeadOf, headAt, withRdata, with-rdata, record-head, head-next, layoutIn, rdata-pieces, stepAt}
 use Rattle.records.specs.Answer.{padded, askedOf, questionRead, Asks, headRead, recordRead, Heads, stepRead}
 use Rattle.records.specs.Pieces.{breadth, layout-small}

@@ -18,8 +18,8 @@ use Rattle.names.specs.declared.Fault.{Fault as FaultRead}
 use Rattle.records.specs.Layout.{laid, misfit, layouts, layoutOf, rdataAt}
 use Rattle.records.specs.Layout as layout
 use Rattle.records.specs.Message.{Record, opt?}
-use Rattle.records.specs.Read.{Entry, entry}
-use Rattle.records.specs.RecordLaws.{laid-octets, misfit≢laid, filled}
+use Rattle.records.specs.Read.{Entry, entry, filled}
+use Rattle.records.specs.RecordLaws.{laid-octets, misfit≢laid}
 use Rattle.records.specs.Parts.{HeadOf, headAt, withRdata, with-rdata, record-head, head-next}
 use Rattle.records.specs.Answer.{padded, headRead, recordRead}
 use Rattle.records.specs.Told.{form-part, headed}

@@ -22,7 +22,7 @@ use Rattle.names.specs.declared.Fault.{Fault as FaultRead}
 use Rattle.records.specs.Layout.{Piece, laid, misfit, before, pieces}
 use Rattle.records.specs.Layout as layout
 use Rattle.records.specs.Message.{Question}
-use Rattle.records.specs.Read.{Entry, entry, bad, with-name, unfit, questionAt}
+use Rattle.records.specs.Read.{Entry, entry, bad, with-name, firstCut, questionAt}
 use Rattle.records.specs.RecordLaws.{bad≢entry, entry-value}
 use Rattle.records.specs.Parts.{fitted, begun, begunAt, question-begun, HeadOf, headAt, headed, layoutIn, rdata-pieces, stepAt}
 use Rattle.records.specs.Answer.{padded, askedOf, questionRead, stepRead}
@@ -78,7 +78,7 @@ begun-sized s widths at n next e = go (nameAt s message at) refl e
     fit m i (some x) q = absurd (faulty≢named q)
 
     go : (w : Named) → nameAt s message at ≡ w → begun s widths w ≡ named n next → Sized n
-    go (named m i) p q = subst Sized (fit m i (unfit s i widths) q) (read-sized s message at at m i (omega arith) p .0)
+    go (named m i) p q = subst Sized (fit m i (firstCut s i widths) q) (read-sized s message at at m i (omega arith) p .0)
     go (faulty f) p q = absurd (faulty≢named q)
 
 -- so has what begins with one

@@ -9,7 +9,7 @@ use Rattle.names.specs.Name.{nameForm}
 use Rattle.names.specs.Walk.{walk, nameFrom}
 use Rattle.records.specs.Layout.{layouts, layoutOf, pieces, rdataAt}
 use Rattle.records.specs.Message.{Header, questionForm, recordForm, headerForm, form}
-use Rattle.records.specs.Read.{unfit, questionAt, recordAt, sectionAt, sectionFrom}
+use Rattle.records.specs.Read.{firstCut, questionAt, recordAt, sectionAt, sectionFrom}
 use Rattle.records.specs.Decode.{headerOf, sectionsOf, messageOf, Decoded, accepted, refused, decode}
 
 -- accepted, or the refusal's number and place
@@ -119,7 +119,7 @@ boundaries =
 
 -- every row, computed
 pub boundaries-hold : map (λ (b : Boundary). verdict (decode (b .message))) boundaries ≡ map (λ (b : Boundary). b .gives) boundaries
-unfolding boundaries lookup nameForm walk nameFrom layouts layoutOf pieces rdataAt questionForm recordForm each headerForm form unfit questionAt recordAt sectionAt sectionFrom headerOf sectionsOf messageOf decode
+unfolding boundaries lookup nameForm walk nameFrom layouts layoutOf pieces rdataAt questionForm recordForm each headerForm form firstCut questionAt recordAt sectionAt sectionFrom headerOf sectionsOf messageOf decode
 boundaries-hold = refl
 
 -- RDATA of two root octets: one too many for one name, too few for SOA and MX, just MINFO's; carried for a TYPE that is
@@ -130,7 +130,7 @@ types =
     ++ map (λ (type : ℕ). (type, refuses 7 12)) (2 ∷ 3 ∷ 4 ∷ 5 ∷ 6 ∷ 7 ∷ 8 ∷ 9 ∷ 12 ∷ 15 ∷ [])
 
 pub types-hold : map (λ (t : ℕ × Verdict). verdict (decode (answers (t .0) 2 (hexed "0000")))) types ≡ map (λ (t : ℕ × Verdict). t .1) types
-unfolding types lookup nameForm walk nameFrom layouts layoutOf pieces rdataAt questionForm recordForm each headerForm form unfit questionAt recordAt sectionAt sectionFrom headerOf sectionsOf messageOf decode
+unfolding types lookup nameForm walk nameFrom layouts layoutOf pieces rdataAt questionForm recordForm each headerForm form firstCut questionAt recordAt sectionAt sectionFrom headerOf sectionsOf messageOf decode
 types-hold = refl
 
 -- QR, Opcode, AA, TC, RD, RA, AD, CD, RCODE of a header, with the first and the last bit of each set alone

@@ -14,9 +14,9 @@ use Rattle.names.specs.Walk.{message, named, nameFrom, nameAt}
 use Rattle.names.specs.NameLaws.{named-name, named-next, read-sized, read-form, read-plain}
 use Rattle.records.specs.Layout.{laid, rdataAt}
 use Rattle.records.specs.Message.{Message, Question, Record, questionForm, recordForm, headerForm, form}
-use Rattle.records.specs.Read.{entry, unfit, questionAt, recordAt, reached, sectionAt, sectionFrom}
+use Rattle.records.specs.Read.{entry, firstCut, questionAt, recordAt, reached, sectionAt, sectionFrom}
 use Rattle.records.specs.Decode.{headerOf, zOf, sectionsOf, messageOf, accepted, decode}
-use Rattle.records.specs.RecordLaws.{laid-octets, pieces-fill, pieces-same, pieces-whole, fields-room, entry-value, entry-next, with-name-back, with-fields-back, filled-back, room-back, elim-filled}
+use Rattle.records.specs.RecordLaws.{laid-octets, pieces-fill, pieces-same, pieces-whole, fields-room, entry-value, entry-next, with-name-back, with-fields-back, filled-back, room-back}
 use Rattle.records.specs.MessageLaws.{section-count, from-count, from-reached, decode-back}
 use Rattle.records.specs.Parts.{layoutIn, rdata-pieces}
 
@@ -153,7 +153,7 @@ pub question-kept : (s : List ℕ) (at : ℕ) (q : Question) (next : ℕ) → Oc
 unfolding questionAt
 question-kept s at q next o e =
     let (n, i, p, f) = with-name-back (nameAt s message at) _ q next e in
-    let (u, g) = with-fields-back (unfit s i (2 ∷ 2 ∷ [])) _ q next f in
+    let (u, g) = with-fields-back (firstCut s i (2 ∷ 2 ∷ [])) _ q next f in
     let over = read-sized s message at at n i (omega arith) p .3 in
     let room = fields-room s i (2 ∷ 2 ∷ []) over u in
     let made : Question = record { name = n; type = twoAt s i; class = twoAt s (i + 2) } in
@@ -175,14 +175,14 @@ pub record-kept : (s : List ℕ) (at : ℕ) (r : Record) (next : ℕ) → Octets
 unfolding recordAt
 record-kept s at r next o e =
     let (n, i, p, f) = with-name-back (nameAt s message at) _ r next e in
-    let (u, g) = with-fields-back (unfit s i (2 ∷ 2 ∷ 4 ∷ 2 ∷ [])) _ r next f in
+    let (u, g) = with-fields-back (firstCut s i (2 ∷ 2 ∷ 4 ∷ 2 ∷ [])) _ r next f in
     let over = read-sized s message at at n i (omega arith) p .3 in
     let space = fields-room s i (2 ∷ 2 ∷ 4 ∷ 2 ∷ []) over u in
     let size = twoAt s (i + 8) in
     let made : List ℕ → Record = λ d. record { name = n; type = twoAt s i; class = twoAt s (i + 2); ttl = fourAt s (i + 4); rdata = d } in
     let (room, k) = room-back s (i + 10 + size) _ _ r next g in
     let w = rdataAt true s (twoAt s i) (i + 10) size in
-    let (d, l, same, place) = filled-back made (i + 10 + size) w r next (sym (elim-filled made (i + 10 + size) w) ∙ k) in
+    let (d, l, same, place) = filled-back made (i + 10 + size) w r next k in
     let kept : RecordKept s at (made d) next = record {
       after = i;
       size = size;

@@ -14,8 +14,8 @@ use Rattle.names.specs.Name.{Name, nameForm, cut, short, surplus, Fault}
 use Rattle.names.specs.Walk.{part, message, rdata, Named, named, faulty, nameAt}
 use Rattle.records.specs.Layout.{Piece, fixed, name, layoutOf, Laid, laid, misfit, before, pieces, rdataAt}
 use Rattle.records.specs.Message.{Record}
-use Rattle.records.specs.RecordLaws.{bad≢entry, entry-value, entry-next, filled, elim-filled}
-use Rattle.records.specs.Read.{Entry, entry, bad, past-end, unfit, with-name, with-fields, questionAt, recordAt}
+use Rattle.records.specs.RecordLaws.{bad≢entry, entry-value, entry-next}
+use Rattle.records.specs.Read.{Entry, entry, bad, past-end, firstCut, with-name, with-fields, filled, questionAt, recordAt}
 
 -- ---- a name and the fields behind it
 -- the name, or the first field that runs past the message's end
@@ -24,7 +24,7 @@ fitted n next none = named n next
 fitted n next (some at) = faulty (record { kind = cut; octet = at })
 
 abbrev pub begun : List ℕ → List ℕ → Named → Named
-begun s widths (named n next) = fitted n next (unfit s next widths)
+begun s widths (named n next) = fitted n next (firstCut s next widths)
 begun s widths (faulty fault) = faulty fault
 
 unfoldable pub begunAt : List ℕ → ℕ → List ℕ → Named
@@ -36,8 +36,8 @@ module _ {A : Type 0} (s : List ℕ) (widths : List ℕ) (e : Name → ℕ → E
   fitted-fields n next none = refl
   fitted-fields n next (some at) = refl
 
-  begun-fields : (w : Named) → with-name w (λ n next. with-fields (unfit s next widths) (e n next)) ≡ with-name (begun s widths w) e
-  begun-fields (named n next) = fitted-fields n next (unfit s next widths)
+  begun-fields : (w : Named) → with-name w (λ n next. with-fields (firstCut s next widths) (e n next)) ≡ with-name (begun s widths w) e
+  begun-fields (named n next) = fitted-fields n next (firstCut s next widths)
   begun-fields (faulty fault) = refl
 
 -- a question is a name with TYPE and CLASS behind it
@@ -114,7 +114,7 @@ record-head s at = begun-fields s (2 ∷ 2 ∷ 4 ∷ 2 ∷ []) read (nameAt s me
 
     read : Name → ℕ → Entry Record
     read n next = cond (ltb (length s) (next + 10 + twoAt s (next + 8))) (past-end (next + 10))
-        (elim (inside n next) as (λ x. Entry Record) [ laid d ↦ entry (made n next d) (next + 10 + twoAt s (next + 8)) | misfit fault ↦ bad fault ])
+        (filled (made n next) (next + 10 + twoAt s (next + 8)) (inside n next))
 
     room : (b : Bool) (n : Name) (next : ℕ)
         → cond b (past-end (next + 10)) (filled (made n next) (next + 10 + twoAt s (next + 8)) (inside n next))
@@ -124,9 +124,7 @@ record-head s at = begun-fields s (2 ∷ 2 ∷ 4 ∷ 2 ∷ []) read (nameAt s me
     room false n next = refl
 
     go : (w : Named) → with-name w read ≡ with-rdata s (with-name w (headed s))
-    go (named n next) =
-        ap (cond (ltb (length s) (next + 10 + twoAt s (next + 8))) (past-end (next + 10))) (elim-filled (made n next) (next + 10 + twoAt s (next + 8)) (inside n next))
-        ∙ room (ltb (length s) (next + 10 + twoAt s (next + 8))) n next
+    go (named n next) = room (ltb (length s) (next + 10 + twoAt s (next + 8))) n next
     go (faulty fault) = refl
 
 -- a record ends behind its RDATA

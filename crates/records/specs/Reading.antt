@@ -20,7 +20,7 @@ use Rattle.names.specs.declared.Fault.the-variants.{Cut}
 use Rattle.names.specs.declared.Named.{Named}
 use Rattle.names.specs.declared.Named.the-variants.{Read, Faulty}
 use Rattle.names.specs.declared.NameRead.{NameRead}
-use Rattle.records.specs.Read.{unfit, questionAt}
+use Rattle.records.specs.Read.{firstCut, questionAt}
 use Rattle.records.specs.RecordLaws.{sum}
 use Rattle.records.specs.Parts.{begunAt, question-begun, headAt}
 use Rattle.records.specs.declared.Question.the-variants as question
@@ -70,7 +70,7 @@ module _ {r : NameRead} where
 -- ---- fields behind a name
 -- the fields before the i-th fit, and end at `place`
 pub record Fields (s widths : List ℕ) (next place i : ℕ) : Type 0 where
-  pub same : unfit s next widths ≡ unfit s place (drop i widths)
+  pub same : firstCut s next widths ≡ firstCut s place (drop i widths)
   pub long : place + sum (drop i widths) ≡ next + sum widths
 
 pub fields-start : (s widths : List ℕ) (next : ℕ) → Fields s widths next next 0
@@ -83,7 +83,7 @@ module _ {s widths : List ℕ} {next place i : ℕ} (f : Fields s widths next pl
 
   -- it fits
   pub fields-more : {width : ℕ} → i < length widths → width ≡ getD widths i 0 → place + width ≤ length s → Fields s widths next (place + width) (i + 1)
-  unfolding unfit
+  unfolding firstCut
   fields-more {width} h e k =
       record {
         same = f .same ∙ rw (first h, ← e, le-leb (place + width) (length s) k);
@@ -91,13 +91,13 @@ module _ {s widths : List ℕ} {next place i : ℕ} (f : Fields s widths next pl
       }
 
   -- it does not
-  fields-cut : {width : ℕ} → i < length widths → width ≡ getD widths i 0 → length s < place + width → unfit s next widths ≡ some place
-  unfolding unfit
+  fields-cut : {width : ℕ} → i < length widths → width ≡ getD widths i 0 → length s < place + width → firstCut s next widths ≡ some place
+  unfolding firstCut
   fields-cut {width} h e k = f .same ∙ rw (first h, ← e, lt-leb (place + width) (length s) k)
 
   -- there is no i-th field
-  fields-end : length widths ≤ i → (unfit s next widths ≡ none) × (place ≡ next + sum widths)
-  unfolding unfit
+  fields-end : length widths ≤ i → (firstCut s next widths ≡ none) × (place ≡ next + sum widths)
+  unfolding firstCut
   fields-end h = (f .same ∙ rw (drop-of-length-le widths h), let p : sum (drop i widths) ≡ 0 = rw (drop-of-length-le widths h) in omega (arith, f .long))
 
 -- ---- a name with fields behind it

@@ -18,7 +18,7 @@ use Rattle.names.specs.Walk.{part, message, rdata, Named, named, faulty, nameFr
 use Rattle.names.specs.NameLaws.{Sized, form-some, read-back, read-back-sized, read-sized, read-valid, read-form, part-octets, part-long, drop-part}
 use Rattle.names.specs.NameLaws as N
 use Rattle.records.specs.Message.{Question, Record, questionForm, recordForm, question?, record?}
-use Rattle.records.specs.Read.{Entry, entry, bad, unfit, with-name, with-fields, questionAt, recordAt}
+use Rattle.records.specs.Read.{Entry, entry, bad, firstCut, with-name, with-fields, filled, questionAt, recordAt}
 use Rattle.records.specs.Layout.{Piece, fixed, name, layoutOf, Laid, laid, misfit, before, pieces, rdataAt, laid?, fits?}
 
 -- ---- equal answers
@@ -250,19 +250,19 @@ sum [] = 0
 sum (width ∷ widths) = width + sum widths
 
 -- fields that end within the message fit
-fields-fit : (s : List ℕ) (at : ℕ) (widths : List ℕ) → at + sum widths ≤ length s → unfit s at widths ≡ none
-unfolding unfit
+fields-fit : (s : List ℕ) (at : ℕ) (widths : List ℕ) → at + sum widths ≤ length s → firstCut s at widths ≡ none
+unfolding firstCut
 fields-fit s at [] h = refl
 fields-fit s at (width ∷ widths) h = rw (le-leb (at + width) (length s) (omega arith)) (fields-fit s (at + width) widths (omega arith))
 
 -- fields that fit end within the message
-pub fields-room : (s : List ℕ) (at : ℕ) (widths : List ℕ) → at ≤ length s → unfit s at widths ≡ none → at + sum widths ≤ length s
-unfolding unfit
+pub fields-room : (s : List ℕ) (at : ℕ) (widths : List ℕ) → at ≤ length s → firstCut s at widths ≡ none → at + sum widths ≤ length s
+unfolding firstCut
 fields-room s at [] h e = omega arith
 fields-room s at (width ∷ widths) h e = let k = go (leb (at + width) (length s)) refl (fields-room s (at + width) widths) e in omega arith
   where
-    go : (b : Bool) → leb (at + width) (length s) ≡ b → (at + width ≤ length s → unfit s (at + width) widths ≡ none → at + width + sum widths ≤ length s)
-        → cond b (unfit s (at + width) widths) (some at) ≡ none → at + width + sum widths ≤ length s
+    go : (b : Bool) → leb (at + width) (length s) ≡ b → (at + width ≤ length s → firstCut s (at + width) widths ≡ none → at + width + sum widths ≤ length s)
+        → cond b (firstCut s (at + width) widths) (some at) ≡ none → at + width + sum widths ≤ length s
     go true p f e = f (leb-true (at + width) (length s) p) e
     go false p f e = absurd (Option·some-ne-none at e)
 
@@ -349,7 +349,7 @@ unfolding questionAt
 question-read s at q next o e =
     let (n, i, p, f) = with-name-back (nameAt s message at) _ q next e in
     let (v, a, b) = read-valid s message at at n i o (omega arith) p in
-    let (u, g) = with-fields-back (unfit s i (2 ∷ 2 ∷ [])) _ q next f in
+    let (u, g) = with-fields-back (firstCut s i (2 ∷ 2 ∷ [])) _ q next f in
     let room = fields-room s i (2 ∷ 2 ∷ []) b u in
     let same = entry-next g in
     (subst (λ (k : Question). T (question? k)) (entry-value g) (question-made _ v (twoAt-word s o i) (twoAt-word s o (i + 2))), omega arith, omega arith)
@@ -453,11 +453,6 @@ record-back s r at q h small e =
     )
     (ap (entry q) place)
 
--- RDATA's answer within a record's
-abbrev pub filled : (List ℕ → Record) → ℕ → Laid → Entry Record
-filled f next (laid d) = entry (f d) next
-filled f next (misfit fault) = bad fault
-
 -- a record that was read has RDATA that was read
 pub filled-back : (f : List ℕ → Record) (next : ℕ) (w : Laid) (q : Record) (i : ℕ) → filled f next w ≡ entry q i → (d : List ℕ) × (w ≡ laid d) × (f d ≡ q) × (next ≡ i)
 filled-back f next (laid d) q i e = (d, refl, entry-value e, entry-next e)
@@ -471,22 +466,17 @@ room-back s next fault w q i = go (ltb (length s) next) refl
     go true p e = absurd (bad≢entry e)
     go false p e = (ltb-false (length s) next p, e)
 
--- the same answer as `recordAt` writes it
-pub elim-filled : (f : List ℕ → Record) (next : ℕ) (w : Laid) → (elim w as (λ x. Entry Record) [ laid d ↦ entry (f d) next | misfit fault ↦ bad fault ]) ≡ filled f next w
-elim-filled f next (laid d) = refl
-elim-filled f next (misfit fault) = refl
-
 -- a record that is read is valid, and ends behind its start and within the message
 pub record-read : (s : List ℕ) (at : ℕ) (q : Record) (next : ℕ) → Octets s → recordAt s at ≡ entry q next → T (record? q) × (at < next) × (next ≤ length s)
 unfolding recordAt
 record-read s at q next o e =
     let (n, i, p, f) = with-name-back (nameAt s message at) _ q next e in
     let (v, a, b) = read-valid s message at at n i o (omega arith) p in
-    let (u, g) = with-fields-back (unfit s i (2 ∷ 2 ∷ 4 ∷ 2 ∷ [])) _ q next f in
+    let (u, g) = with-fields-back (firstCut s i (2 ∷ 2 ∷ 4 ∷ 2 ∷ [])) _ q next f in
     let size = twoAt s (i + 8) in
     let made : List ℕ → Record = λ d. record { name = n; type = twoAt s i; class = twoAt s (i + 2); ttl = fourAt s (i + 4); rdata = d } in
     let (room, k) = room-back s (i + 10 + size) _ _ q next g in
     let w = rdataAt true s (twoAt s i) (i + 10) size in
-    let (d, l, same, place) = filled-back made (i + 10 + size) w q next (sym (elim-filled made (i + 10 + size) w) ∙ k) in
+    let (d, l, same, place) = filled-back made (i + 10 + size) w q next k in
     let (z, c) = rdata-fits true s (twoAt s i) (i + 10) size d o room l in
     (subst (λ (r : Record). T (record? r)) same (record-made (made d) v (twoAt-word s o i) (twoAt-word s o (i + 2)) (fourAt-long s o (i + 4)) c z), omega arith, omega arith)
