@@ -46,7 +46,7 @@ pub data Lays : layout.Laid → List ℕ → ℕ → List ℕ → Laid → Type 
   lays : {d b b′ : List ℕ} {to r : ℕ} → Wrote b to d b′ r → Lays (laid d) b to b′ (laying.To r)
   misses : {fault : Fault} {b b′ : List ℕ} {to : ℕ} → Lays (misfit fault) b to b′ (laying.Misfit (faultOf fault))
 
--- the place: not past so many, and so many octets at most were written
+-- the next place, not past `most`, after at most 65,535 octets
 abbrev pub Laying : Laid → ℕ → ℕ → Type 0
 Laying (laying.To r) to most = (r ≤ most) × (to ≤ r) × (r ≤ to + 65535)
 Laying (laying.Misfit fault) to most = Unit {0}
@@ -131,7 +131,7 @@ lays-short s kind start size {b} {b′} {to} {r} p h k = go (rdataAt true s kind
     go : (w : layout.Laid) → rdataAt true s kind start size ≡ w → Lays w b to b′ (laying.To r) → (to ≤ r) × (r ≤ to + 65535)
     go w e (lays {d = d} q) = let n = rdata-short s kind start size d h k e in (omega (arith, q .place), omega (arith, q .place))
 
--- a part of so many octets at most was written
+-- a part of at most n octets was written
 pub wrote-part : (n : ℕ) (l : List ℕ) {b b′ : List ℕ} {to r : ℕ} → Wrote b to (take n l) b′ r → (to ≤ r) × (r ≤ to + n)
 wrote-part n l w = let e = length-take n l in (omega (arith, w .place), omega (arith, w .place))
 
@@ -200,7 +200,7 @@ missed : {x : layout.Laid} {b b₂ b₃ : List ℕ} {to n₂ : ℕ} {f : FaultRe
     → Puts (mapped recordPart (filled (withRdata k) i x)) b to b₃ (gone.Faulty f)
 missed k i misses = faults
 
--- RDATA was written behind the place of its length, and then its length
+-- RDATA was written after the place of its length, and then its length
 placed : {x : layout.Laid} {b b₁ b₂ b₃ b₄ : List ℕ} {to n₁ n₂ n₃ n₄ : ℕ} (k : HeadOf) (i : ℕ)
     → Wrote b to (nameForm (k .name) ++ two (k .type) ++ two (k .class)) b₁ n₁ → Wrote b₁ n₁ (four (k .ttl)) b₂ n₂
     → Lays x b₂ (n₂ + 2) b₃ (laying.To n₃) → Wrote b₃ n₂ (two (n₃ - (n₂ + 2))) b₄ n₄
@@ -262,7 +262,7 @@ pub part-short : (size : ℕ) (l : List ℕ) (most : ℕ) → size ≤ most → 
 part-short size l most h = let k = length-take (size - 0) l in omega arith
 
 -- ---- sections
--- the forms of entries one after another, the offset behind them and how many have TYPE 41; or the faulty entry's offset with its fault
+-- the forms of entries one after another, the offset after them and how many have TYPE 41; or the faulty entry's offset with its fault
 pub data Run : Type 0 where
   ran : List ℕ → ℕ → ℕ → Run
   halted : ℕ → Fault → Run
@@ -280,7 +280,7 @@ abbrev pub turned : (ℕ → Run) → ℕ → Entry Part → Run
 turned f at (entry p next) = after p (f next)
 turned f at (bad fault) = halted at fault
 
--- so many records, or questions, from an offset on
+-- n records, or questions, from an offset on
 unfoldable pub sectionRun : Bool → List ℕ → ℕ → ℕ → Run
 sectionRun records s zero at = ran [] at 0
 sectionRun records s (suc n) at = turned (λ next. sectionRun records s n next) at (partAt records s at)
@@ -300,7 +300,7 @@ goes-within x {end} h e = subst (λ (y : Gone). Goes y end) e h
 pub comes-within : (x : Came) {end at to opts : ℕ} → Comes x end → x ≡ came.To at to opts → (at ≤ end) × (to ≤ 255 * at)
 comes-within x {end} h e = subst (λ (y : Came). Comes y end) e h
 
--- an entry was written, and then those behind it
+-- an entry was written, and then those after it
 run-after : {k j : ℕ} (p : Part) {u : Run} {b b₁ b₂ : List ℕ} {to n : ℕ} {r : Came} → Wrote b to (p .form) b₁ n → j ≡ k + optOf (p .type)
     → Runs j u b₁ n b₂ r → Runs k (after p u) b to b₂ r
 run-after p w e (runs {n = i} {m = m} {r = r} q v) = runs {n = optOf (p .type) + i} {m = m} {r = r} (omega (arith, e, q)) (then w v)

@@ -95,7 +95,7 @@ module _ (s : List ℕ) where
   from-run n (reached at) = section-run recordAt recordPart true s records-same n at
   from-run n (stopped at fault) = refl
 
-  -- a section behind another, and what follows it
+  -- a section after another, and what follows it
   from-chained : (n : ℕ) (w : Reached) (g : ℕ → Run) → onto w (λ a. chained (sectionRun true s n a) g)
       ≡ joined (each recordForm (sectionFrom recordAt s n w .entries)) (onto (sectionFrom recordAt s n w .end) g)
   from-chained n w g =

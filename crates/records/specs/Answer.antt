@@ -33,7 +33,7 @@ use Rattle.records.specs.declared.Stepped.{Stepped}
 abbrev pub padded : List ℕ → List ℕ
 padded l = l ++ replicate (255 - length l) 0
 
--- a name that is read ends behind its start, and fields of these widths fit behind it
+-- a name that is read ends after its start, and fields of these widths fit after it
 abbrev pub Begins : Named → ℕ → List ℕ → ℕ → Type 0
 Begins (named.Read next size) at widths end = (at < next) × (next + sum widths ≤ end) × (size ≤ 255)
 Begins (named.Faulty fault) at widths end = Unit {0}

@@ -57,7 +57,7 @@ boundaries =
     -- 65,535 octets are read, 65,536 are not
     ∷ record { message = replicate 65535 0; gives = refuses 8 12 }
     ∷ record { message = replicate 65536 0; gives = refuses 2 0 }
-    -- a target of 12 is the name's own start, one of 11 lies in the header
+    -- a target of 12 is the name's own start, one of 11 is in the header
     ∷ record { message = asks (hexed "C00C"); gives = refuses 5 12 }
     ∷ record { message = asks (hexed "C00B"); gives = refuses 5 12 }
     -- a label and a pointer back to it

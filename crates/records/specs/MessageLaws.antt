@@ -35,7 +35,7 @@ pub stopped≢reached : {i : ℕ} {fault : Fault} {j : ℕ} → stopped i fault 
 stopped≢reached e = subst Came (sym e) tt
 
 module _ {A : Type 0} (read : List ℕ → ℕ → Entry A) (s : List ℕ) where
-  -- an entry that is read, and the entries behind it
+  -- an entry that is read, and the entries after it
   pub section-step : (n at : ℕ) (a : A) (next : ℕ) → read s at ≡ entry a next → sectionAt read s (suc n) at ≡ add a (sectionAt read s n next)
   unfolding sectionAt
   section-step n at a next e = rw (e, sectionAt)
@@ -64,13 +64,13 @@ module _ {A : Type 0} (read : List ℕ → ℕ → Entry A) (s : List ℕ) where
           go (entry a next) p f = rw (section-step n at a next p) (both (entry? a) _ (valid at a next p) (f next))
           go (bad fault) p f = rw (section-stop n at fault p) tt
 
-      -- a section behind another
+      -- a section after another
       pub from-valid : (n : ℕ) (w : Reached) → T (all entry? (sectionFrom read s n w .entries))
       unfolding sectionFrom
       from-valid n (reached at) = section-valid n at
       from-valid n (stopped at fault) = tt
 
-    -- where a section's form stands, the section is read, if each entry is
+    -- where a section's form is, the section is read, if each entry is
     pub section-back : (form : A → List ℕ) → ((a : A) (r : List ℕ) (at : ℕ) → T (entry? a) → length (form a) ≤ 65535 → drop at s ≡ form a ++ r → read s at ≡ entry a (at + length (form a)))
         → (l : List A) (r : List ℕ) (at : ℕ) → T (all entry? l) → length (each form l) ≤ 65535 → drop at s ≡ each form l ++ r
         → sectionAt read s (length l) at ≡ record { entries = l; end = reached (at + length (each form l)) }
@@ -96,7 +96,7 @@ module _ {A : Type 0} (read : List ℕ → ℕ → Entry A) (s : List ℕ) where
       go (entry a next) p f = rw (section-step n at a next p) (ap suc (f next i (rw (section-step n at a next p) at e)))
       go (bad fault) p f = absurd (stopped≢reached (rw (section-stop n at fault p) at e))
 
-  -- the same of a section behind another
+  -- the same of a section after another
   pub from-count : (n : ℕ) (w : Reached) (i : ℕ) → sectionFrom read s n w .end ≡ reached i → length (sectionFrom read s n w .entries) ≡ n
   unfolding sectionFrom
   from-count n (reached at) i e = section-count n at i e

@@ -1,4 +1,4 @@
--- Questions, records and RDATA in the parts that the code reads: a name with the fields behind it, a record without what is inside RDATA,
+-- Questions, records and RDATA in the parts that the code reads: a name with the fields after it, a record without what is inside RDATA,
 -- and RDATA piece by piece. Assumes nothing.
 use mathlib.Core.Path.{_≡_, refl, sym, ap, _∙_}
 use mathlib.Core.Bool.{Bool, true, false, cond}
@@ -17,7 +17,7 @@ use Rattle.records.specs.Message.{Record}
 use Rattle.records.specs.RecordLaws.{bad≢entry, entry-value, entry-next}
 use Rattle.records.specs.Read.{Entry, entry, bad, past-end, firstCut, with-name, with-fields, filled, questionAt, recordAt}
 
--- ---- a name and the fields behind it
+-- ---- a name and the fields after it
 -- the name, or the first field that runs past the message's end
 abbrev pub fitted : Name → ℕ → Option ℕ → Named
 fitted n next none = named n next
@@ -31,7 +31,7 @@ unfoldable pub begunAt : List ℕ → ℕ → List ℕ → Named
 begunAt s at widths = begun s widths (nameAt s message at)
 
 module _ {A : Type 0} (s : List ℕ) (widths : List ℕ) (e : Name → ℕ → Entry A) where
-  -- what stands behind fields that fit
+  -- what comes after fields that fit
   fitted-fields : (n : Name) (next : ℕ) (o : Option ℕ) → with-fields o (e n next) ≡ with-name (fitted n next o) e
   fitted-fields n next none = refl
   fitted-fields n next (some at) = refl
@@ -40,14 +40,14 @@ module _ {A : Type 0} (s : List ℕ) (widths : List ℕ) (e : Name → ℕ → E
   begun-fields (named n next) = fitted-fields n next (firstCut s next widths)
   begun-fields (faulty fault) = refl
 
--- a question is a name with TYPE and CLASS behind it
+-- a question is a name with TYPE and CLASS after it
 pub question-begun : (s : List ℕ) (at : ℕ)
     → questionAt s at ≡ with-name (begunAt s at (2 ∷ 2 ∷ [])) λ n next. entry (record { name = n; type = twoAt s next; class = twoAt s (next + 2) }) (next + 4)
 unfolding questionAt begunAt
 question-begun s at = begun-fields s (2 ∷ 2 ∷ []) _ (nameAt s message at)
 
 -- ---- a record without what is inside RDATA
--- `rdata` is the offset of RDATA, of so many octets
+-- `rdata` is the offset of RDATA, of RDLENGTH octets
 pub record HeadOf : Type 0 where
   pub name : Name
   pub type : ℕ
@@ -60,7 +60,7 @@ pub record HeadOf : Type 0 where
 abbrev pub withRdata : HeadOf → List ℕ → Record
 withRdata h d = record { name = h .name; type = h .type; class = h .class; ttl = h .ttl; rdata = d }
 
--- TYPE, CLASS, TTL, RDLENGTH behind the name; RDATA must end within the message
+-- TYPE, CLASS, TTL, RDLENGTH after the name; RDATA must end within the message
 abbrev pub headed : List ℕ → Name → ℕ → Entry HeadOf
 headed s n next =
     let size = twoAt s (next + 8) in
@@ -127,7 +127,7 @@ record-head s at = begun-fields s (2 ∷ 2 ∷ 4 ∷ 2 ∷ []) read (nameAt s me
     go (named n next) = room (ltb (length s) (next + 10 + twoAt s (next + 8))) n next
     go (faulty fault) = refl
 
--- a record ends behind its RDATA
+-- a record ends after its RDATA
 pub head-next : (s : List ℕ) (at : ℕ) (h : HeadOf) (next : ℕ) → headAt s at ≡ entry h next → next ≡ h .rdata + h .rdlength
 unfolding headAt
 head-next s at h next e = go (begunAt s at (2 ∷ 2 ∷ 4 ∷ 2 ∷ [])) e
@@ -150,14 +150,14 @@ rdata-pieces jumps s type at size = go (eqb size 0) refl (layoutOf type) refl
     go false p none q = rw (p, q, rdataAt, le-ltb (at + size) (at + size) (omega arith)) (ap laid (sym (append-nil (part s at size))))
     go false p (some layout) q = rw (p, q, rdataAt)
 
--- what a step puts before what is behind it
+-- what a step puts before what comes after it
 abbrev pub follow : List ℕ → ℕ → (ℕ → Laid) → StepOf → Laid
 follow s at later (part-to next) = before (part s at (next - at)) (later next)
 follow s at later (name-to n next) = before (nameForm n) (later next)
 follow s at later done = laid []
 follow s at later (stops fault) = misfit fault
 
--- the pieces are the step at the first of them, then the pieces behind it
+-- the pieces are the step at the first of them, then the pieces after it
 pub pieces-step : (layout : List Piece) (s : List ℕ) (start end at : ℕ)
     → pieces true layout s start end at ≡ follow s at (pieces true (drop 1 layout) s start end) (stepAt layout s start end at)
 unfolding pieces stepAt

@@ -76,7 +76,7 @@ layout-small type size = go (eqb size 0) (layoutOf type) refl
     go false (some l) q = let k = lookup-all Small layouts type l layouts-small (unfold layoutOf in q) in (k .0, omega (arith, k .1), λ h. omega (arith, k .1))
 
 -- ---- the i-th piece
--- the first, the second, the third, and none behind them
+-- the first, the second, the third, and none after them
 pub nth-first : (i : ℕ) (a b c : PieceRead) → i ≡ 0 → a ≡ nthOf i a b c
 nth-first i a b c e = rw e
 

@@ -27,7 +27,7 @@ use Rattle.records.specs.declared.Question.the-variants as question
 use Rattle.records.specs.declared.Record.the-variants as record′
 use Rattle.records.specs.Answer.{padded, Begins, questionRead, recordRead}
 
--- ---- what a name's answer tells
+-- ---- what a name's answer says
 -- the parts of an answer
 abbrev nextOf : Named → ℕ
 nextOf (Read next size) = next
@@ -67,7 +67,7 @@ module _ {r : NameRead} where
       let q = sym (ap (λ (x : NameRead). x .answer) e) ∙ p in
       (fault, refl, sym (ap (faultIn f) q), ap (λ (x : NameRead). x .octets) e)
 
--- ---- fields behind a name
+-- ---- fields after a name
 -- the fields before the i-th fit, and end at `place`
 pub record Fields (s widths : List ℕ) (next place i : ℕ) : Type 0 where
   pub same : firstCut s next widths ≡ firstCut s place (drop i widths)
@@ -77,7 +77,7 @@ pub fields-start : (s widths : List ℕ) (next : ℕ) → Fields s widths next n
 fields-start s widths next = record { same = refl; long = refl }
 
 module _ {s widths : List ℕ} {next place i : ℕ} (f : Fields s widths next place i) where
-  -- the i-th field and those behind it
+  -- the i-th field and those after it
   first : i < length widths → drop i widths ≡ getD widths i 0 ∷ drop (i + 1) widths
   first h = rw (add-one, drop-cons widths i 0)
 
@@ -100,7 +100,7 @@ module _ {s widths : List ℕ} {next place i : ℕ} (f : Fields s widths next pl
   unfolding firstCut
   fields-end h = (f .same ∙ rw (drop-of-length-le widths h), let p : sum (drop i widths) ≡ 0 = rw (drop-of-length-le widths h) in omega (arith, f .long))
 
--- ---- a name with fields behind it
+-- ---- a name with fields after it
 -- where a name that is read ends
 name-ends : (s : List ℕ) (at : ℕ) {r : NameRead} → r ≡ nameRead (nameAt s message at) → {next size : ℕ} → r .answer ≡ Read next size
     → (at < next) × (next ≤ length s) × (size ≤ 255)

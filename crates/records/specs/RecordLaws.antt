@@ -73,7 +73,7 @@ end-back jumps s start end at d = go (ltb at end) refl
     go true p e = absurd (misfit≢laid e)
     go false p e = (ltb-false at end p, sym (laid-octets e))
 
--- octets that were read lie within RDATA, and the rest was read behind them
+-- octets that were read are within RDATA, and the rest was read after them
 fixed-back : (jumps : Bool) (n : ℕ) (layout : List Piece) (s : List ℕ) (start end at : ℕ) (d : List ℕ) → pieces jumps (fixed n ∷ layout) s start end at ≡ laid d
     → (at + n ≤ end) × ((m : List ℕ) × (pieces jumps layout s start end (at + n) ≡ laid m) × (d ≡ part s at n ++ m))
 unfolding pieces
@@ -84,7 +84,7 @@ fixed-back jumps n layout s start end at d = go (ltb end (at + n)) refl (pieces 
     go true p w e = absurd (misfit≢laid e)
     go false p w e = (ltb-false end (at + n) p, before-back (part s at n) w d e)
 
--- a name was read, and the rest behind it
+-- a name was read, and the rest after it
 name-back : (jumps : Bool) (layout : List Piece) (s : List ℕ) (start end at : ℕ) (d : List ℕ) → pieces jumps (name ∷ layout) s start end at ≡ laid d
     → (labels : Name) × (next : ℕ) × (m : List ℕ) × (nameFrom s (rdata start end) (cond jumps at 0) at ≡ named labels next)
     × (pieces jumps layout s start end next ≡ laid m) × (d ≡ nameForm labels ++ m)
@@ -130,7 +130,7 @@ pieces-octets jumps (name ∷ layout) s start end at d o h e =
     let w = read-valid s (rdata start end) (cond jumps at 0) at labels next o h p in
     rw r (All-append (λ x. x < 256) (nameForm labels) m (N.form-octets labels (w .0)) (pieces-octets jumps layout s start end next m o h q))
 
--- octets of a layout are read as themselves wherever they stand
+-- octets of a layout are read as themselves wherever they are
 pub pieces-same : (jumps : Bool) (layout : List Piece) (s r : List ℕ) (start end at : ℕ) (d : List ℕ) → Fills layout d → drop at s ≡ d ++ r → at + length d ≡ end
     → pieces jumps layout s start end at ≡ laid d
 unfolding pieces
@@ -153,7 +153,7 @@ pieces-same jumps (name ∷ layout) s r start end at d (m, b, z, k, g, q) e h =
     ∙ ap (before (nameForm m)) (pieces-same jumps layout s r start end next b g (drop-past s (nameForm m) (b ++ r) at here) (omega arith))
     ∙ ap laid (sym q)
 
--- with no pointer allowed, what is read is what stands there
+-- with no pointer allowed, what is read is what is there
 pub pieces-whole : (layout : List Piece) (s : List ℕ) (start end at : ℕ) (d : List ℕ) → end ≤ length s → at ≤ end
     → pieces false layout s start end at ≡ laid d → drop at s ≡ d ++ drop end s
 pieces-whole [] s start end at d h k e =
@@ -243,7 +243,7 @@ rdata-fits jumps s type at size d o h e = go (eqb size 0) refl (layoutOf type) r
         let same = pieces-same false layout d [] 0 (0 + length d) 0 d f (sym (append-nil d)) refl in
         (laid-test (rdata-listed false d type 0 (length d) layout (eqb-false (length d) 0 r) q ∙ same), pieces-octets jumps layout s at (at + size) at d o h l)
 
--- ---- fields behind a name
+-- ---- fields after a name
 -- the sum of the widths
 abbrev pub sum : List ℕ → ℕ
 sum [] = 0
@@ -295,7 +295,7 @@ module _ {A : Type 0} where
   pub entry-next : {a b : A} {i j : ℕ} → entry a i ≡ entry b j → i ≡ j
   entry-next e = ap behind e
 
-  -- what stands behind a name that was read, and behind fields that fit
+  -- what comes after a name that was read, and after fields that fit
   pub with-name-back : (w : Named) (f : Name → ℕ → Entry A) (a : A) (i : ℕ) → with-name w f ≡ entry a i
       → (n : Name) × (next : ℕ) × (w ≡ named n next) × (f n next ≡ entry a i)
   with-name-back (named n next) f a i e = (n, next, refl, e)
@@ -322,7 +322,7 @@ unfolding question?
 question-made q a b c =
     both (name? (q .name) && word? (q .type)) (word? (q .class)) (both (name? (q .name)) (word? (q .type)) a (lt→ltb (q .type) 65536 b)) (lt→ltb (q .class) 65536 c)
 
--- where a valid question's form stands, that question is read
+-- where a valid question's form is, that question is read
 pub question-back : (s r : List ℕ) (at : ℕ) (q : Question) → T (question? q) → drop at s ≡ questionForm q ++ r
     → questionAt s at ≡ entry q (at + length (questionForm q))
 unfolding questionAt questionForm
@@ -343,7 +343,7 @@ question-back s r at q h e =
     rw (read-back s _ message at at (q .name) v here room, fields-fit s next (2 ∷ 2 ∷ []) (omega arith), two-at s _ next (q .type) t first, two-at s _ (next + 2) (q .class) c second)
     (ap (entry q) place)
 
--- a question that is read is valid, and ends behind its start and within the message
+-- a question that is read is valid, and ends after its start and within the message
 pub question-read : (s : List ℕ) (at : ℕ) (q : Question) (next : ℕ) → Octets s → questionAt s at ≡ entry q next → T (question? q) × (at < next) × (next ≤ length s)
 unfolding questionAt
 question-read s at q next o e =
@@ -408,7 +408,7 @@ record-long r =
     let f = length-append (n ++ two (r .type) ++ two (r .class) ++ four (r .ttl) ++ two l) (r .rdata) in
     omega arith
 
--- where a valid record's form stands, that record is read
+-- where a valid record's form is, that record is read
 pub record-back : (s r : List ℕ) (at : ℕ) (q : Record) → T (record? q) → length (q .rdata) < 65536 → drop at s ≡ recordForm q ++ r
     → recordAt s at ≡ entry q (at + length (recordForm q))
 unfolding recordAt recordForm
@@ -458,7 +458,7 @@ pub filled-back : (f : List ℕ → Record) (next : ℕ) (w : Laid) (q : Record)
 filled-back f next (laid d) q i e = (d, refl, entry-value e, entry-next e)
 filled-back f next (misfit fault) q i e = absurd (bad≢entry e)
 
--- RDATA of a record that was read lies within the message
+-- RDATA of a record that was read is within the message
 pub room-back : (s : List ℕ) (next : ℕ) (fault : Fault) (w : Entry Record) (q : Record) (i : ℕ) → cond (ltb (length s) next) (bad fault) w ≡ entry q i → (next ≤ length s) × (w ≡ entry q i)
 room-back s next fault w q i = go (ltb (length s) next) refl
   where
@@ -466,7 +466,7 @@ room-back s next fault w q i = go (ltb (length s) next) refl
     go true p e = absurd (bad≢entry e)
     go false p e = (ltb-false (length s) next p, e)
 
--- a record that is read is valid, and ends behind its start and within the message
+-- a record that is read is valid, and ends after its start and within the message
 pub record-read : (s : List ℕ) (at : ℕ) (q : Record) (next : ℕ) → Octets s → recordAt s at ≡ entry q next → T (record? q) × (at < next) × (next ≤ length s)
 unfolding recordAt
 record-read s at q next o e =

@@ -80,7 +80,7 @@ tells x {r} {y} e q = subst (λ (z : Step). Tells z (r .octets) x) q (subst (λ 
 pub name-room : (x : StepOf) {r : Stepped} {size n : ℕ} → r ≡ stepRead x → r .step ≡ step.Name size n → size ≤ length (r .octets)
 name-room x {r} {size} e q = let (m, u, y, z) = tells x e q in form-room (nameForm m) (r .octets) size y z
 
--- the i-th piece of a layout, then those behind it
+-- the i-th piece of a layout, then those after it
 pub pieces-next : (s : List ℕ) (l : List Piece) (start end at i : ℕ) {x : StepOf} → stepAt (drop i l) s start end at ≡ x
     → pieces true (drop i l) s start end at ≡ follow s at (λ (n : ℕ). pieces true (drop (i + 1) l) s start end n) x
 pieces-next s l start end at i q =
