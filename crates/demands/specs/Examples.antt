@@ -9,7 +9,7 @@ use Rattle.names.specs.Name.{nameForm}
 use Rattle.names.specs.Walk.{walk, nameFrom}
 use Rattle.records.specs.Layout.{layouts, layoutOf, pieces, rdataAt}
 use Rattle.records.specs.Message.{questionForm, recordForm, headerForm, form}
-use Rattle.records.specs.Read.{unfit, questionAt, recordAt, sectionAt, sectionFrom}
+use Rattle.records.specs.Read.{firstCut, questionAt, recordAt, sectionAt, sectionFrom}
 use Rattle.records.specs.Decode.{headerOf, sectionsOf, messageOf, decode}
 use Rattle.spelling.specs.Spelling.{plain?, spelled, labelText, nameText, signedText, printable?, stringOctet, stringText, signed}
 use Rattle.options.specs.Options.{rows, members, formOf, valueText, words, shape, memberOf, memberText}
@@ -74,5 +74,5 @@ examples =
 
 -- every example, computed
 pub examples-hold : map (λ (e : Example). converted (hexed (e .message))) examples ≡ map (λ (e : Example). e .gives) examples
-unfolding examples lookup key? textOf decimal hexText nameForm walk nameFrom layouts layoutOf pieces rdataAt questionForm recordForm each headerForm form unfit questionAt recordAt sectionAt sectionFrom headerOf sectionsOf messageOf decode plain? spelled labelText nameText signedText printable? stringOctet stringText rows members formOf valueText words shape memberOf memberText optionForm divided optionsOf rising? rcodes ednsOf additionalOf viewOf questionText recordText flags ednsText itemText headText documentText signed recordItem ednsItem item documentOf viewText text converted toText
+unfolding examples lookup key? textOf decimal hexText nameForm walk nameFrom layouts layoutOf pieces rdataAt questionForm recordForm each headerForm form firstCut questionAt recordAt sectionAt sectionFrom headerOf sectionsOf messageOf decode plain? spelled labelText nameText signedText printable? stringOctet stringText rows members formOf valueText words shape memberOf memberText optionForm divided optionsOf rising? rcodes ednsOf additionalOf viewOf questionText recordText flags ednsText itemText headText documentText signed recordItem ednsItem item documentOf viewText text converted toText
 examples-hold = refl

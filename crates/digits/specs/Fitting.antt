@@ -1,4 +1,4 @@
--- The code's walk over the pieces of RDATA that stands by itself, without pointers. Assumes nothing.
+-- The code's walk over the pieces of RDATA by itself, without pointers. Assumes nothing.
 use mathlib.Core.Path.{_≡_, refl, sym, ap, _∙_}
 use mathlib.Core.Bool.{Bool, true, false, cond}
 use mathlib.Core.List.{List, [], _∷_}
@@ -21,7 +21,7 @@ use Rattle.digits.specs.Skipping.{skipped, nameEnd}
 use Rattle.digits.specs.declared.Skipped.{Skipped}
 use Rattle.digits.specs.declared.Skipped.the-variants.{To, Unfit}
 
--- what stands before does not matter
+-- what comes before does not matter
 laid-before : (l : List ℕ) (m : Laid) → laid? (before l m) ≡ laid? m
 laid-before l (laid m) = refl
 laid-before l (misfit fault) = refl
@@ -50,7 +50,7 @@ module _ (s : List ℕ) (size at : ℕ) (l : List Piece) where
       go true h = lt-leb size at (ltb-true at size h)
       go false h = le-leb size at (ltb-false at size h)
 
-  -- so many octets: RDATA ends before them, or not
+  -- n octets: RDATA ends before them, or not
   module _ {n : ℕ} (q : l ≡ fixed n ∷ drop 1 l) where
     short-fits : size < at + n → false ≡ fit l at
     unfolding pieces
@@ -84,7 +84,7 @@ module _ (s : List ℕ) (size at : ℕ) (l : List Piece) where
 
 -- ---- the ways of the code
 module _ {s : List ℕ} {kind size : ℕ} {v : Bool} {i at : ℕ} (f : Fits s kind size v i at) {p : PieceRead} (e : p ≡ pieceRead (drop i (layoutIn kind size))) where
-  -- the pieces behind the i-th
+  -- the pieces after the i-th
   behind : {next : ℕ} → v ≡ laid? (pieces false (drop 1 (drop i (layoutIn kind size))) s 0 size next) → Fits s kind size v (i + 1) next
   behind {next} h = record { long = f .long; goes = h ∙ ap (λ (m : List Piece). laid? (pieces false m s 0 size next)) (drop-drop 1 i (layoutIn kind size)) }
 
@@ -94,7 +94,7 @@ module _ {s : List ℕ} {kind size : ℕ} {v : Bool} {i at : ℕ} (f : Fits s ki
       let k = layout-small kind size in
       omega (arith, k .0, length-drop i (layoutIn kind size))
 
-  -- behind the last piece
+  -- after the last piece
   pub fits-end : p ≡ piece.End → leb size at ≡ v
   fits-end q = end-fits s size at _ (headed _ piece.End (sym q ∙ e)) ∙ sym (f .goes)
 

@@ -8,9 +8,9 @@ use borrow.Author.Tests.{le-leb, lt-leb}
 use lib.Dec.{leb, eqb}
 use lib.ListN.{length, drop}
 use Rattle.octets.specs.Lists.{all, lookup, present?}
+use Rattle.octets.specs.Arms.{Missed, armsOf, missed-row}
 use Rattle.spelling.specs.Spelling.{printable?}
-use Rattle.options.specs.Options.{Form, unlisted, rows, formOf, shape}
-use Rattle.options.specs.Writing.{no-row}
+use Rattle.options.specs.Options.{rows, formOf, shape}
 
 -- ---- what the lengths decide
 -- EXPIRE: no octets, or four
@@ -34,12 +34,12 @@ chosen-or : {A : Type 0} (b c : Bool) (a d : A) → (b || c) ≡ present? (cond 
 chosen-or true c a d = refl
 chosen-or false c a d = chosen c d
 
--- the form of no row takes no value
-form-none : (form : Form) (v : List ℕ) → form ≡ unlisted → false ≡ present? (shape form v)
-unfolding shape
-form-none form v e = rw e
-
 -- ---- the codes
+-- that of no row
+pub none-shaped : (X : Type 0) (code : ℕ) (v : List ℕ) → Missed X code (armsOf rows) → false ≡ present? (shape (formOf code) v)
+unfolding rows formOf shape
+none-shaped X code v h = rw (missed-row X code (armsOf rows) rows tt h)
+
 module _ {code : ℕ} (v : List ℕ) where
   -- the code is that of a row
   pub row-shaped : (k : ℕ) {r : Bool} → code ≡ k → r ≡ present? (shape (formOf k) v) → r ≡ present? (shape (formOf code) v)
@@ -48,10 +48,6 @@ module _ {code : ℕ} (v : List ℕ) where
   pub error-shaped : {r : Bool} → code ≡ 15 → r ≡ errorShape v → r ≡ present? (shape (formOf code) v)
   unfolding lookup rows formOf shape
   error-shaped e q = q ∙ rw e (chosen (errorShape v) _)
-
-  pub none-shaped : (code ≡ 3 → ⊥) → (code ≡ 5 → ⊥) → (code ≡ 6 → ⊥) → (code ≡ 7 → ⊥) → (code ≡ 9 → ⊥) → (code ≡ 10 → ⊥) → (code ≡ 11 → ⊥) → (code ≡ 12 → ⊥) → (code ≡ 14 → ⊥) → (code ≡ 15 → ⊥)
-      → false ≡ present? (shape (formOf code) v)
-  none-shaped h3 h5 h6 h7 h9 h10 h11 h12 h14 h15 = form-none (formOf code) v (no-row code h3 h5 h6 h7 h9 h10 h11 h12 h14 h15)
 
   module _ {size : ℕ} (z : size ≡ length v) where
     pub expire-shaped : {r : Bool} → code ≡ 9 → r ≡ expirySize size → r ≡ present? (shape (formOf code) v)

@@ -1,4 +1,4 @@
-// Octets in hexadecimal where they stand in a text, judged and written without a buffer. The definitions are in specs/.
+// Octets in hexadecimal in place in a text, judged and written without a buffer. The definitions are in specs/.
 use edns::has_edns_fields;
 use octets::put;
 use octets::wide;
@@ -32,7 +32,7 @@ fn digit_value(c: u8) -> u8
     c - 55
 }
 
-// How many octets the digits stand for.
+// How many octets the digits make.
 fn size_of(hex: &[u8]) -> usize
     ensures { λ r. ⌜ r ≡ length (paired (now (hex .entry))) ⌝ }
     ensures { λ r. ⌜ 2 * r ≤ length (now (hex .entry)) ⌝ }
@@ -96,7 +96,7 @@ pub fn all_zero(hex: &[u8]) -> bool
     true
 }
 
-// Every octet behind the first two is 0x20 to 0x7E.
+// Every octet after the first two is 0x20 to 0x7E.
 fn is_text(hex: &[u8]) -> bool
     requires { ⌜ Hexes (now hex) ⌝ }
     ensures { λ r. ⌜ r ≡ all printable? (drop 2 (paired (now (hex .entry)))) ⌝ }
@@ -209,7 +209,7 @@ pub fn is_edns(root: bool, ttl: u32, rcode: u32, hex: &[u8]) -> bool
 }
 
 // ---- RDATA
-// The place behind a name, or that there is none.
+// The place after a name, or that there is none.
 enum Skipped {
     To(usize),
     Unfit,

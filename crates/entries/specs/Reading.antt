@@ -17,6 +17,7 @@ use Rattle.octets.specs.Decimal.{natural, number, till}
 use Rattle.octets.specs.Hexadecimal.{hex}
 use Rattle.names.specs.Name.{Name, name?, nameForm}
 use Rattle.records.specs.Layout.{layouts, layoutOf, rdataAt, fits?}
+use Rattle.records.specs.Pieces.{layout-beyond}
 use Rattle.records.specs.Message.{record?, question?, questionForm, recordForm, opt?}
 use Rattle.spelling.specs.Spelling.{Signed}
 use Rattle.edns.specs.Element.{showsEdns, shows-edns}
@@ -78,8 +79,7 @@ kind-in {v} h = rw (le-ltb 65535 v h)
 
 -- a TYPE that is out of range is not listed, so any RDATA fits
 unlisted : (n : ℕ) → 65535 < n → layoutOf n ≡ none
-unfolding layoutOf layouts lookup
-unlisted n h = rw (ne-eqb 2 n (λ e. omega arith), ne-eqb 3 n (λ e. omega arith), ne-eqb 4 n (λ e. omega arith), ne-eqb 5 n (λ e. omega arith), ne-eqb 6 n (λ e. omega arith), ne-eqb 7 n (λ e. omega arith), ne-eqb 8 n (λ e. omega arith), ne-eqb 9 n (λ e. omega arith), ne-eqb 12 n (λ e. omega arith), ne-eqb 14 n (λ e. omega arith), ne-eqb 15 n (λ e. omega arith))
+unlisted n h = layout-beyond n (omega arith)
 
 fits-same : (n m : ℕ) (l : List ℕ) → layoutOf n ≡ layoutOf m → fits? n l ≡ fits? m l
 unfolding fits? rdataAt

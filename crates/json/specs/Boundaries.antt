@@ -11,7 +11,7 @@ use Rattle.names.specs.Name.{nameForm}
 use Rattle.names.specs.Walk.{walk, nameFrom}
 use Rattle.records.specs.Layout.{layouts, layoutOf, pieces, rdataAt}
 use Rattle.records.specs.Message.{questionForm, recordForm, headerForm, form}
-use Rattle.records.specs.Read.{unfit, questionAt, recordAt, sectionAt, sectionFrom}
+use Rattle.records.specs.Read.{firstCut, questionAt, recordAt, sectionAt, sectionFrom}
 use Rattle.records.specs.Decode.{headerOf, sectionsOf, messageOf, Decoded, accepted, refused, decode}
 use Rattle.edns.specs.Edns.{rising?, divided, optionsOf, rcodes, ednsOf}
 use Rattle.json.specs.View.{Additional, ordinary, edns, additionalOf, viewOf}
@@ -66,5 +66,5 @@ conditions =
     ∷ []
 
 pub conditions-hold : map (λ (c : Condition). elements (decode (c .message))) conditions ≡ map (λ (c : Condition). c .shows) conditions
-unfolding conditions lookup key? nameForm walk nameFrom layouts layoutOf pieces rdataAt questionForm recordForm each headerForm form unfit questionAt recordAt sectionAt sectionFrom headerOf sectionsOf messageOf decode rising? divided optionsOf rcodes ednsOf additionalOf viewOf
+unfolding conditions lookup key? nameForm walk nameFrom layouts layoutOf pieces rdataAt questionForm recordForm each headerForm form firstCut questionAt recordAt sectionAt sectionFrom headerOf sectionsOf messageOf decode rising? divided optionsOf rcodes ednsOf additionalOf viewOf
 conditions-hold = refl

@@ -17,9 +17,9 @@ use Rattle.octets.specs.Calls.{answerOf, Gives}
 use Rattle.octets.specs.declared.Outcome.{Outcome}
 use Rattle.octets.specs.declared.Outcome.the-variants.{Refused}
 use Rattle.names.specs.Name.{number}
-use Rattle.records.specs.Message.{form}
+use Rattle.records.specs.Message.{Message, form}
 use Rattle.records.specs.Read.{Entry, entry, bad, Reached, reached, stopped, questionAt, recordAt, sectionAt, sectionFrom}
-use Rattle.records.specs.Decode.{Decoded, accepted, refused, zOf, sectionsOf, messageOf, decode}
+use Rattle.records.specs.Decode.{Decoded, accepted, refused, zOf, sectionsOf, messageOf, afterReading, decode}
 use Rattle.records.specs.RecordLaws.{question-read, record-read}
 use Rattle.json.specs.View.{View}
 use Rattle.json.specs.View as view
@@ -65,21 +65,23 @@ at-first : (size : ℕ) (b : Bool) (k : ℕ) (d : Decoded) → (b ≡ false → 
 at-first size true k d f = omega arith
 at-first size false k d f = f refl
 
-ended-placed : (size : ℕ) (whole : Decoded) (w : Reached) → Inside size w → Placed size whole
-    → Placed size (elim w as (λ x. Decoded) [ reached at ↦ cond (ltb at size) (refused 8 at) whole | stopped at fault ↦ refused (number (fault .kind)) at ])
-ended-placed size whole (reached at) h p = go (ltb at size)
+ended-placed : (s : List ℕ) (m : Message) (w : Reached) → Inside (length s) w → Placed (length s) (afterReading s m w)
+ended-placed s m (reached at) h = go (ltb at (length s))
   where
-    go : (b : Bool) → Placed size (cond b (refused 8 at) whole)
+    whole : Decoded
+    whole = cond (ltb 65535 (length (form m))) (refused 9 0) (accepted m)
+
+    go : (b : Bool) → Placed (length s) (cond b (refused 8 at) whole)
     go true = h
-    go false = p
-ended-placed size whole (stopped at fault) h p = h
+    go false = at-first (length s) (ltb 65535 (length (form m))) 9 (accepted m) λ d. tt
+ended-placed s m (stopped at fault) h = h
 
 decode-placed : (s : List ℕ) → Octets s → Placed (length s) (decode s)
 unfolding decode
 decode-placed s o =
     let n = length s in
     at-first n (ltb 65535 n) 2 _ λ a. at-first n (ltb n 12) 1 _ λ b. at-first n (eqb (zOf s) 1) 3 _ λ c.
-    ended-placed n _ (sectionsOf s .additional .end) (sections-inside s o (ltb-false n 12 b)) (at-first n (ltb 65535 (length (form (messageOf s)))) 9 (accepted (messageOf s)) λ d. tt)
+    ended-placed s (messageOf s) (sectionsOf s .additional .end) (sections-inside s o (ltb-false n 12 b))
 
 -- the same of an output, and of a call's outcome
 abbrev At : ℕ → Output → Type 0

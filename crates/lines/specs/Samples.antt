@@ -10,7 +10,7 @@ use Rattle.names.specs.Name.{nameForm}
 use Rattle.names.specs.Walk.{walk, nameFrom}
 use Rattle.records.specs.Layout.{layouts, layoutOf, pieces, rdataAt}
 use Rattle.records.specs.Message.{questionForm, recordForm, headerForm, form}
-use Rattle.records.specs.Read.{unfit, questionAt, recordAt, sectionAt, sectionFrom}
+use Rattle.records.specs.Read.{firstCut, questionAt, recordAt, sectionAt, sectionFrom}
 use Rattle.records.specs.Decode.{headerOf, sectionsOf, messageOf, decode}
 use Rattle.spelling.specs.Spelling.{plain?, spelled, labelText, nameText}
 use Rattle.edns.specs.Edns.{ednsOf}
@@ -23,7 +23,7 @@ use Rattle.lines.specs.Lines.{hexValue, unhexed, refusalLine, shown, tex
 -- document 01's line
 pub message-line : textLine (ascii "1A2B01000001000000000000016101620000010001")
     ≡ ascii "{\"ID\":6699,\"QR\":0,\"Opcode\":0,\"AA\":0,\"TC\":0,\"RD\":1,\"RA\":0,\"AD\":0,\"CD\":0,\"RCODE\":0,\"QDCOUNT\":1,\"ANCOUNT\":0,\"NSCOUNT\":0,\"ARCOUNT\":0,\"questionRRs\":[{\"NAME\":\"a.b.\",\"TYPE\":1,\"CLASS\":1}],\"answerRRs\":[],\"authorityRRs\":[],\"additionalRRs\":[]}"
-unfolding hexValue unhexed refusalLine shown textLine lookup key? textOf decimal hexText nameForm walk nameFrom layouts layoutOf pieces rdataAt questionForm recordForm each headerForm form unfit questionAt recordAt sectionAt sectionFrom headerOf sectionsOf messageOf decode plain? spelled labelText nameText ednsOf additionalOf viewOf questionText recordText itemText headText documentText documentOf viewText text converted
+unfolding hexValue unhexed refusalLine shown textLine lookup key? textOf decimal hexText nameForm walk nameFrom layouts layoutOf pieces rdataAt questionForm recordForm each headerForm form firstCut questionAt recordAt sectionAt sectionFrom headerOf sectionsOf messageOf decode plain? spelled labelText nameText ednsOf additionalOf viewOf questionText recordText itemText headText documentText documentOf viewText text converted
 message-line = refl
 
 -- digits in either letter case; an odd count; a non-digit; the empty line

@@ -1,5 +1,5 @@
 -- What the code answers for a name: its limits, faults and answers beside those of the definitions. Assumes nothing.
-use mathlib.Core.Path.{_≡_, refl}
+use mathlib.Core.Path.{_≡_, refl, ap}
 use mathlib.Core.List.{_++_}
 use Prim.Native.Nat.{ℕ, _-_}
 use lib.ListN.{length, replicate}
@@ -14,7 +14,7 @@ use Rattle.names.specs.declared.Limit.the-variants.{Message, Rdata}
 use Rattle.names.specs.declared.Named.the-variants.{Read, Faulty}
 use Rattle.names.specs.declared.NameRead.{NameRead}
 
--- the limit that the code's limit stands for
+-- the limit that the code's limit means
 abbrev pub limitOf : Limit → walk.Limit
 limitOf Message = message
 limitOf (Rdata start end) = rdata start end
@@ -35,14 +35,17 @@ faultOf fault = codeOf (fault .kind) (fault .octet)
 abbrev pub pastOf : Limit → ℕ → Fault
 pastOf limit at = faultOf (past (limitOf limit) at)
 
--- document 01's number of the code's fault, and its octet
+-- the kind of the code's fault, document 01's number for it, and the octet at fault
+abbrev pub kindOf : Fault → Kind
+kindOf (Cut octet) = cut
+kindOf (Reserved octet) = reserved
+kindOf (Target octet) = target
+kindOf (Long octet) = long
+kindOf (Short octet) = short
+kindOf (Surplus octet) = surplus
+
 abbrev pub numberOf : Fault → ℕ
-numberOf (Cut octet) = 1
-numberOf (Reserved octet) = 4
-numberOf (Target octet) = 5
-numberOf (Long octet) = 6
-numberOf (Short octet) = 7
-numberOf (Surplus octet) = 7
+numberOf fault = number (kindOf fault)
 
 abbrev pub octetOf : Fault → ℕ
 octetOf (Cut octet) = octet
@@ -52,14 +55,17 @@ octetOf (Long octet) = octet
 octetOf (Short octet) = octet
 octetOf (Surplus octet) = octet
 
--- both are those of the definitions' fault
+-- they are those of the definitions' fault
+pub kind-same : (kind : Kind) (octet : ℕ) → kindOf (codeOf kind octet) ≡ kind
+kind-same cut octet = refl
+kind-same reserved octet = refl
+kind-same target octet = refl
+kind-same long octet = refl
+kind-same short octet = refl
+kind-same surplus octet = refl
+
 pub number-same : (kind : Kind) (octet : ℕ) → numberOf (codeOf kind octet) ≡ number kind
-number-same cut octet = refl
-number-same reserved octet = refl
-number-same target octet = refl
-number-same long octet = refl
-number-same short octet = refl
-number-same surplus octet = refl
+number-same kind octet = ap number (kind-same kind octet)
 
 pub octet-same : (kind : Kind) (octet : ℕ) → octetOf (codeOf kind octet) ≡ octet
 octet-same cut octet = refl
@@ -73,7 +79,7 @@ octet-same surplus octet = refl
 unfoldable pub failed : Fault → NameRead
 failed fault = record { answer = Faulty fault; octets = replicate 255 0 }
 
--- the answer of a walk: a name's form stands in the first octets
+-- the answer of a walk: a name's form is in the first octets
 unfoldable pub nameRead : walk.Named → NameRead
 nameRead (named n next) =
     record { answer = Read next (length (nameForm n)); octets = nameForm n ++ replicate (255 - length (nameForm n)) 0 }

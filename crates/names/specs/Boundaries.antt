@@ -7,7 +7,7 @@ use Rattle.octets.specs.Lists.{hexed}
 use Rattle.names.specs.Name.{Kind, cut, reserved, target, long, short}
 use Rattle.names.specs.Walk.{Limit, message, rdata, Named, named, faulty, walk, nameFrom, nameAt}
 
--- the offset behind the name, or the fault's kind and octet
+-- the offset after the name, or the fault's kind and octet
 pub data Verdict : Type 0 where
   ends : ℕ → Verdict
   fault : Kind → ℕ → Verdict
@@ -16,14 +16,14 @@ abbrev pub verdict : Named → Verdict
 verdict (named name next) = ends next
 verdict (faulty f) = fault (f .kind) (f .octet)
 
--- octets behind a header of 12, where the octets end, and the offset of a name in them
+-- octets after a header of 12, where the octets end, and the offset of a name in them
 pub record Boundary : Type 0 where
   pub octets : List ℕ
   pub limit : Limit
   pub at : ℕ
   pub gives : Verdict
 
--- a label of so many octets
+-- a label of n octets
 abbrev pub label : ℕ → List ℕ
 label n = n ∷ replicate n 97
 
@@ -44,7 +44,7 @@ boundaries =
     ∷ record { octets = hexed "00C00B"; limit = message; at = 13; gives = fault target 13 }
     ∷ record { octets = hexed "00C00C"; limit = message; at = 13; gives = ends 15 }
     ∷ record { octets = hexed "00C00D"; limit = message; at = 13; gives = fault target 13 }
-    -- a label and a pointer back to it; a pointer behind a label may not go to that label's run
+    -- a label and a pointer back to it; a pointer after a label may not go to that label's run
     ∷ record { octets = hexed "0161C00C"; limit = message; at = 12; gives = fault target 14 }
     ∷ record { octets = hexed "000161C00C"; limit = message; at = 13; gives = ends 17 }
     -- in RDATA from 13 to 15: a label and a pointer cut by its end, and a name that ends at it

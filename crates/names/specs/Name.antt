@@ -10,7 +10,7 @@ use Rattle.octets.specs.Lists.{all, octet?}
 abbrev pub Name : Type 0
 Name = List (List ℕ)
 
--- the name without pointers: each label behind its length, and the root octet
+-- the name without pointers: each label after its length, and the root octet
 unfoldable pub nameForm : Name → List ℕ
 nameForm [] = 0 ∷ []
 nameForm (label ∷ name) = length label ∷ (label ++ nameForm name)
@@ -34,7 +34,7 @@ pub data Kind : Type 0 where
   long : Kind
   -- RDATA ends inside its layout
   short : Kind
-  -- octets of RDATA are left over behind its layout
+  -- octets of RDATA are left over after its layout
   surplus : Kind
 
 -- document 01's number for each
@@ -46,8 +46,9 @@ number long = 6
 number short = 7
 number surplus = 7
 
--- a fault, with the offset of the octet at fault: the length octet, the pointer's first octet, the first octet of the field that doesn't fit,
--- RDATA's first octet where it ends inside its layout, the first octet left over. Answers tell the offset of the entry instead.
+-- a fault, with the offset of the octet at fault: the length octet, the pointer's first octet, the first octet of the field
+-- that doesn't fit, RDATA's first octet where it ends inside its layout, the first octet left over. Answers report the offset
+-- of the entry instead.
 pub record Fault : Type 0 where
   pub kind : Kind
   pub octet : ℕ

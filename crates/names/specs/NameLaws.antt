@@ -42,12 +42,12 @@ named-next e = ap nextOf e
 pub faulty≢named : {fault : Fault} {n : Name} {i : ℕ} → faulty fault ≡ named n i → ⊥
 faulty≢named e = subst Good (sym e) tt
 
--- the answer behind a label
+-- the answer after a label
 labelled-back : (l : List ℕ) (w : Named) (n : Name) (next : ℕ) → labelled l w ≡ named n next → (m : Name) × (w ≡ named m next) × (l ∷ m ≡ n)
 labelled-back l (named m i) n next e = (m, ap (named m) (named-next e), named-name e)
 labelled-back l (faulty fault) n next e = absurd (faulty≢named e)
 
--- the answer behind a pointer
+-- the answer after a pointer
 resumed-back : (here : ℕ) (w : Named) (n : Name) (next : ℕ) → resumed here w ≡ named n next → (other : ℕ) × (w ≡ named n other) × (here ≡ next)
 resumed-back here (named m i) n next e = (i, ap (λ (k : Name). named k i) (named-name e), named-next e)
 resumed-back here (faulty fault) n next e = absurd (faulty≢named e)
@@ -200,7 +200,7 @@ pub form-octets : (n : Name) → T (name? n) → Octets (nameForm n)
 form-octets n h = labels-octets n (name-labels n h)
 
 -- ---- octets of a part of a text
--- what stands behind some octets
+-- what comes after some octets
 pub drop-octets : (n : ℕ) (s : List ℕ) → Octets s → Octets (drop n s)
 drop-octets zero s h = h
 drop-octets (suc n) [] h = tt
@@ -250,18 +250,18 @@ walk-back (l ∷ n) (suc steps) s r limit run total at v b f e h =
     )
     (ap₂ labelled (take-here s l (nameForm n ++ r) (at + 1) behind) rest ∙ ap (named (l ∷ n)) place′)
 
--- where the form of a name stands, that name is read
+-- where the form of a name is, that name is read
 pub read-back-sized : (s r : List ℕ) (limit : Limit) (run at : ℕ) (n : Name) → Sized n → length (nameForm n) ≤ 255 → drop at s ≡ nameForm n ++ r
     → at + length (nameForm n) ≤ endOf s limit → nameFrom s limit run at ≡ named n (at + length (nameForm n))
 unfolding nameFrom
 read-back-sized s r limit run at n v b e h = walk-back n (suc (run + 255)) s r limit run 0 at v (omega arith) (omega arith) e h
 
--- where a valid name's form stands, that name is read
+-- where a valid name's form is, that name is read
 pub read-back : (s r : List ℕ) (limit : Limit) (run at : ℕ) (n : Name) → T (name? n) → drop at s ≡ nameForm n ++ r
     → at + length (nameForm n) ≤ endOf s limit → nameFrom s limit run at ≡ named n (at + length (nameForm n))
 read-back s r limit run at n v e h = read-back-sized s r limit run at n (name-sized n v) (form-short n v) e h
 
--- ---- what is read has the sizes of a name, and ends behind its start and within its limit
+-- ---- what is read has the sizes of a name, and ends after its start and within its limit
 -- what is shown of each name
 abbrev Within : List ℕ → Limit → ℕ → ℕ → ℕ → Name → ℕ → Type 0
 Within s limit run total at n next =
@@ -303,7 +303,7 @@ labels-test : (n : Name) → Sized n → All Octets n → T (all label? n)
 labels-test [] h o = tt
 labels-test (l ∷ n) h o = both (label? l) (all label? n) (label-test l (h .0) (h .1) (o .0)) (labels-test n (h .2) (o .1))
 
--- a name that is read from octets is valid, and ends behind its start and within its limit
+-- a name that is read from octets is valid, and ends after its start and within its limit
 pub read-valid : (s : List ℕ) (limit : Limit) (run at : ℕ) (n : Name) (next : ℕ) → Octets s → endOf s limit ≤ length s
     → nameFrom s limit run at ≡ named n next → T (name? n) × (at < next) × (next ≤ endOf s limit)
 unfolding nameFrom
@@ -317,7 +317,7 @@ abbrev Whole : List ℕ → Limit → ℕ → ℕ → ℕ → Name → ℕ → T
 Whole s limit run total at n next =
     endOf s limit ≤ length s → run ≡ 0 → (drop at s ≡ nameForm n ++ drop next s) × (next ≡ at + length (nameForm n))
 
--- a part of a text and what stands behind it
+-- a part of a text and what comes after it
 pub drop-part : (s : List ℕ) (at n : ℕ) → drop at s ≡ part s at n ++ drop (at + n) s
 drop-part s at n = sym (take-append-drop n (drop at s)) ∙ ap (λ (l : List ℕ). part s at n ++ l) (drop-drop n at s)
 
@@ -338,11 +338,19 @@ walk-whole s = walk-holds s (Whole s)
     (drop-one s at (omega arith) ∙ ap₂ (λ (y : ℕ) (m : List ℕ). y ∷ m) (sym e ∙ sym a) tail, omega (arith, w .1)))
     (λ limit run total at goal h g n next v k z. absurd (omega arith))
 
--- a name that is read where no pointer is taken stands there in its form
+-- a name that is read where no pointer is taken is there in its form
 pub read-form : (s : List ℕ) (limit : Limit) (at : ℕ) (n : Name) (next : ℕ) → endOf s limit ≤ length s
     → nameFrom s limit 0 at ≡ named n next → (drop at s ≡ nameForm n ++ drop next s) × (next ≡ at + length (nameForm n))
 unfolding nameFrom
 read-form s limit at n next h e = walk-whole s (suc (0 + 255)) limit 0 0 at n next e h refl
+
+-- a name that is read where no pointer is taken is read so wherever a pointer may go
+pub read-plain : (s : List ℕ) (limit : Limit) (run at : ℕ) (n : Name) (next : ℕ) → endOf s limit ≤ length s
+    → nameFrom s limit 0 at ≡ named n next → nameFrom s limit run at ≡ named n next
+read-plain s limit run at n next h e =
+    let (own, place) = read-form s limit at n next h e in
+    let w = read-sized s limit 0 at n next h e in
+    read-back-sized s (drop next s) limit run at n (w .0) (w .1) own (omega (arith, w .3)) ∙ ap (named n) (sym place)
 
 -- ---- the bound on steps is never met
 -- two choices by one test are equal if they are equal each way

@@ -13,7 +13,7 @@ part s at n = take n (drop at s)
 -- where the octets end for a name: at the message's end, or, inside RDATA and before the first jump, at the end of RDATA
 pub data Limit : Type 0 where
   message : Limit
-  -- RDATA's first octet, and the offset behind its last
+  -- RDATA's first octet, and the offset after its last
   rdata : ℕ → ℕ → Limit
 
 abbrev pub endOf : List ℕ → Limit → ℕ
@@ -25,7 +25,7 @@ abbrev pub past : Limit → ℕ → Fault
 past message at = record { kind = cut; octet = at }
 past (rdata start end) at = record { kind = short; octet = start }
 
--- the labels of a name and the offset behind it in its own place, or its first fault
+-- the labels of a name and the offset after it in its own place, or its first fault
 pub data Named : Type 0 where
   named : Name → ℕ → Named
   faulty : Fault → Named
@@ -35,12 +35,12 @@ abbrev pub labelled : List ℕ → Named → Named
 labelled label (named name next) = named (label ∷ name) next
 labelled label (faulty fault) = faulty fault
 
--- behind a pointer the name in its own place ends with the pointer
+-- after a pointer the name in its own place ends with the pointer
 abbrev pub resumed : ℕ → Named → Named
 resumed next (named name other) = named name next
 resumed next (faulty fault) = faulty fault
 
--- the 14-bit target of the pointer at an offset
+-- the 14-bit target of the pointer at an offset; of no meaning where the octet there is below 192
 abbrev pub targetAt : List ℕ → ℕ → ℕ
 targetAt s at = (getD s at 0 - 192) * 256 + getD s (at + 1) 0
 
@@ -48,8 +48,9 @@ targetAt s at = (getD s at 0 - 192) * 256 + getD s (at + 1) 0
 abbrev pub allowed? : ℕ → ℕ → Bool
 allowed? run goal = leb 12 goal && ltb goal run
 
--- The walk from the length octet at an offset on. `run` is where the present run of labels began, `total` the octets of the labels so far.
--- The first argument bounds the number of steps: each step adds to `total`, which stays below 255, or lowers `run`.
+-- The walk from the length octet at an offset on: `walk steps s limit run total at`. `run` is where the present run of labels
+-- began, `total` the octets of the labels so far. `steps` bounds the number of steps: each adds to `total`, which stays below
+-- 255, or lowers `run`; so the bound of `nameFrom` is never met (`walk-steps` of NameLaws).
 -- In order: the length octet past the end; 0 ends the name; a label past the end, then a name over 255;
 -- top bits 01 and 10; a pointer's second octet past the end, then its target.
 unfoldable pub walk : ℕ → List ℕ → Limit → ℕ → ℕ → ℕ → Named
@@ -68,8 +69,8 @@ walk (suc steps) s limit run total at =
     (cond (leb (endOf s limit) (at + 1)) (faulty (past limit at))
     (cond (allowed? run goal) jump (faulty (record { kind = target; octet = at })))))))
 
--- A name read from an offset, where a first pointer must go below `run`: below the name's own start in a message; nowhere, with run 0,
--- where no pointer is taken.
+-- A name read from an offset, `nameFrom s limit run at`, where a first pointer must go below `run`: below the name's own start
+-- in a message; nowhere, with run 0, where no pointer is taken.
 unfoldable pub nameFrom : List ℕ → Limit → ℕ → ℕ → Named
 nameFrom s limit run at = walk (suc (run + 255)) s limit run 0 at
 

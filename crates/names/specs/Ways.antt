@@ -1,20 +1,21 @@
 -- The code's walk over a name, way by way: what is read from a length octet on gives the whole answer. Assumes nothing.
-use mathlib.Core.Path.{_≡_, refl, sym, ap, ap₂, _∙_}
-use mathlib.Core.Bool.{cond}
+use mathlib.Core.Path.{_≡_, refl, sym, ap, _∙_}
+use mathlib.Core.Bool.{Bool, true, false, cond}
 use mathlib.Core.List.{List, [], _∷_, _++_, append-assoc}
 use Prim.Native.Nat.{ℕ, zero, suc, _+_, _-_, _*_, _≤_, _<_}
 use native.Mathlib.Nat.{zero-add}
 use native.Mathlib.Omega.{arith}
-use borrow.Author.Tests.{le-leb, lt-leb, le-ltb, lt-ltb, ne-eqb}
+use borrow.Author.Tests.{ne-eqb, eqb-true}
 use lib.Dec.{eqb}
 use lib.ListN.{length, getD, drop, replicate, length-append, length-replicate, length-drop}
 use lib.Seq.{getD-drop}
 use Rattle.octets.specs.Lists.{each}
-use Rattle.octets.specs.Overlay.{overlay, overlay-join, overlay-first, Wrote, then, copy-step}
+use Rattle.octets.specs.Overlay.{overlay, overlay-join, overlay-first, Wrote, nothing, then, copy-step}
 use Rattle.names.specs.Name.{Name, nameForm}
-use Rattle.names.specs.Walk.{part, endOf, named, faulty, labelled, resumed, walk, nameFrom}
+use Rattle.names.specs.Walk.{part, endOf, named, faulty, labelled, resumed, nameAt}
 use Rattle.names.specs.Walk as walk
-use Rattle.names.specs.NameLaws.{part-long, walk-steps, read-sized}
+use Rattle.names.specs.NameLaws.{part-long, read-sized}
+use Rattle.names.specs.Steps.{walkOn, name-walk, LengthOctet, step-past, step-root, step-cut, step-long, step-label, step-reserved, step-half, step-low, step-far, step-jump}
 use Rattle.names.specs.Answer.{limitOf, faultOf, pastOf, failed, nameRead}
 use Rattle.names.specs.declared.Fault.{Fault}
 use Rattle.names.specs.declared.Fault.the-variants.{Reserved, Target, Long}
@@ -24,11 +25,11 @@ use Rattle.names.specs.declared.Named.the-variants.{Read}
 use Rattle.names.specs.declared.NameRead.{NameRead}
 
 -- ---- the form without the root octet
--- a label behind its length
+-- a label after its length
 abbrev pub labelForm : List ℕ → List ℕ
 labelForm label = length label ∷ label
 
--- the root octet stands behind the labels
+-- the root octet comes after the labels
 pub form-labels : (n : Name) → nameForm n ≡ each labelForm n ++ (0 ∷ [])
 unfolding nameForm each
 form-labels [] = refl
@@ -55,10 +56,17 @@ form-zeros n h =
     ∙ sym (overlay-first (replicate 255 0) l (omega arith))
 
 -- ---- the whole answer by what is read from here on
--- `next` is the offset behind the first pointer, or 0, and `form` has the first `total` octets
+-- the offset after the name in its own place: after its first pointer, or, if there is none (0), where its labels end
+abbrev pub ownEnd : ℕ → ℕ → ℕ
+ownEnd next end = cond (eqb next 0) end next
+
+-- `form` has the first `total` octets
 unfoldable pub finished : ℕ → ℕ → List ℕ → walk.Named → NameRead
-finished next total form (named n other) =
-    record { answer = Read (cond (eqb next 0) other next) (total + length (nameForm n)); octets = overlay form total (each labelForm n) }
+finished next total form (named n end) =
+    record {
+      answer = Read (ownEnd next end) (total + length (nameForm n));
+      octets = overlay form total (each labelForm n);
+    }
 finished next total form (faulty fault) = failed (faultOf fault)
 
 -- two answers of a name are equal by their parts
@@ -83,201 +91,147 @@ finished-label next total x form l (named n other) e =
     read-same refl (omega arith) (sym (overlay-join form total (labelForm l) (each labelForm n)) ∙ rw (k, e))
 finished-label next total x form l (faulty fault) e = refl
 
--- a first pointer is followed
-finished-first : (total at : ℕ) (form : List ℕ) (w : walk.Named)
-    → finished 0 total form (resumed (at + 2) w) ≡ finished (at + 2) total form w
+-- a pointer is followed
+finished-jump : (next total at : ℕ) (form : List ℕ) (w : walk.Named)
+    → finished next total form (resumed (at + 2) w) ≡ finished (ownEnd next (at + 2)) total form w
 unfolding finished
-finished-first total at form (named n other) = rw (ne-eqb (at + 2) 0 (λ h. omega arith))
-finished-first total at form (faulty fault) = refl
-
--- a later pointer is followed
-finished-later : (next total here : ℕ) (form : List ℕ) (w : walk.Named) → (next ≡ 0 → ⊥)
-    → finished next total form (resumed here w) ≡ finished next total form w
-unfolding finished
-finished-later next total here form (named n other) h = rw (ne-eqb next 0 h)
-finished-later next total here form (faulty fault) h = refl
+finished-jump next total at form (named n end) = read-same (go (eqb next 0) refl) refl refl
+  where
+    go : (b : Bool) → eqb next 0 ≡ b → ownEnd next (at + 2) ≡ ownEnd (ownEnd next (at + 2)) end
+    go true e = rw (e, ne-eqb (at + 2) 0 (λ h. omega arith))
+    go false e = rw (e, e)
+finished-jump next total at form (faulty fault) = refl
 
 -- v is the whole answer, by the walk from the length octet at `at` on
 pub record From (s : List ℕ) (v : NameRead) (form : List ℕ) (limit : Limit) (run next total at : ℕ) : Type 0 where
-  pub goes : v ≡ finished next total form (walk (suc (run + 255)) s (limitOf limit) run total at)
+  pub goes : v ≡ finished next total form (walkOn s (limitOf limit) run total at)
 
 -- before the first length octet
-pub from-start : (s : List ℕ) (limit : Limit) (run at : ℕ) → endOf s (limitOf limit) ≤ length s
-    → From s (nameRead (nameFrom s (limitOf limit) run at)) (replicate 255 0) limit run 0 0 at
-unfolding nameFrom
-from-start s limit run at h =
-    record { goes = finished-start (walk (suc (run + 255)) s (limitOf limit) run 0 at) (λ n next e. read-sized s (limitOf limit) run at n next h e .1) }
+pub from-start : (s : List ℕ) (limit : Limit) (at : ℕ) → endOf s (limitOf limit) ≤ length s
+    → From s (nameRead (nameAt s (limitOf limit) at)) (replicate 255 0) limit at 0 0 at
+from-start s limit at h =
+    record {
+      goes = finished-start (nameAt s (limitOf limit) at) (λ n next e. read-sized s (limitOf limit) at at n next h e .1)
+          ∙ ap (finished 0 0 (replicate 255 0)) (name-walk s (limitOf limit) at at);
+    }
 
 -- ---- the octets of a label
+-- octets are written, unless the labels have `more` octets, over 254
+pub record Kept (more : ℕ) (b : List ℕ) (to : ℕ) (xs b′ : List ℕ) (r : ℕ) : Type 0 where
+  pub wrote : more ≤ 254 → Wrote b to xs b′ r
+
+-- none
+pub keep-none : (more : ℕ) (b : List ℕ) (to : ℕ) → Kept more b to [] b to
+keep-none more b to = record { wrote = λ h. nothing b to }
+
+-- x is the length octet of a label
+pub record Label (s : List ℕ) (limit : Limit) (at end x : ℕ) : Type 0 where
+  pub bound : end ≡ endOf s (limitOf limit)
+  pub inside : endOf s (limitOf limit) ≤ length s
+  pub within : at < end
+  pub octet : x ≡ getD s at 0
+  pub some : x ≡ 0 → ⊥
+  pub few : x ≤ 63
+
 -- one octet more, within the end
-pub label-more : (s : List ℕ) (at k : ℕ) {b b₁ b₂ : List ℕ} {to r₁ r₂ end : ℕ} → at + 1 + k < end → end ≤ length s
-    → Wrote b to (part s (at + 1) k) b₁ r₁ → Wrote b₁ r₁ (getD s (at + 1 + k) 0 ∷ []) b₂ r₂ → Wrote b to (part s (at + 1) (k + 1)) b₂ r₂
-label-more s at k h i p q =
+pub keep-more : {s : List ℕ} {limit : Limit} {at end x : ℕ} → Label s limit at end x → (k : ℕ) {more : ℕ} {b b₁ b₂ : List ℕ}
+    {to r₁ r₂ : ℕ} → at + 1 + k < end → Kept more b to (part s (at + 1) k) b₁ r₁
+    → Kept more b₁ r₁ (getD s (at + 1 + k) 0 ∷ []) b₂ r₂ → Kept more b to (part s (at + 1) (k + 1)) b₂ r₂
+keep-more {s} {at = at} l k h p q =
     let long = length-drop (at + 1) s in
-    copy-step (drop (at + 1) s) {i = k} (omega arith) p (rw (getD-drop (at + 1) s k 0) q)
+    record {
+      wrote = λ m. copy-step (drop (at + 1) s) {i = k} (omega (arith, l .bound, l .inside)) (p .wrote m)
+          (rw (getD-drop (at + 1) s k 0) (q .wrote m));
+    }
 
 -- ---- the ways
 module _ {s : List ℕ} {v : NameRead} {form : List ℕ} {limit : Limit} {run next total at end : ℕ}
     (w : From s v form limit run next total at) (b : end ≡ endOf s (limitOf limit)) where
-  -- the length octet stands past the end
-  pub behind : {f : Fault} {r : NameRead} → end ≤ at → f ≡ pastOf limit at → r ≡ failed f → r ≡ v
-  unfolding walk finished
-  behind h p q = q ∙ rw (p, w .goes, le-leb (endOf s (limitOf limit)) at (omega arith))
+  -- the length octet is past the end
+  pub name-past : {f : Fault} {r : NameRead} → end ≤ at → f ≡ pastOf limit at → r ≡ failed f → r ≡ v
+  unfolding finished
+  name-past h p q = q ∙ rw (p, w .goes, step-past s (limitOf limit) run total at (omega arith))
 
   -- x is the length octet
   module _ {x : ℕ} (h : at < end) (e : x ≡ getD s at 0) where
-    -- the root octet, with no pointer before it
-    pub root-first : x ≡ 0 → next ≡ 0 → record { answer = Read (at + 1) (total + 1); octets = form } ≡ v
-    unfolding walk finished nameForm each overlay
-    root-first p q = rw (w .goes, lt-leb (endOf s (limitOf limit)) at (omega arith), ← e, p, q)
+    here : LengthOctet s (limitOf limit) at x
+    here = record { within = omega arith; octet = e }
 
-    -- the root octet behind a pointer
-    pub root-later : x ≡ 0 → (next ≡ 0 → ⊥) → record { answer = Read next (total + 1); octets = form } ≡ v
-    unfolding walk finished nameForm each overlay
-    root-later p q = rw (w .goes, lt-leb (endOf s (limitOf limit)) at (omega arith), ← e, p, ne-eqb next 0 q)
+    -- the root octet
+    pub root-read : {last : ℕ} → x ≡ 0 → last ≡ ownEnd next (at + 1)
+        → record { answer = Read last (total + 1); octets = form } ≡ v
+    unfolding finished nameForm each overlay
+    root-read p q = rw (w .goes, step-root here run total p, q)
 
-    module _ (z : x ≡ 0 → ⊥) where
-      module _ (c : x ≤ 63) where
-        -- the end comes inside the label
-        pub label-cut : {f : Fault} {r : NameRead} {k : ℕ} → k < x → end ≤ at + 1 + k → f ≡ pastOf limit at → r ≡ failed f → r ≡ v
-        unfolding walk finished
-        label-cut i j p q =
-            q ∙ rw (
-              p,
-              w .goes,
-              lt-leb (endOf s (limitOf limit)) at (omega arith),
-              ← e,
-              ne-eqb x 0 z,
-              le-leb x 63 c,
-              lt-ltb (endOf s (limitOf limit)) (at + (x + 1)) (omega arith),
-            )
+    module _ (c : 63 < x) where
+      -- top bits 01 or 10
+      pub bits-reserved : {r : NameRead} → x < 192 → r ≡ failed (Reserved at) → r ≡ v
+      unfolding finished
+      bits-reserved p q = q ∙ rw (w .goes, step-reserved here run total c p)
 
-        -- all k octets of the label are copied
-        module _ {k : ℕ} (i : x ≤ k) (j : at + 1 + k ≤ end) where
-          -- the name has over 255 octets
-          pub label-long : {r : NameRead} → 254 < total + (x + 1) → r ≡ failed (Long at) → r ≡ v
-          unfolding walk finished
-          label-long p q =
-              q ∙ rw (
-                w .goes,
-                lt-leb (endOf s (limitOf limit)) at (omega arith),
-                ← e,
-                ne-eqb x 0 z,
-                le-leb x 63 c,
-                le-ltb (endOf s (limitOf limit)) (at + (x + 1)) (omega arith),
-                lt-ltb 255 (total + (x + 1) + 1) (omega arith),
-              )
+      -- a pointer
+      module _ (d : 192 ≤ x) where
+        -- its second octet is past the end
+        pub pointer-cut : {f : Fault} {r : NameRead} → end ≤ at + 1 → f ≡ pastOf limit at → r ≡ failed f → r ≡ v
+        unfolding finished
+        pointer-cut i p q = q ∙ rw (p, w .goes, step-half here run total c d (omega arith))
 
-          -- the walk goes on behind the label
-          pub label-read : {base form′ : List ℕ} {to to′ : ℕ} → k ≤ x → total + (x + 1) ≤ 254 → endOf s (limitOf limit) ≤ length s
-              → Wrote form total (getD s at 0 ∷ []) base to → Wrote base to (part s (at + 1) k) form′ to′
-              → From s v form′ limit run next (total + (x + 1)) (at + (x + 1))
-          unfolding walk
-          label-read {form′ = form′} k≤x p m d f =
-              let same : k ≡ x = omega arith in
-              let copy : overlay form total (x ∷ part s (at + 1) x) ≡ form′ = sym (then d f .text ∙ rw (← e, same)) in
-              let rest = walk (run + 255) s (limitOf limit) run (total + (x + 1)) (at + (x + 1)) in
-              record {
-                goes = w .goes ∙ rw (
-                  lt-leb (endOf s (limitOf limit)) at (omega arith),
-                  ← e,
-                  ne-eqb x 0 z,
-                  le-leb x 63 c,
-                  le-ltb (endOf s (limitOf limit)) (at + (x + 1)) (omega arith),
-                  le-ltb 255 (total + (x + 1) + 1) (omega arith),
-                )
-                    (finished-label next total x form (part s (at + 1) x) rest (part-long s (at + 1) x (omega arith))
-                    ∙ ap₂ (finished next (total + (x + 1))) copy
-                    (walk-steps (run + 255) (suc (run + 255)) s (limitOf limit) run (total + (x + 1)) (at + (x + 1)) (omega arith) (omega arith)));
-              }
+        -- y is its second octet
+        module _ {y : ℕ} (i : at + 1 < end) (j : y ≡ getD s (at + 1) 0) where
+          -- the target is inside the header
+          pub target-low : {r : NameRead} → (x - 192) * 256 + y < 12 → r ≡ failed (Target at) → r ≡ v
+          unfolding finished
+          target-low p q = q ∙ rw (w .goes, step-low here run total c d (omega arith) j p)
 
-      module _ (c : 63 < x) where
-        -- top bits 01 or 10
-        pub bits-reserved : {r : NameRead} → x < 192 → r ≡ failed (Reserved at) → r ≡ v
-        unfolding walk finished
-        bits-reserved p q =
-            q ∙ rw (w .goes, lt-leb (endOf s (limitOf limit)) at (omega arith), ← e, ne-eqb x 0 z, lt-leb x 63 c, lt-ltb x 192 p)
+          module _ (g : 12 ≤ (x - 192) * 256 + y) where
+            -- the target is not below the start of the run
+            pub target-far : {r : NameRead} → run ≤ (x - 192) * 256 + y → r ≡ failed (Target at) → r ≡ v
+            unfolding finished
+            target-far p q = q ∙ rw (w .goes, step-far here run total c d (omega arith) j g p)
 
-        module _ (d : 192 ≤ x) where
-          -- no octet behind it
-          pub pointer-cut : {f : Fault} {r : NameRead} → end ≤ at + 1 → f ≡ pastOf limit at → r ≡ failed f → r ≡ v
-          unfolding walk finished
-          pointer-cut i p q =
-              q ∙ rw (
-                p,
-                w .goes,
-                lt-leb (endOf s (limitOf limit)) at (omega arith),
-                ← e,
-                ne-eqb x 0 z,
-                lt-leb x 63 c,
-                le-ltb x 192 d,
-                le-leb (endOf s (limitOf limit)) (at + 1) (omega arith),
-              )
+            -- the walk goes on at the target
+            pub jump-read : {next′ : ℕ} → (x - 192) * 256 + y < run → next′ ≡ ownEnd next (at + 2)
+                → From s v form Message ((x - 192) * 256 + y) next′ total ((x - 192) * 256 + y)
+            jump-read p q =
+                let goal = (x - 192) * 256 + y in
+                record {
+                  goes = w .goes ∙ rw (step-jump here run total c d (omega arith) j g p, q)
+                      (finished-jump next total at form (walkOn s walk.message goal total goal));
+                }
 
-          -- y is that octet
-          module _ {y : ℕ} (i : at + 1 < end) (j : y ≡ getD s (at + 1) 0) where
-            -- the target lies in the header
-            pub target-low : {r : NameRead} → (x - 192) * 256 + y < 12 → r ≡ failed (Target at) → r ≡ v
-            unfolding walk finished
-            target-low p q =
-                q ∙ rw (
-                  w .goes,
-                  lt-leb (endOf s (limitOf limit)) at (omega arith),
-                  ← e,
-                  ← j,
-                  ne-eqb x 0 z,
-                  lt-leb x 63 c,
-                  le-ltb x 192 d,
-                  lt-leb (endOf s (limitOf limit)) (at + 1) (omega arith),
-                  lt-leb 12 ((x - 192) * 256 + y) p,
-                )
+-- the ways of a label
+module _ {s : List ℕ} {v : NameRead} {form : List ℕ} {limit : Limit} {run next total at end x : ℕ}
+    (w : From s v form limit run next total at) (l : Label s limit at end x) where
+  at-label : LengthOctet s (limitOf limit) at x
+  at-label = record { within = omega arith; octet = l .octet }
 
-            module _ (g : 12 ≤ (x - 192) * 256 + y) where
-              -- the target is not below the run's start
-              pub target-far : {r : NameRead} → run ≤ (x - 192) * 256 + y → r ≡ failed (Target at) → r ≡ v
-              unfolding walk finished
-              target-far p q =
-                  q ∙ rw (
-                    w .goes,
-                    lt-leb (endOf s (limitOf limit)) at (omega arith),
-                    ← e,
-                    ← j,
-                    ne-eqb x 0 z,
-                    lt-leb x 63 c,
-                    le-ltb x 192 d,
-                    lt-leb (endOf s (limitOf limit)) (at + 1) (omega arith),
-                    le-leb 12 ((x - 192) * 256 + y) g,
-                    le-ltb ((x - 192) * 256 + y) run p,
-                  )
+  -- the end comes inside it
+  pub label-cut : {f : Fault} {r : NameRead} {k : ℕ} → k < x → end ≤ at + 1 + k → f ≡ pastOf limit at → r ≡ failed f
+      → r ≡ v
+  unfolding finished
+  label-cut i j p q = q ∙ rw (p, w .goes, step-cut at-label run total (l .some) (l .few) (omega arith))
 
-              -- the pointer is followed
-              module _ (p : (x - 192) * 256 + y < run) where
-                -- the walk goes on at its target, if `next` is kept right
-                jumps : (next′ : ℕ) (rest : (u : walk.Named) → finished next total form (resumed (at + 2) u) ≡ finished next′ total form u)
-                    → From s v form Message ((x - 192) * 256 + y) next′ total ((x - 192) * 256 + y)
-                unfolding walk
-                jumps next′ rest =
-                    let goal = (x - 192) * 256 + y in
-                    record {
-                      goes = w .goes ∙ rw (
-                        lt-leb (endOf s (limitOf limit)) at (omega arith),
-                        ← e,
-                        ← j,
-                        ne-eqb x 0 z,
-                        lt-leb x 63 c,
-                        le-ltb x 192 d,
-                        lt-leb (endOf s (limitOf limit)) (at + 1) (omega arith),
-                        le-leb 12 ((x - 192) * 256 + y) g,
-                        lt-ltb ((x - 192) * 256 + y) run p,
-                      )
-                          (rest (walk (run + 255) s walk.message goal total goal)
-                          ∙ ap (finished next′ total form) (walk-steps (run + 255) (suc (goal + 255)) s walk.message goal total goal (omega arith) (omega arith)));
-                    }
+  -- all its k octets are within the end
+  module _ {k : ℕ} (i : x ≤ k) (j : at + 1 + k ≤ end) where
+    -- the name has over 255 octets
+    pub label-long : {r : NameRead} → 254 < total + (x + 1) → r ≡ failed (Long at) → r ≡ v
+    unfolding finished
+    label-long p q = q ∙ rw (w .goes, step-long at-label run total (l .some) (l .few) (omega arith) p)
 
-                -- the first pointer
-                pub jump-first : next ≡ 0 → From s v form Message ((x - 192) * 256 + y) (at + 2) total ((x - 192) * 256 + y)
-                jump-first q = jumps (at + 2) (λ u. rw q (finished-first total at form u))
-
-                -- a later one
-                pub jump-later : (next ≡ 0 → ⊥) → From s v form Message ((x - 192) * 256 + y) next total ((x - 192) * 256 + y)
-                jump-later q = jumps next (λ u. finished-later next total (at + 2) form u q)
+    -- the walk goes on after it
+    pub label-read : {base form′ : List ℕ} {to to′ : ℕ} → k ≤ x → total + (x + 1) ≤ 254
+        → Kept (total + (x + 1)) form total (getD s at 0 ∷ []) base to
+        → Kept (total + (x + 1)) base to (part s (at + 1) k) form′ to′
+        → From s v form′ limit run next (total + (x + 1)) (at + (x + 1))
+    label-read {form′ = form′} k≤x p d f =
+        let e = l .octet in
+        let same : k ≡ x = omega arith in
+        let copy : overlay form total (x ∷ part s (at + 1) x) ≡ form′ =
+        sym (then (d .wrote p) (f .wrote p) .text ∙ rw (← e, same)) in
+        let rest = walkOn s (limitOf limit) run (total + (x + 1)) (at + (x + 1)) in
+        let long = part-long s (at + 1) x (omega (arith, l .bound, l .inside)) in
+        record {
+          goes = w .goes ∙ rw (step-label at-label run total (l .some) (l .few) (omega arith) p)
+              (finished-label next total x form (part s (at + 1) x) rest long
+              ∙ ap (λ m. finished next (total + (x + 1)) m rest) copy);
+        }

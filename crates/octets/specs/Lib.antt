@@ -1,6 +1,7 @@
 -- Octets, numbers and texts: the definitions that every layer shares.
 pub mod Lists
 pub mod Bits
+pub mod Arms
 pub mod Fields
 pub mod Parsed
 pub mod Codec

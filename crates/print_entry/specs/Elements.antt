@@ -47,7 +47,7 @@ piecesText s type start size i at = hexed (start + size) (pieces true (drop i (l
 -- a record as it is, by its owner's form and what the code reads of it before RDATA
 unfoldable pub ordinaryText : List ℕ → List ℕ → Head → Entry (List ℕ)
 ordinaryText s form h =
-    texts (λ t. fieldsText form (h .kind) (h .class) (h .ttl) ++ t ++ ascii "}") (rdataText s (h .kind) (h .rdata) (h .length))
+    texts (λ t. fieldsText form (h .kind) (h .class) (h .ttl) ++ t ++ ascii "}") (rdataText s (h .kind) (h .rdata) (h .rdlength))
 
 -- the header's RCODE
 abbrev pub rcodeOf : List ℕ → ℕ
@@ -55,7 +55,7 @@ rcodeOf s = getD s 3 0 % 16
 
 -- RDATA as it stands
 abbrev pub rdataOf : List ℕ → Head → List ℕ
-rdataOf s h = part s (h .rdata) (h .rdata + h .length - h .rdata)
+rdataOf s h = part s (h .rdata) (h .rdata + h .rdlength - h .rdata)
 
 -- it shows as an EDNS element
 unfoldable pub shows? : List ℕ → Head → Bool → Bool
@@ -64,7 +64,7 @@ shows? s h lone = lone && eqb (h .kind) 41 && showsEdns (eqb (h .size) 1) (h .tt
 -- a record by its owner's form and what the code reads of it before RDATA: an EDNS element, or as it is
 unfoldable pub shownText : Bool → List ℕ → List ℕ → Head → Entry (List ℕ)
 shownText lone s form h =
-    cond (shows? s h lone) (entry (elementText (h .class) (h .ttl) (rcodeOf s) (rdataOf s h)) (h .rdata + h .length)) (ordinaryText s form h)
+    cond (shows? s h lone) (entry (elementText (h .class) (h .ttl) (rcodeOf s) (rdataOf s h)) (h .rdata + h .rdlength)) (ordinaryText s form h)
 
 -- ---- elements
 unfoldable pub questionTextAt : List ℕ → ℕ → Entry (List ℕ)

@@ -18,8 +18,8 @@ use Rattle.names.specs.declared.Fault.{Fault as FaultRead}
 use Rattle.records.specs.Layout.{laid, misfit, layouts, layoutOf, rdataAt}
 use Rattle.records.specs.Layout as layout
 use Rattle.records.specs.Message.{Record, opt?}
-use Rattle.records.specs.Read.{Entry, entry, recordAt}
-use Rattle.records.specs.RecordLaws.{laid-octets, misfit≢laid, filled}
+use Rattle.records.specs.Read.{Entry, entry, recordAt, filled}
+use Rattle.records.specs.RecordLaws.{laid-octets, misfit≢laid}
 use Rattle.records.specs.Parts.{HeadOf, headAt, withRdata, with-rdata, record-head, head-next}
 use Rattle.records.specs.Answer.{padded, headRead, recordRead}
 use Rattle.records.specs.Told.{form-part, headed}
@@ -40,12 +40,12 @@ use Rattle.print_entry.specs.declared.Element.the-variants as element
 
 -- ---- a record as it is
 module _ (s form : List ℕ) (h : Head) where
-  pub ordinary-rdata : Readable (ordinaryText s form h) → Readable (rdataText s (h .kind) (h .rdata) (h .length))
+  pub ordinary-rdata : Readable (ordinaryText s form h) → Readable (rdataText s (h .kind) (h .rdata) (h .rdlength))
   unfolding ordinaryText
-  ordinary-rdata k = readable-value (λ t. fieldsText form (h .kind) (h .class) (h .ttl) ++ t ++ ascii "}") (rdataText s (h .kind) (h .rdata) (h .length)) k
+  ordinary-rdata k = readable-value (λ t. fieldsText form (h .kind) (h .class) (h .ttl) ++ t ++ ascii "}") (rdataText s (h .kind) (h .rdata) (h .rdlength)) k
 
   pub ordinary-prints : {b b₁ b₂ b₃ : List ℕ} {to n₁ n₂ n₃ next : ℕ} → Wrote b to (fieldsText form (h .kind) (h .class) (h .ttl)) b₁ n₁
-      → Prints (rdataText s (h .kind) (h .rdata) (h .length)) b₁ n₁ b₂ next n₂ → Wrote b₂ n₂ (125 ∷ []) b₃ n₃ → Prints (ordinaryText s form h) b to b₃ next n₃
+      → Prints (rdataText s (h .kind) (h .rdata) (h .rdlength)) b₁ n₁ b₂ next n₂ → Wrote b₂ n₂ (125 ∷ []) b₃ n₃ → Prints (ordinaryText s form h) b to b₃ next n₃
   unfolding ordinaryText
   ordinary-prints p q v = prints-between p q v
 
@@ -56,13 +56,13 @@ record-parts r h =
     ap (λ (t : List ℕ). t ++ ascii ",\"TTL\":" ++ signedText (signed (r .ttl)) ++ ascii ",\"RDATAHEX\":\"" ++ hexText (r .rdata) ++ ascii "}") (front-text (r .name) (r .type) (r .class) h)
 
 ordinary-text : (s : List ℕ) (k : HeadOf) → Sized (k .name)
-    → ordinaryText s (nameForm (k .name)) (headRead k) ≡ texts (λ (r : Record). recordText (recordItem r)) (with-rdata s (entry k (k .rdata + k .length)))
+    → ordinaryText s (nameForm (k .name)) (headRead k) ≡ texts (λ (r : Record). recordText (recordItem r)) (with-rdata s (entry k (k .rdata + k .rdlength)))
 unfolding ordinaryText rdataText
-ordinary-text s k h = go (rdataAt true s (k .type) (k .rdata) (k .length))
+ordinary-text s k h = go (rdataAt true s (k .type) (k .rdata) (k .rdlength))
   where
-    go : (w : layout.Laid) → texts (λ t. fieldsText (nameForm (k .name)) (k .type) (k .class) (k .ttl) ++ t ++ ascii "}") (hexed (k .rdata + k .length) w)
-        ≡ texts (λ (r : Record). recordText (recordItem r)) (filled (withRdata k) (k .rdata + k .length) w)
-    go (laid d) = ap (λ (t : List ℕ). entry t (k .rdata + k .length)) (sym (record-parts (withRdata k d) h))
+    go : (w : layout.Laid) → texts (λ t. fieldsText (nameForm (k .name)) (k .type) (k .class) (k .ttl) ++ t ++ ascii "}") (hexed (k .rdata + k .rdlength) w)
+        ≡ texts (λ (r : Record). recordText (recordItem r)) (filled (withRdata k) (k .rdata + k .rdlength) w)
+    go (laid d) = ap (λ (t : List ℕ). entry t (k .rdata + k .rdlength)) (sym (record-parts (withRdata k d) h))
     go (misfit fault) = refl
 
 -- ---- a record as an element or as it is
@@ -101,11 +101,11 @@ root-form (l ∷ n) = ne-eqb _ 1 λ e. some-octet n e
 
 -- the record of a head, where RDATA is read
 module _ (s : List ℕ) (k : HeadOf) (lone : Bool) where
-  size-same : k .rdata + k .length - k .rdata ≡ k .length
+  size-same : k .rdata + k .rdlength - k .rdata ≡ k .rdlength
   size-same = omega arith
 
   -- what the code tests is what the definition tests
-  head-shows : (d : List ℕ) → rdataAt true s (k .type) (k .rdata) (k .length) ≡ laid d → shows? s (headRead k) lone ≡ shown? (rcodeOf s) lone (withRdata k d)
+  head-shows : (d : List ℕ) → rdataAt true s (k .type) (k .rdata) (k .rdlength) ≡ laid d → shows? s (headRead k) lone ≡ shown? (rcodeOf s) lone (withRdata k d)
   unfolding shows?
   head-shows d e = go lone (eqb (k .type) 41) refl
     where
@@ -113,21 +113,21 @@ module _ (s : List ℕ) (k : HeadOf) (lone : Bool) where
       go false t p = refl
       go true false p = rw p
       go true true p =
-          let f : rdataAt true s 41 (k .rdata) (k .length) ≡ laid d = subst (λ (n : ℕ). rdataAt true s n (k .rdata) (k .length) ≡ laid d) (eqb-true (k .type) 41 p) e in
-          let g : part s (k .rdata) (k .length) ≡ d = laid-octets (sym (opt-rdata s (k .rdata) (k .length)) ∙ f) in
+          let f : rdataAt true s 41 (k .rdata) (k .rdlength) ≡ laid d = subst (λ (n : ℕ). rdataAt true s n (k .rdata) (k .rdlength) ≡ laid d) (eqb-true (k .type) 41 p) e in
+          let g : part s (k .rdata) (k .rdlength) ≡ d = laid-octets (sym (opt-rdata s (k .rdata) (k .rdlength)) ∙ f) in
           rw (p, root-form (k .name), size-same, g)
 
   -- where it shows as no element, its text is that of the record as it is
-  as-is : (w : layout.Laid) → rdataAt true s (k .type) (k .rdata) (k .length) ≡ w → shows? s (headRead k) lone ≡ false
-      → texts (entryText (rcodeOf s) lone) (filled (withRdata k) (k .rdata + k .length) w) ≡ texts (λ (r : Record). recordText (recordItem r)) (filled (withRdata k) (k .rdata + k .length) w)
-  as-is (laid d) p q = ap (λ (t : List ℕ). entry t (k .rdata + k .length)) (entry-text (rcodeOf s) lone (withRdata k d) ∙ rw (← (head-shows d p), q))
+  as-is : (w : layout.Laid) → rdataAt true s (k .type) (k .rdata) (k .rdlength) ≡ w → shows? s (headRead k) lone ≡ false
+      → texts (entryText (rcodeOf s) lone) (filled (withRdata k) (k .rdata + k .rdlength) w) ≡ texts (λ (r : Record). recordText (recordItem r)) (filled (withRdata k) (k .rdata + k .rdlength) w)
+  as-is (laid d) p q = ap (λ (t : List ℕ). entry t (k .rdata + k .rdlength)) (entry-text (rcodeOf s) lone (withRdata k d) ∙ rw (← (head-shows d p), q))
   as-is (misfit fault) p q = refl
 
   -- where it shows as one, its text is the element's
-  as-element : (w : layout.Laid) → rdataAt true s (k .type) (k .rdata) (k .length) ≡ w → w ≡ laid (rdataOf s (headRead k)) → shows? s (headRead k) lone ≡ true
-      → texts (entryText (rcodeOf s) lone) (filled (withRdata k) (k .rdata + k .length) w) ≡ entry (elementText (k .class) (k .ttl) (rcodeOf s) (rdataOf s (headRead k))) (k .rdata + k .length)
+  as-element : (w : layout.Laid) → rdataAt true s (k .type) (k .rdata) (k .rdlength) ≡ w → w ≡ laid (rdataOf s (headRead k)) → shows? s (headRead k) lone ≡ true
+      → texts (entryText (rcodeOf s) lone) (filled (withRdata k) (k .rdata + k .rdlength) w) ≡ entry (elementText (k .class) (k .ttl) (rcodeOf s) (rdataOf s (headRead k))) (k .rdata + k .rdlength)
   as-element (laid d) p g q =
-      ap (λ (t : List ℕ). entry t (k .rdata + k .length))
+      ap (λ (t : List ℕ). entry t (k .rdata + k .rdlength))
       (entry-text (rcodeOf s) lone (withRdata k d) ∙ rw (← (head-shows d p), q) (ap (elementText (k .class) (k .ttl) (rcodeOf s)) (laid-octets g)))
   as-element (misfit fault) p g q = absurd (misfit≢laid g)
 
@@ -152,10 +152,10 @@ element-kind s h lone e =
     let p = both-true (lone && eqb (h .kind) 41) _ e .0 in
     eqb-true (h .kind) 41 (both-true lone (eqb (h .kind) 41) p .1)
 
-element-rdata : (s : List ℕ) (k : HeadOf) → k .type ≡ 41 → rdataAt true s (k .type) (k .rdata) (k .length) ≡ laid (rdataOf s (headRead k))
+element-rdata : (s : List ℕ) (k : HeadOf) → k .type ≡ 41 → rdataAt true s (k .type) (k .rdata) (k .rdlength) ≡ laid (rdataOf s (headRead k))
 element-rdata s k e =
-    let z : k .rdata + k .length - k .rdata ≡ k .length = omega arith in
-    ap (λ (n : ℕ). rdataAt true s n (k .rdata) (k .length)) e ∙ opt-rdata s (k .rdata) (k .length) ∙ ap (λ (n : ℕ). laid (part s (k .rdata) n)) (sym z)
+    let z : k .rdata + k .rdlength - k .rdata ≡ k .rdlength = omega arith in
+    ap (λ (n : ℕ). rdataAt true s n (k .rdata) (k .rdlength)) e ∙ opt-rdata s (k .rdata) (k .rdlength) ∙ ap (λ (n : ℕ). laid (part s (k .rdata) n)) (sym z)
 
 -- the test as the code makes it
 pub shows-many : (s : List ℕ) (h : Head) (lone : Bool) → not lone ≡ true → false ≡ shows? s h lone
@@ -177,11 +177,11 @@ shows-lone s h false e k c p = absurd (false≢true (sym e))
 -- ---- records
 -- the record's text by its head and RDATA
 record-text : (lone : Bool) (s : List ℕ) (at : ℕ) (k : HeadOf) (next : ℕ) → headAt s at ≡ entry k next
-    → recordTextAt lone s at ≡ texts (entryText (rcodeOf s) lone) (filled (withRdata k) (k .rdata + k .length) (rdataAt true s (k .type) (k .rdata) (k .length)))
+    → recordTextAt lone s at ≡ texts (entryText (rcodeOf s) lone) (filled (withRdata k) (k .rdata + k .rdlength) (rdataAt true s (k .type) (k .rdata) (k .rdlength)))
 unfolding recordTextAt
 record-text lone s at k next e =
     ap (texts (entryText (rcodeOf s) lone))
-    (record-head s at ∙ ap (with-rdata s) e ∙ ap (λ (i : ℕ). filled (withRdata k) i (rdataAt true s (k .type) (k .rdata) (k .length))) (head-next s at k next e))
+    (record-head s at ∙ ap (with-rdata s) e ∙ ap (λ (i : ℕ). filled (withRdata k) i (rdataAt true s (k .type) (k .rdata) (k .rdlength))) (head-next s at k next e))
 
 module _ (s : List ℕ) (at : ℕ) (lone : Bool) {r : RecordRead} (e : r ≡ recordRead (headAt s at)) where
   -- one that is readable has no fault
@@ -204,7 +204,7 @@ module _ (s : List ℕ) (at : ℕ) (lone : Bool) {r : RecordRead} (e : r ≡ rec
           ∙ ap (λ (h : Head). shownText lone s (take (h .size - 0) (r .name)) h) (sym v)
         where
           shown : (t : Bool) → shows? s (headRead k) lone ≡ t
-              → texts (entryText (rcodeOf s) lone) (filled (withRdata k) (k .rdata + k .length) (rdataAt true s (k .type) (k .rdata) (k .length)))
+              → texts (entryText (rcodeOf s) lone) (filled (withRdata k) (k .rdata + k .rdlength) (rdataAt true s (k .type) (k .rdata) (k .rdlength)))
               ≡ shownText lone s (nameForm (k .name)) (headRead k)
           shown true q = as-element s k lone _ refl (element-rdata s k (element-kind s (headRead k) lone q)) q ∙ rw q
           shown false q = as-is s k lone _ refl q ∙ sym (ordinary-text s k (head-sized s at k next u)) ∙ rw q
@@ -219,7 +219,7 @@ module _ (s : List ℕ) (at : ℕ) (lone : Bool) {r : RecordRead} (e : r ≡ rec
 -- by what the code's test answers
 module _ (s form : List ℕ) (h : Head) (lone : Bool) {t : Bool} (x : t ≡ shows? s h lone) where
   pub shown-element : {rcode : ℕ} {b b′ : List ℕ} {to n : ℕ} → t ≡ true → rcode ≡ rcodeOf s → Wrote b to (elementText (h .class) (h .ttl) rcode (rdataOf s h)) b′ n
-      → Prints (shownText lone s form h) b to b′ (h .rdata + h .length) n
+      → Prints (shownText lone s form h) b to b′ (h .rdata + h .rdlength) n
   unfolding shownText
   shown-element q c w = rw (← x, q) (prints-text (rw c at w))
 

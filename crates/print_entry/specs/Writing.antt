@@ -22,7 +22,7 @@ use Rattle.names.specs.declared.Fault.{Fault as FaultRead}
 use Rattle.records.specs.Layout.{Piece, laid, misfit, before, pieces}
 use Rattle.records.specs.Layout as layout
 use Rattle.records.specs.Message.{Question}
-use Rattle.records.specs.Read.{Entry, entry, bad, with-name, unfit, questionAt}
+use Rattle.records.specs.Read.{Entry, entry, bad, with-name, firstCut, questionAt}
 use Rattle.records.specs.RecordLaws.{bad≢entry, entry-value}
 use Rattle.records.specs.Parts.{fitted, begun, begunAt, question-begun, HeadOf, headAt, headed, layoutIn, rdata-pieces, stepAt}
 use Rattle.records.specs.Answer.{padded, askedOf, questionRead, stepRead}
@@ -76,7 +76,7 @@ begun-sized s widths at n next e = go (nameAt s message at) refl e
     fit m i (some x) q = absurd (faulty≢named q)
 
     go : (w : Named) → nameAt s message at ≡ w → begun s widths w ≡ named n next → Sized n
-    go (named m i) p q = subst Sized (fit m i (unfit s i widths) q) (read-sized s message at at m i (omega arith) p .0)
+    go (named m i) p q = subst Sized (fit m i (firstCut s i widths) q) (read-sized s message at at m i (omega arith) p .0)
     go (faulty f) p q = absurd (faulty≢named q)
 
 -- so has what begins with one
@@ -101,7 +101,7 @@ head-sized s at h next e = begun-entry (λ (h : HeadOf). h .name) s (2 ∷ 2 ∷
     room n false fault k i a j p q = sym (ap (λ (h : HeadOf). h .name) (entry-value q)) ∙ p
 
     same : (n : Name) (i : ℕ) (a : HeadOf) (j : ℕ) → headed s n i ≡ entry a j → a .name ≡ n
-    same n i a j p = room n (ltb (length s) (i + 10 + twoAt s (i + 8))) (record { kind = cut; octet = i + 10 }) (record { name = n; type = twoAt s i; class = twoAt s (i + 2); ttl = fourAt s (i + 4); rdata = i + 10; length = twoAt s (i + 8) }) (i + 10 + twoAt s (i + 8)) a j refl p
+    same n i a j p = room n (ltb (length s) (i + 10 + twoAt s (i + 8))) (record { kind = cut; octet = i + 10 }) (record { name = n; type = twoAt s i; class = twoAt s (i + 2); ttl = fourAt s (i + 4); rdata = i + 10; rdlength = twoAt s (i + 8) }) (i + 10 + twoAt s (i + 8)) a j refl p
 
 -- ---- questions
 -- the texts that a question and a record begin with

@@ -96,12 +96,12 @@ fn put_rdata(s: &[u8], kind: u32, start: usize, size: usize, out: &mut [u8], to:
 
 // Writes a record as it is, by its owner's form and its fields.
 fn put_ordinary(s: &[u8], form: &[u8], head: Head, out: &mut [u8], to: usize) -> usize
-    requires { ⌜ (length (now s) ≤ 65535) × (length (now form) ≤ 255) × (head .rdata + head .length ≤ length (now s)) × (to < 2 ^ 36) × Readable (ordinaryText (now s) (now form) head) ⌝ }
-    ensures { λ r. ⌜ Prints (ordinaryText (now (s .entry)) (now (form .entry)) head) (now (out .entry)) to (now (out .exit)) (head .rdata + head .length) r ⌝ }
-    ensures { λ r. ⌜ r ≤ to + 2889 + 2 * head .length ⌝ }
+    requires { ⌜ (length (now s) ≤ 65535) × (length (now form) ≤ 255) × (head .rdata + head .rdlength ≤ length (now s)) × (to < 2 ^ 36) × Readable (ordinaryText (now s) (now form) head) ⌝ }
+    ensures { λ r. ⌜ Prints (ordinaryText (now (s .entry)) (now (form .entry)) head) (now (out .entry)) to (now (out .exit)) (head .rdata + head .rdlength) r ⌝ }
+    ensures { λ r. ⌜ r ≤ to + 2889 + 2 * head .rdlength ⌝ }
 {
     let fields = put_fields(out, to, form, head.kind, head.class, head.ttl);
-    let rdata = put_rdata(s, head.kind, head.rdata, head.length, out, fields);
+    let rdata = put_rdata(s, head.kind, head.rdata, head.rdlength, out, fields);
     put(out, rdata, b'}')
 }
 
@@ -117,7 +117,7 @@ fn rcode_of(s: &[u8]) -> u32
 
 // Whether a record shows as an EDNS element.
 fn is_element(s: &[u8], head: Head, lone: bool) -> bool
-    requires { ⌜ (12 ≤ length (now s)) × (length (now s) ≤ 65535) × (head .rdata + head .length ≤ length (now s)) ⌝ }
+    requires { ⌜ (12 ≤ length (now s)) × (length (now s) ≤ 65535) × (head .rdata + head .rdlength ≤ length (now s)) ⌝ }
     ensures { λ r. ⌜ r ≡ shows? (now (s .entry)) head lone ⌝ }
 {
     if !lone {
@@ -128,7 +128,7 @@ fn is_element(s: &[u8], head: Head, lone: bool) -> bool
     }
     let rcode = rcode_of(s);
     let start = head.rdata;
-    let end = start + head.length;
+    let end = start + head.rdlength;
     is_edns(head.size == 1, head.ttl, rcode, &s[start..end])
 }
 
@@ -155,14 +155,14 @@ fn put_question(s: &[u8], at: usize, out: &mut [u8], to: usize) -> Position
 
 // Writes a record by its owner's form and its fields: as an EDNS element, or as it is.
 fn put_shown(s: &[u8], form: &[u8], head: Head, lone: bool, out: &mut [u8], to: usize) -> usize
-    requires { ⌜ (12 ≤ length (now s)) × (length (now s) ≤ 65535) × (length (now form) ≤ 255) × (head .rdata + head .length ≤ length (now s)) × (to < 2 ^ 36) × Readable (shownText lone (now s) (now form) head) ⌝ }
-    ensures { λ r. ⌜ Prints (shownText lone (now (s .entry)) (now (form .entry)) head) (now (out .entry)) to (now (out .exit)) (head .rdata + head .length) r ⌝ }
-    ensures { λ r. ⌜ r ≤ to + 2889 + 64 * head .length ⌝ }
+    requires { ⌜ (12 ≤ length (now s)) × (length (now s) ≤ 65535) × (length (now form) ≤ 255) × (head .rdata + head .rdlength ≤ length (now s)) × (to < 2 ^ 36) × Readable (shownText lone (now s) (now form) head) ⌝ }
+    ensures { λ r. ⌜ Prints (shownText lone (now (s .entry)) (now (form .entry)) head) (now (out .entry)) to (now (out .exit)) (head .rdata + head .rdlength) r ⌝ }
+    ensures { λ r. ⌜ r ≤ to + 2889 + 64 * head .rdlength ⌝ }
 {
     if is_element(s, head, lone) {
         let rcode = rcode_of(s);
         let start = head.rdata;
-        let end = start + head.length;
+        let end = start + head.rdlength;
         return put_edns(out, to, head.class, head.ttl, rcode, &s[start..end]);
     }
     put_ordinary(s, form, head, out, to)
@@ -184,7 +184,7 @@ fn put_record(s: &[u8], at: usize, lone: bool, out: &mut [u8], to: usize) -> Pos
     let size = head.size;
     let next = put_shown(s, &name[0..size], head, lone, out, to);
     Position {
-        at: head.rdata + head.length,
+        at: head.rdata + head.rdlength,
         to: next,
     }
 }

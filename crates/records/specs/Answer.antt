@@ -33,7 +33,7 @@ use Rattle.records.specs.declared.Stepped.{Stepped}
 abbrev pub padded : List ℕ → List ℕ
 padded l = l ++ replicate (255 - length l) 0
 
--- a name that is read ends behind its start, and fields of these widths fit behind it
+-- a name that is read ends after its start, and fields of these widths fit after it
 abbrev pub Begins : Named → ℕ → List ℕ → ℕ → Type 0
 Begins (named.Read next size) at widths end = (at < next) × (next + sum widths ≤ end) × (size ≤ 255)
 Begins (named.Faulty fault) at widths end = Unit {0}
@@ -52,7 +52,7 @@ Asks (question.Faulty fault) at end = Unit {0}
 
 -- ---- records without what is inside RDATA
 abbrev pub headRead : HeadOf → Head
-headRead h = record { size = length (nameForm (h .name)); kind = h .type; class = h .class; ttl = h .ttl; rdata = h .rdata; length = h .length }
+headRead h = record { size = length (nameForm (h .name)); kind = h .type; class = h .class; ttl = h .ttl; rdata = h .rdata; rdlength = h .rdlength }
 
 unfoldable pub recordRead : Entry HeadOf → RecordRead
 recordRead (entry h next) = record { answer = record′.Read (headRead h); name = padded (nameForm (h .name)) }
@@ -60,7 +60,7 @@ recordRead (bad fault) = record { answer = record′.Faulty (faultOf fault); nam
 
 abbrev pub Heads : Record → ℕ → ℕ → Type 0
 Heads (record′.Read h) at end =
-    (h .size ≤ 255) × (h .kind < 65536) × (h .class < 65536) × (at + 11 ≤ h .rdata) × (h .rdata + h .length ≤ end) × (h .length < 65536)
+    (h .size ≤ 255) × (h .kind < 65536) × (h .class < 65536) × (at + 11 ≤ h .rdata) × (h .rdata + h .rdlength ≤ end) × (h .rdlength < 65536)
 Heads (record′.Faulty fault) at end = Unit {0}
 
 -- ---- RDATA, piece by piece
@@ -77,6 +77,11 @@ nthOf i a b c = cond (eqb i 0) a (cond (eqb i 1) b (cond (eqb i 2) c piece.End))
 -- a step without a name
 unfoldable pub plainly : Step → Stepped
 plainly x = record { step = x; octets = replicate 255 0 }
+
+-- the step of a name that can't be read
+abbrev pub faultStep : Named → Step
+faultStep (named.Faulty fault) = step.Misfit fault
+faultStep (named.Read next size) = step.Done
 
 unfoldable pub stepRead : StepOf → Stepped
 stepRead (part-to next) = plainly (step.Part next)

@@ -8,8 +8,8 @@ use Rattle.octets.specs.Fields.{two}
 use Rattle.names.specs.Name.{nameForm}
 use Rattle.names.specs.Walk.{walk, nameFrom}
 use Rattle.records.specs.Layout.{layouts, layoutOf, pieces, rdataAt}
-use Rattle.records.specs.Message.{questionForm, recordForm, headerForm, form}
-use Rattle.records.specs.Read.{unfit, questionAt, recordAt, sectionAt, sectionFrom}
+use Rattle.records.specs.Message.{Header, questionForm, recordForm, headerForm, form}
+use Rattle.records.specs.Read.{firstCut, questionAt, recordAt, sectionAt, sectionFrom}
 use Rattle.records.specs.Decode.{headerOf, sectionsOf, messageOf, Decoded, accepted, refused, decode}
 
 -- accepted, or the refusal's number and place
@@ -25,7 +25,7 @@ pub record Boundary : Type 0 where
   pub message : List ℕ
   pub gives : Verdict
 
--- a header with so many questions and answers
+-- a header with these counts of questions and answers
 abbrev pub counts : ℕ → ℕ → List ℕ
 counts questions answers = hexed "00000000" ++ two questions ++ two answers ++ hexed "00000000"
 
@@ -37,15 +37,16 @@ asks name = counts 1 0 ++ name ++ hexed "00010001"
 abbrev pub answers : ℕ → ℕ → List ℕ → List ℕ
 answers type size rdata = counts 0 1 ++ hexed "00" ++ two type ++ hexed "000100000000" ++ two size ++ rdata
 
--- a label of so many octets
+-- a label of n octets
 abbrev pub label : ℕ → List ℕ
 label n = n ∷ replicate n 97
 
--- three labels of 63 and one of so many octets, and the root octet
+-- three labels of 63 and one of n octets, and the root octet
 abbrev pub long : ℕ → List ℕ
 long n = label 63 ++ label 63 ++ label 63 ++ label n ++ hexed "00"
 
--- a question for `a.` and an answer that points to it, with so many octets of RDATA: the form is one octet longer than the message
+-- a question for `a.` and an answer that points to it, with n octets of RDATA: the form is one octet longer than the
+-- message
 abbrev pub pointed : ℕ → List ℕ
 pointed n = counts 1 1 ++ hexed "01610000010001" ++ hexed "C00C03E8000100000000" ++ two n ++ replicate n 0
 
@@ -56,7 +57,7 @@ boundaries =
     -- 65,535 octets are read, 65,536 are not
     ∷ record { message = replicate 65535 0; gives = refuses 8 12 }
     ∷ record { message = replicate 65536 0; gives = refuses 2 0 }
-    -- a target of 12 is the name's own start, one of 11 lies in the header
+    -- a target of 12 is the name's own start, one of 11 is in the header
     ∷ record { message = asks (hexed "C00C"); gives = refuses 5 12 }
     ∷ record { message = asks (hexed "C00B"); gives = refuses 5 12 }
     -- a label and a pointer back to it
@@ -73,7 +74,7 @@ boundaries =
     -- a form of 65,535 and of 65,536 octets
     ∷ record { message = pointed 65503; gives = taken }
     ∷ record { message = pointed 65504; gives = refuses 9 0 }
-    -- RDATA of NS: ends inside its name, as it should, one octet behind it; top bits 01; RDLENGTH 0, and past the message
+    -- RDATA of NS: ends inside its name, as it should, one octet after it; top bits 01; RDLENGTH 0, and past the message
     ∷ record { message = answers 2 2 (hexed "0161"); gives = refuses 7 12 }
     ∷ record { message = answers 2 3 (hexed "016100"); gives = taken }
     ∷ record { message = answers 2 4 (hexed "01610000"); gives = refuses 7 12 }
@@ -83,13 +84,74 @@ boundaries =
     -- a pointer cut by RDATA's end; one that jumps out and runs past the message
     ∷ record { message = answers 2 1 (hexed "C0"); gives = refuses 7 12 }
     ∷ record { message = answers 2 2 (hexed "C016"); gives = refuses 1 12 }
-    -- MX of one octet; SOA with 20 octets behind its names, and with 19
+    -- MX of one octet; SOA with 20 octets after its names, and with 19
     ∷ record { message = answers 15 1 (hexed "00"); gives = refuses 7 12 }
     ∷ record { message = answers 6 22 (replicate 22 0); gives = taken }
     ∷ record { message = answers 6 21 (replicate 21 0); gives = refuses 7 12 }
+    -- two jumps, through CLASS and TYPE: the name ends after its own pointer
+    ∷ record { message = counts 2 0 ++ hexed "00C00CC00DC00F00010001"; gives = taken }
+    -- after a jump to 13 a pointer to 15: below the name's start, but not below the last target
+    ∷ record { message = counts 2 0 ++ hexed "00C00F0001C00D00010001"; gives = refuses 5 17 }
+    -- a label and a pointer to a name of 253 octets, of 254: the count goes on after a jump
+    ∷ record { message = counts 2 0 ++ long 59 ++ hexed "000100010162C00C00010001"; gives = taken }
+    ∷ record { message = counts 2 0 ++ long 60 ++ hexed "000100010162C00C00010001"; gives = refuses 6 270 }
+    -- after a jump out of RDATA its end no longer counts: a run of labels across it; one past the message, reported at the
+    -- record being read
+    ∷ record { message = counts 0 2 ++ hexed "0000020001000000000002C0160000010001000000000000"; gives = taken }
+    ∷ record { message = counts 0 2 ++ hexed "00001000010000000000013F0000020001000000000002C017"; gives = refuses 1 24 }
+    -- MX: no name, a name; a pointer to its own two octets, and to the name itself
+    ∷ record { message = answers 15 2 (hexed "0001"); gives = refuses 7 12 }
+    ∷ record { message = answers 15 3 (hexed "000100"); gives = taken }
+    ∷ record { message = answers 15 4 (hexed "0001C017"); gives = taken }
+    ∷ record { message = answers 15 4 (hexed "0001C019"); gives = refuses 5 12 }
+    -- MINFO: one name, two, three; the second may point to the first; RDATA's end counts again for the second
+    ∷ record { message = answers 14 1 (hexed "00"); gives = refuses 7 12 }
+    ∷ record { message = answers 14 2 (hexed "0000"); gives = taken }
+    ∷ record { message = answers 14 3 (hexed "000000"); gives = refuses 7 12 }
+    ∷ record { message = answers 14 5 (hexed "016100C017"); gives = taken }
+    ∷ record { message = answers 14 4 (hexed "C00C016100"); gives = refuses 7 12 }
+    -- SOA with 19 octets: a fault in a name comes first
+    ∷ record { message = answers 6 21 (hexed "C017" ++ replicate 19 0); gives = refuses 5 12 }
+    -- in RDATA, a name over 255 octets; a label past RDATA and over 255
+    ∷ record { message = answers 2 255 (label 63 ++ label 63 ++ label 63 ++ label 62); gives = refuses 6 12 }
+    ∷ record { message = answers 2 254 (label 63 ++ label 63 ++ label 63 ++ label 62); gives = refuses 7 12 }
     ∷ []
 
 -- every row, computed
 pub boundaries-hold : map (λ (b : Boundary). verdict (decode (b .message))) boundaries ≡ map (λ (b : Boundary). b .gives) boundaries
-unfolding boundaries lookup nameForm walk nameFrom layouts layoutOf pieces rdataAt questionForm recordForm each headerForm form unfit questionAt recordAt sectionAt sectionFrom headerOf sectionsOf messageOf decode
+unfolding boundaries lookup nameForm walk nameFrom layouts layoutOf pieces rdataAt questionForm recordForm each headerForm form firstCut questionAt recordAt sectionAt sectionFrom headerOf sectionsOf messageOf decode
 boundaries-hold = refl
+
+-- RDATA of two root octets: one too many for one name, too few for SOA and MX, just MINFO's; carried for a TYPE that is
+-- not listed
+unfoldable pub types : List (ℕ × Verdict)
+types =
+    map (λ (type : ℕ). (type, taken)) (1 ∷ 10 ∷ 11 ∷ 13 ∷ 14 ∷ 16 ∷ 41 ∷ 258 ∷ 512 ∷ [])
+    ++ map (λ (type : ℕ). (type, refuses 7 12)) (2 ∷ 3 ∷ 4 ∷ 5 ∷ 6 ∷ 7 ∷ 8 ∷ 9 ∷ 12 ∷ 15 ∷ [])
+
+pub types-hold : map (λ (t : ℕ × Verdict). verdict (decode (answers (t .0) 2 (hexed "0000")))) types ≡ map (λ (t : ℕ × Verdict). t .1) types
+unfolding types lookup nameForm walk nameFrom layouts layoutOf pieces rdataAt questionForm recordForm each headerForm form firstCut questionAt recordAt sectionAt sectionFrom headerOf sectionsOf messageOf decode
+types-hold = refl
+
+-- QR, Opcode, AA, TC, RD, RA, AD, CD, RCODE of a header, with the first and the last bit of each set alone
+abbrev pub fields : Header → List ℕ
+fields h = h .qr ∷ h .opcode ∷ h .aa ∷ h .tc ∷ h .rd ∷ h .ra ∷ h .ad ∷ h .cd ∷ h .rcode ∷ []
+
+unfoldable pub flags : List (List ℕ × List ℕ)
+flags =
+    (hexed "8000", 1 ∷ 0 ∷ 0 ∷ 0 ∷ 0 ∷ 0 ∷ 0 ∷ 0 ∷ 0 ∷ [])
+    ∷ (hexed "4000", 0 ∷ 8 ∷ 0 ∷ 0 ∷ 0 ∷ 0 ∷ 0 ∷ 0 ∷ 0 ∷ [])
+    ∷ (hexed "0800", 0 ∷ 1 ∷ 0 ∷ 0 ∷ 0 ∷ 0 ∷ 0 ∷ 0 ∷ 0 ∷ [])
+    ∷ (hexed "0400", 0 ∷ 0 ∷ 1 ∷ 0 ∷ 0 ∷ 0 ∷ 0 ∷ 0 ∷ 0 ∷ [])
+    ∷ (hexed "0200", 0 ∷ 0 ∷ 0 ∷ 1 ∷ 0 ∷ 0 ∷ 0 ∷ 0 ∷ 0 ∷ [])
+    ∷ (hexed "0100", 0 ∷ 0 ∷ 0 ∷ 0 ∷ 1 ∷ 0 ∷ 0 ∷ 0 ∷ 0 ∷ [])
+    ∷ (hexed "0080", 0 ∷ 0 ∷ 0 ∷ 0 ∷ 0 ∷ 1 ∷ 0 ∷ 0 ∷ 0 ∷ [])
+    ∷ (hexed "0020", 0 ∷ 0 ∷ 0 ∷ 0 ∷ 0 ∷ 0 ∷ 1 ∷ 0 ∷ 0 ∷ [])
+    ∷ (hexed "0010", 0 ∷ 0 ∷ 0 ∷ 0 ∷ 0 ∷ 0 ∷ 0 ∷ 1 ∷ 0 ∷ [])
+    ∷ (hexed "0008", 0 ∷ 0 ∷ 0 ∷ 0 ∷ 0 ∷ 0 ∷ 0 ∷ 0 ∷ 8 ∷ [])
+    ∷ (hexed "0001", 0 ∷ 0 ∷ 0 ∷ 0 ∷ 0 ∷ 0 ∷ 0 ∷ 0 ∷ 1 ∷ [])
+    ∷ []
+
+pub flags-hold : map (λ (f : List ℕ × List ℕ). fields (headerOf (hexed "0000" ++ f .0 ++ replicate 8 0))) flags ≡ map (λ (f : List ℕ × List ℕ). f .1) flags
+unfolding flags headerOf
+flags-hold = refl

@@ -7,7 +7,7 @@ use lib.ListN.{length, getD}
 use Rattle.octets.specs.Fields.{twoAt}
 use Rattle.names.specs.Name.{number}
 use Rattle.records.specs.Message.{Header, Question, Record, Message, form}
-use Rattle.records.specs.Read.{Section, reached, stopped, questionAt, recordAt, sectionAt, sectionFrom}
+use Rattle.records.specs.Read.{Reached, Section, reached, stopped, questionAt, recordAt, sectionAt, sectionFrom}
 
 -- header flags, high bit first: QR, Opcode (4), AA, TC, RD; RA, Z, AD, CD, RCODE (4)
 unfoldable pub headerOf : List ℕ → Header
@@ -62,16 +62,18 @@ pub data Decoded : Type 0 where
   accepted : Message → Decoded
   refused : ℕ → ℕ → Decoded
 
--- The refusals but 10, in order: 2 over 65,535 octets; 1 under 12 octets; 3 Z is set; the first fault in an entry, at the entry;
--- 8 octets after the last record, at the first of them; 9 uncompressed form over 65,535 octets.
+-- where reading came to: the first fault in an entry, reported at the entry; 8 octets after the last record, at the first of
+-- them; 9 uncompressed form over 65,535 octets
+abbrev pub afterReading : List ℕ → Message → Reached → Decoded
+afterReading s m (stopped at fault) = refused (number (fault .kind)) at
+afterReading s m (reached at) =
+    cond (ltb at (length s)) (refused 8 at)
+    (cond (ltb 65535 (length (form m))) (refused 9 0) (accepted m))
+
+-- the refusals but 10, in order: 2 over 65,535 octets; 1 under 12 octets; 3 Z is set; then those of reading
 unfoldable pub decode : List ℕ → Decoded
 decode s =
-    let m = messageOf s in
-    let whole : Decoded = cond (ltb 65535 (length (form m))) (refused 9 0) (accepted m) in
-    let read : Decoded = elim (sectionsOf s .additional .end) [
-      | reached at ↦ cond (ltb at (length s)) (refused 8 at) whole
-      | stopped at fault ↦ refused (number (fault .kind)) at
-    ] in
     cond (ltb 65535 (length s)) (refused 2 0)
     (cond (ltb (length s) 12) (refused 1 0)
-    (cond (eqb (zOf s) 1) (refused 3 0) read))
+    (cond (eqb (zOf s) 1) (refused 3 0)
+    (afterReading s (messageOf s) (sectionsOf s .additional .end))))

@@ -9,7 +9,7 @@ use Rattle.octets.specs.Lists.{lookup}
 use Rattle.names.specs.Name.{nameForm, short, surplus, Fault}
 use Rattle.names.specs.Walk.{part, rdata, named, faulty, nameFrom}
 
--- a piece of a layout: so many octets, or a name
+-- a piece of a layout: n octets, or a name
 pub data Piece : Type 0 where
   fixed : ℕ → Piece
   name : Piece
@@ -44,8 +44,8 @@ abbrev pub before : List ℕ → Laid → Laid
 before l (laid m) = laid (l ++ m)
 before l (misfit fault) = misfit fault
 
--- The pieces of a layout from an offset on, in RDATA from `start` to `end`: RDATA must end where the layout ends.
--- `jumps` says whether names may have pointers.
+-- The pieces of a layout from an offset on, in RDATA from `start` to `end`: `pieces jumps layout s start end at`. RDATA must end
+-- where the layout ends. `jumps` says whether names may have pointers: a name is read with run 0 where they may not.
 unfoldable pub pieces : Bool → List Piece → List ℕ → ℕ → ℕ → ℕ → Laid
 pieces jumps [] s start end at = cond (ltb at end) (misfit (record { kind = surplus; octet = at })) (laid [])
 pieces jumps (fixed n ∷ layout) s start end at =
@@ -57,7 +57,8 @@ pieces jumps (name ∷ layout) s start end at =
       | faulty fault ↦ misfit fault
     ]
 
--- RDATA of so many octets at an offset: RDLENGTH 0 is accepted for every type; RDATA of a TYPE that is not listed is carried octet for octet
+-- RDATA of `size` octets at an offset, `rdataAt jumps s type at size`: RDLENGTH 0 is accepted for every type; RDATA of a TYPE
+-- that is not listed is carried octet for octet
 unfoldable pub rdataAt : Bool → List ℕ → ℕ → ℕ → ℕ → Laid
 rdataAt jumps s type at size =
     let read : Laid = elim (layoutOf type) [ none ↦ laid (part s at size) | some layout ↦ pieces jumps layout s at (at + size) at ] in

@@ -1,4 +1,4 @@
--- Messages on the wire: header, questions, records, RDATA layouts, the reading of a message and the uncompressed form.
+-- Messages on the wire: header, questions, records, RDATA layouts, the reading of a message, and its uncompressed form.
 pub mod Layout
 pub mod Message
 pub mod Read
@@ -7,9 +7,8 @@ pub mod RecordLaws
 pub mod MessageLaws
 pub mod Boundaries
 pub mod Parts
+pub mod Kept
 pub mod Answer
 pub mod Reading
 pub mod Pieces
 pub mod Told
-pub mod Putting
-pub mod Uncompressed

@@ -16,7 +16,7 @@ use Rattle.names.specs.Name.{nameForm, Fault, number}
 use Rattle.names.specs.NameLaws as N
 use Rattle.records.specs.Message.{Header, Question, Record, Message, flagsHigh, flagsLow, questionForm, recordForm, headerForm, form, header?, question?, record?, section?, valid?}
 use Rattle.records.specs.Read.{Entry, entry, bad, questionAt, recordAt, Reached, reached, stopped, add, sectionAt, sectionFrom}
-use Rattle.records.specs.Decode.{headerOf, zOf, sectionsOf, messageOf, Decoded, accepted, refused, decode}
+use Rattle.records.specs.Decode.{headerOf, zOf, sectionsOf, messageOf, Decoded, accepted, refused, afterReading, decode}
 use Rattle.records.specs.RecordLaws.{question-parts, record-parts, record-long, question-back, question-read, record-back, record-read}
 
 -- ---- sections
@@ -35,7 +35,7 @@ pub stopped≢reached : {i : ℕ} {fault : Fault} {j : ℕ} → stopped i fault 
 stopped≢reached e = subst Came (sym e) tt
 
 module _ {A : Type 0} (read : List ℕ → ℕ → Entry A) (s : List ℕ) where
-  -- an entry that is read, and the entries behind it
+  -- an entry that is read, and the entries after it
   pub section-step : (n at : ℕ) (a : A) (next : ℕ) → read s at ≡ entry a next → sectionAt read s (suc n) at ≡ add a (sectionAt read s n next)
   unfolding sectionAt
   section-step n at a next e = rw (e, sectionAt)
@@ -64,13 +64,13 @@ module _ {A : Type 0} (read : List ℕ → ℕ → Entry A) (s : List ℕ) where
           go (entry a next) p f = rw (section-step n at a next p) (both (entry? a) _ (valid at a next p) (f next))
           go (bad fault) p f = rw (section-stop n at fault p) tt
 
-      -- a section behind another
+      -- a section after another
       pub from-valid : (n : ℕ) (w : Reached) → T (all entry? (sectionFrom read s n w .entries))
       unfolding sectionFrom
       from-valid n (reached at) = section-valid n at
       from-valid n (stopped at fault) = tt
 
-    -- where a section's form stands, the section is read, if each entry is
+    -- where a section's form is, the section is read, if each entry is
     pub section-back : (form : A → List ℕ) → ((a : A) (r : List ℕ) (at : ℕ) → T (entry? a) → length (form a) ≤ 65535 → drop at s ≡ form a ++ r → read s at ≡ entry a (at + length (form a)))
         → (l : List A) (r : List ℕ) (at : ℕ) → T (all entry? l) → length (each form l) ≤ 65535 → drop at s ≡ each form l ++ r
         → sectionAt read s (length l) at ≡ record { entries = l; end = reached (at + length (each form l)) }
@@ -96,7 +96,7 @@ module _ {A : Type 0} (read : List ℕ → ℕ → Entry A) (s : List ℕ) where
       go (entry a next) p f = rw (section-step n at a next p) (ap suc (f next i (rw (section-step n at a next p) at e)))
       go (bad fault) p f = absurd (stopped≢reached (rw (section-stop n at fault p) at e))
 
-  -- the same of a section behind another
+  -- the same of a section after another
   pub from-count : (n : ℕ) (w : Reached) (i : ℕ) → sectionFrom read s n w .end ≡ reached i → length (sectionFrom read s n w .entries) ≡ n
   unfolding sectionFrom
   from-count n (reached at) i e = section-count n at i e
@@ -362,27 +362,19 @@ accepted-message {m} e = ap (messageIn m) e
 pub refused≢accepted : {k at : ℕ} {m : Message} → refused k at ≡ accepted m → ⊥
 refused≢accepted e = subst Accepted (sym e) tt
 
--- the answer by where reading came to
-abbrev ended : List ℕ → Decoded → Reached → Decoded
-ended s whole (reached at) = cond (ltb at (length s)) (refused 8 at) whole
-ended s whole (stopped at fault) = refused (number (fault .kind)) at
-
--- the same answer as `decode` writes it
-elim-ended : (s : List ℕ) (whole : Decoded) (w : Reached)
-    → (elim w as (λ x. Decoded) [ reached at ↦ cond (ltb at (length s)) (refused 8 at) whole | stopped at fault ↦ refused (number (fault .kind)) at ]) ≡ ended s whole w
-elim-ended s whole (reached at) = refl
-elim-ended s whole (stopped at fault) = refl
-
 -- a refusal that is not the answer was not due
 cond-back : (b : Bool) (k at : ℕ) (w : Decoded) (m : Message) → cond b (refused k at) w ≡ accepted m → (b ≡ false) × (w ≡ accepted m)
 cond-back true k at w m e = absurd (refused≢accepted e)
 cond-back false k at w m e = (refl, e)
 
 -- an accepted message was read to its end
-ended-back : (s : List ℕ) (whole : Decoded) (w : Reached) (m : Message) → ended s whole w ≡ accepted m
-    → (at : ℕ) × (w ≡ reached at) × (length s ≤ at) × (whole ≡ accepted m)
-ended-back s whole (reached at) m e = let (p, q) = cond-back (ltb at (length s)) 8 at whole m e in (at, refl, ltb-false at (length s) p, q)
-ended-back s whole (stopped at fault) m e = absurd (refused≢accepted e)
+ended-back : (s : List ℕ) (n : Message) (w : Reached) (m : Message) → afterReading s n w ≡ accepted m
+    → (at : ℕ) × (w ≡ reached at) × (length s ≤ at) × (length (form n) ≤ 65535) × (n ≡ m)
+ended-back s n (reached at) m e =
+    let (p, f) = cond-back (ltb at (length s)) 8 at _ m e in
+    let (q, g) = cond-back (ltb 65535 (length (form n))) 9 0 (accepted n) m f in
+    (at, refl, ltb-false at (length s) p, ltb-false 65535 (length (form n)) q, accepted-message g)
+ended-back s n (stopped at fault) m e = absurd (refused≢accepted e)
 
 -- what acceptance says of the octets
 pub record Taken (s : List ℕ) (m : Message) : Type 0 where
@@ -399,15 +391,10 @@ pub record Taken (s : List ℕ) (m : Message) : Type 0 where
 pub decode-back : (s : List ℕ) (m : Message) → decode s ≡ accepted m → Taken s m
 unfolding decode
 decode-back s m e =
-    let n = messageOf s in
-    let whole : Decoded = cond (ltb 65535 (length (form n))) (refused 9 0) (accepted n) in
-    let w = sectionsOf s .additional .end in
     let (a, e₁) = cond-back (ltb 65535 (length s)) 2 0 _ m e in
     let (b, e₂) = cond-back (ltb (length s) 12) 1 0 _ m e₁ in
     let (c, e₃) = cond-back (eqb (zOf s) 1) 3 0 _ m e₂ in
-    let (at, p, q, e₄) = ended-back s whole w m (sym (elim-ended s whole w) ∙ e₃) in
-    let (d, e₅) = cond-back (ltb 65535 (length (form n))) 9 0 (accepted n) m e₄ in
-    let same = accepted-message e₅ in
+    let (at, p, q, d, same) = ended-back s (messageOf s) (sectionsOf s .additional .end) m e₃ in
     record {
       small = ltb-false 65535 (length s) a;
       room = ltb-false (length s) 12 b;
@@ -416,7 +403,7 @@ decode-back s m e =
       came = p;
       whole = q;
       same = same;
-      limit = subst (λ (k : Message). length (form k) ≤ 65535) same (ltb-false 65535 (length (form n)) d);
+      limit = subst (λ (k : Message). length (form k) ≤ 65535) same d;
     }
 
 -- the sections of octets that are read to their end

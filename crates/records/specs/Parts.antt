@@ -1,4 +1,4 @@
--- Questions, records and RDATA in the parts that the code reads: a name with the fields behind it, a record without what is inside RDATA,
+-- Questions, records and RDATA in the parts that the code reads: a name with the fields after it, a record without what is inside RDATA,
 -- and RDATA piece by piece. Assumes nothing.
 use mathlib.Core.Path.{_≡_, refl, sym, ap, _∙_}
 use mathlib.Core.Bool.{Bool, true, false, cond}
@@ -11,68 +11,68 @@ use lib.Dec.{ltb, eqb}
 use lib.ListN.{length, drop}
 use Rattle.octets.specs.Fields.{twoAt, fourAt}
 use Rattle.names.specs.Name.{Name, nameForm, cut, short, surplus, Fault}
-use Rattle.names.specs.Walk.{part, message, rdata, Named, named, faulty, nameFrom, nameAt}
+use Rattle.names.specs.Walk.{part, message, rdata, Named, named, faulty, nameAt}
 use Rattle.records.specs.Layout.{Piece, fixed, name, layoutOf, Laid, laid, misfit, before, pieces, rdataAt}
 use Rattle.records.specs.Message.{Record}
-use Rattle.records.specs.RecordLaws.{bad≢entry, entry-value, entry-next, filled, elim-filled}
-use Rattle.records.specs.Read.{Entry, entry, bad, past-end, unfit, with-name, with-fields, questionAt, recordAt}
+use Rattle.records.specs.RecordLaws.{bad≢entry, entry-value, entry-next}
+use Rattle.records.specs.Read.{Entry, entry, bad, past-end, firstCut, with-name, with-fields, filled, questionAt, recordAt}
 
--- ---- a name and the fields behind it
+-- ---- a name and the fields after it
 -- the name, or the first field that runs past the message's end
 abbrev pub fitted : Name → ℕ → Option ℕ → Named
 fitted n next none = named n next
 fitted n next (some at) = faulty (record { kind = cut; octet = at })
 
 abbrev pub begun : List ℕ → List ℕ → Named → Named
-begun s widths (named n next) = fitted n next (unfit s next widths)
+begun s widths (named n next) = fitted n next (firstCut s next widths)
 begun s widths (faulty fault) = faulty fault
 
 unfoldable pub begunAt : List ℕ → ℕ → List ℕ → Named
 begunAt s at widths = begun s widths (nameAt s message at)
 
 module _ {A : Type 0} (s : List ℕ) (widths : List ℕ) (e : Name → ℕ → Entry A) where
-  -- what stands behind fields that fit
+  -- what comes after fields that fit
   fitted-fields : (n : Name) (next : ℕ) (o : Option ℕ) → with-fields o (e n next) ≡ with-name (fitted n next o) e
   fitted-fields n next none = refl
   fitted-fields n next (some at) = refl
 
-  begun-fields : (w : Named) → with-name w (λ n next. with-fields (unfit s next widths) (e n next)) ≡ with-name (begun s widths w) e
-  begun-fields (named n next) = fitted-fields n next (unfit s next widths)
+  begun-fields : (w : Named) → with-name w (λ n next. with-fields (firstCut s next widths) (e n next)) ≡ with-name (begun s widths w) e
+  begun-fields (named n next) = fitted-fields n next (firstCut s next widths)
   begun-fields (faulty fault) = refl
 
--- a question is a name with TYPE and CLASS behind it
+-- a question is a name with TYPE and CLASS after it
 pub question-begun : (s : List ℕ) (at : ℕ)
     → questionAt s at ≡ with-name (begunAt s at (2 ∷ 2 ∷ [])) λ n next. entry (record { name = n; type = twoAt s next; class = twoAt s (next + 2) }) (next + 4)
 unfolding questionAt begunAt
 question-begun s at = begun-fields s (2 ∷ 2 ∷ []) _ (nameAt s message at)
 
 -- ---- a record without what is inside RDATA
--- `rdata` is the offset of RDATA, of so many octets
+-- `rdata` is the offset of RDATA, of RDLENGTH octets
 pub record HeadOf : Type 0 where
   pub name : Name
   pub type : ℕ
   pub class : ℕ
   pub ttl : ℕ
   pub rdata : ℕ
-  pub length : ℕ
+  pub rdlength : ℕ
 
 -- the record of a head, with RDATA
 abbrev pub withRdata : HeadOf → List ℕ → Record
 withRdata h d = record { name = h .name; type = h .type; class = h .class; ttl = h .ttl; rdata = d }
 
--- TYPE, CLASS, TTL, RDLENGTH behind the name; RDATA must end within the message
+-- TYPE, CLASS, TTL, RDLENGTH after the name; RDATA must end within the message
 abbrev pub headed : List ℕ → Name → ℕ → Entry HeadOf
 headed s n next =
     let size = twoAt s (next + 8) in
     cond (ltb (length s) (next + 10 + size)) (past-end (next + 10))
-    (entry (record { name = n; type = twoAt s next; class = twoAt s (next + 2); ttl = fourAt s (next + 4); rdata = next + 10; length = size }) (next + 10 + size))
+    (entry (record { name = n; type = twoAt s next; class = twoAt s (next + 2); ttl = fourAt s (next + 4); rdata = next + 10; rdlength = size }) (next + 10 + size))
 
 unfoldable pub headAt : List ℕ → ℕ → Entry HeadOf
 headAt s at = with-name (begunAt s at (2 ∷ 2 ∷ 4 ∷ 2 ∷ [])) (headed s)
 
 -- a record's head, then its RDATA
 abbrev pub with-rdata : List ℕ → Entry HeadOf → Entry Record
-with-rdata s (entry h next) = filled (withRdata h) next (rdataAt true s (h .type) (h .rdata) (h .length))
+with-rdata s (entry h next) = filled (withRdata h) next (rdataAt true s (h .type) (h .rdata) (h .rdlength))
 with-rdata s (bad fault) = bad fault
 
 -- ---- RDATA as one list of pieces
@@ -98,7 +98,7 @@ nameStep (faulty fault) = stops fault
 unfoldable pub stepAt : List Piece → List ℕ → ℕ → ℕ → ℕ → StepOf
 stepAt [] s start end at = cond (ltb at end) (stops (record { kind = surplus; octet = at })) done
 stepAt (fixed n ∷ layout) s start end at = cond (ltb end (at + n)) (stops (record { kind = short; octet = start })) (part-to (at + n))
-stepAt (name ∷ layout) s start end at = nameStep (nameFrom s (rdata start end) at at)
+stepAt (name ∷ layout) s start end at = nameStep (nameAt s (rdata start end) at)
 
 -- ---- a record by its head
 -- a record is its head, then its RDATA
@@ -114,31 +114,29 @@ record-head s at = begun-fields s (2 ∷ 2 ∷ 4 ∷ 2 ∷ []) read (nameAt s me
 
     read : Name → ℕ → Entry Record
     read n next = cond (ltb (length s) (next + 10 + twoAt s (next + 8))) (past-end (next + 10))
-        (elim (inside n next) as (λ x. Entry Record) [ laid d ↦ entry (made n next d) (next + 10 + twoAt s (next + 8)) | misfit fault ↦ bad fault ])
+        (filled (made n next) (next + 10 + twoAt s (next + 8)) (inside n next))
 
     room : (b : Bool) (n : Name) (next : ℕ)
         → cond b (past-end (next + 10)) (filled (made n next) (next + 10 + twoAt s (next + 8)) (inside n next))
         ≡ with-rdata s (cond b (past-end (next + 10))
-        (entry (record { name = n; type = twoAt s next; class = twoAt s (next + 2); ttl = fourAt s (next + 4); rdata = next + 10; length = twoAt s (next + 8) }) (next + 10 + twoAt s (next + 8))))
+        (entry (record { name = n; type = twoAt s next; class = twoAt s (next + 2); ttl = fourAt s (next + 4); rdata = next + 10; rdlength = twoAt s (next + 8) }) (next + 10 + twoAt s (next + 8))))
     room true n next = refl
     room false n next = refl
 
     go : (w : Named) → with-name w read ≡ with-rdata s (with-name w (headed s))
-    go (named n next) =
-        ap (cond (ltb (length s) (next + 10 + twoAt s (next + 8))) (past-end (next + 10))) (elim-filled (made n next) (next + 10 + twoAt s (next + 8)) (inside n next))
-        ∙ room (ltb (length s) (next + 10 + twoAt s (next + 8))) n next
+    go (named n next) = room (ltb (length s) (next + 10 + twoAt s (next + 8))) n next
     go (faulty fault) = refl
 
--- a record ends behind its RDATA
-pub head-next : (s : List ℕ) (at : ℕ) (h : HeadOf) (next : ℕ) → headAt s at ≡ entry h next → next ≡ h .rdata + h .length
+-- a record ends after its RDATA
+pub head-next : (s : List ℕ) (at : ℕ) (h : HeadOf) (next : ℕ) → headAt s at ≡ entry h next → next ≡ h .rdata + h .rdlength
 unfolding headAt
 head-next s at h next e = go (begunAt s at (2 ∷ 2 ∷ 4 ∷ 2 ∷ [])) e
   where
-    room : (b : Bool) (i : ℕ) (k : HeadOf) → cond b (past-end i) (entry k (k .rdata + k .length)) ≡ entry h next → next ≡ h .rdata + h .length
+    room : (b : Bool) (i : ℕ) (k : HeadOf) → cond b (past-end i) (entry k (k .rdata + k .rdlength)) ≡ entry h next → next ≡ h .rdata + h .rdlength
     room true i k q = absurd (bad≢entry q)
-    room false i k q = sym (entry-next q) ∙ ap (λ (x : HeadOf). x .rdata + x .length) (entry-value q)
+    room false i k q = sym (entry-next q) ∙ ap (λ (x : HeadOf). x .rdata + x .rdlength) (entry-value q)
 
-    go : (w : Named) → with-name w (headed s) ≡ entry h next → next ≡ h .rdata + h .length
+    go : (w : Named) → with-name w (headed s) ≡ entry h next → next ≡ h .rdata + h .rdlength
     go (named n i) q = room (ltb (length s) (i + 10 + twoAt s (i + 8))) (i + 10) _ q
     go (faulty fault) q = absurd (bad≢entry q)
 
@@ -152,14 +150,14 @@ rdata-pieces jumps s type at size = go (eqb size 0) refl (layoutOf type) refl
     go false p none q = rw (p, q, rdataAt, le-ltb (at + size) (at + size) (omega arith)) (ap laid (sym (append-nil (part s at size))))
     go false p (some layout) q = rw (p, q, rdataAt)
 
--- what a step puts before what is behind it
+-- what a step puts before what comes after it
 abbrev pub follow : List ℕ → ℕ → (ℕ → Laid) → StepOf → Laid
 follow s at later (part-to next) = before (part s at (next - at)) (later next)
 follow s at later (name-to n next) = before (nameForm n) (later next)
 follow s at later done = laid []
 follow s at later (stops fault) = misfit fault
 
--- the pieces are the step at the first of them, then the pieces behind it
+-- the pieces are the step at the first of them, then the pieces after it
 pub pieces-step : (layout : List Piece) (s : List ℕ) (start end at : ℕ)
     → pieces true layout s start end at ≡ follow s at (pieces true (drop 1 layout) s start end) (stepAt layout s start end at)
 unfolding pieces stepAt
@@ -178,7 +176,7 @@ pieces-step (fixed n ∷ layout) s start end at = go (ltb end (at + n))
         ≡ follow s at later (cond b (stops (record { kind = short; octet = start })) (part-to (at + n)))
     go true = refl
     go false = let e : at + n - at ≡ n = omega arith in rw e
-pieces-step (name ∷ layout) s start end at = go (nameFrom s (rdata start end) at at)
+pieces-step (name ∷ layout) s start end at = go (nameAt s (rdata start end) at)
   where
     later : ℕ → Laid
     later = pieces true layout s start end

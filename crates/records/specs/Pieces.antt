@@ -9,9 +9,10 @@ use borrow.Author.Tests.{le-ltb, lt-ltb, ne-eqb, ltb-false}
 use lib.Dec.{ltb, eqb}
 use lib.ListN.{length, drop, replicate, length-drop, drop-of-length-le}
 use Rattle.octets.specs.Lists.{All, lookup}
+use Rattle.octets.specs.Arms.{past-rows}
 use Rattle.names.specs.Name.{Name, nameForm, short, surplus}
 use Rattle.names.specs.Name as name
-use Rattle.names.specs.Walk.{rdata, named, faulty, nameFrom}
+use Rattle.names.specs.Walk.{rdata, named, faulty, nameAt}
 use Rattle.names.specs.Walk as walk
 use Rattle.names.specs.NameLaws.{read-sized}
 use Rattle.names.specs.Answer.{faultOf, nameRead}
@@ -21,7 +22,7 @@ use Rattle.names.specs.declared.Named.the-variants.{Read, Faulty}
 use Rattle.names.specs.declared.NameRead.{NameRead}
 use Rattle.records.specs.Layout.{Piece, fixed, name, layouts, layoutOf}
 use Rattle.records.specs.Parts.{layoutOr, layoutIn, part-to, done, stops, nameStep, stepAt}
-use Rattle.records.specs.Answer.{padded, pieceRead, nthOf, plainly, stepRead, Steps}
+use Rattle.records.specs.Answer.{padded, pieceRead, nthOf, plainly, faultStep, stepRead, Steps}
 use Rattle.records.specs.Reading.{name-read, name-faulty}
 use Rattle.records.specs.declared.Piece.{Piece as PieceRead}
 use Rattle.records.specs.declared.Piece.the-variants as piece
@@ -75,7 +76,7 @@ layout-small type size = go (eqb size 0) (layoutOf type) refl
     go false (some l) q = let k = lookup-all Small layouts type l layouts-small (unfold layoutOf in q) in (k .0, omega (arith, k .1), λ h. omega (arith, k .1))
 
 -- ---- the i-th piece
--- the first, the second, the third, and none behind them
+-- the first, the second, the third, and none after them
 pub nth-first : (i : ℕ) (a b c : PieceRead) → i ≡ 0 → a ≡ nthOf i a b c
 nth-first i a b c e = rw e
 
@@ -104,28 +105,21 @@ unfolding layoutIn
 piece-none kind size i e = rw e (ap pieceRead (sym (drop-of-length-le {A = Piece} [] {i = i} (omega arith))))
 
 -- a listed TYPE
-pub piece-listed : (k : ℕ) (l : List Piece) (kind size i : ℕ) {r : PieceRead} → layoutOf k ≡ some l → length l ≤ 3 → (size ≡ 0 → ⊥) → kind ≡ k
+pub piece-listed : (l : List Piece) (kind size i : ℕ) {r : PieceRead} → layoutOf kind ≡ some l → length l ≤ 3 → (size ≡ 0 → ⊥)
     → r ≡ nthOf i (pieceRead l) (pieceRead (drop 1 l)) (pieceRead (drop 2 l)) → r ≡ pieceRead (drop i (layoutIn kind size))
 unfolding layoutIn
-piece-listed k l kind size i q n h e p = p ∙ nth-layout i l n ∙ rw (ne-eqb size 0 h, e, q)
+piece-listed l kind size i q n h p = p ∙ nth-layout i l n ∙ rw (ne-eqb size 0 h, q)
 
 -- any other TYPE
-pub piece-free : (kind size i : ℕ) {r : PieceRead} → layoutOf kind ≡ none → (size ≡ 0 → ⊥) → r ≡ nthOf i (piece.Fixed size) piece.End piece.End
-    → r ≡ pieceRead (drop i (layoutIn kind size))
+pub piece-free : (kind size i : ℕ) {r : PieceRead} → layoutOf kind ≡ none → (size ≡ 0 → ⊥)
+    → r ≡ nthOf i (piece.Fixed size) piece.End piece.End → r ≡ pieceRead (drop i (layoutIn kind size))
 unfolding layoutIn
 piece-free kind size i q h p = p ∙ nth-layout i (fixed size ∷ []) (omega arith) ∙ rw (ne-eqb size 0 h, q)
 
--- a TYPE under which no row stands
-missing : {A : Type 0} (k : ℕ) (rows : List (ℕ × A)) → All (λ (row : ℕ × A). row .0 ≡ k → ⊥) rows → lookup k rows ≡ none
-unfolding lookup
-missing k [] h = refl
-missing k (row ∷ rows) h = rw (ne-eqb (row .0) k (h .0)) (missing k rows (h .1))
-
-pub not-listed : (kind : ℕ)
-    → (kind ≡ 2 → ⊥) → (kind ≡ 3 → ⊥) → (kind ≡ 4 → ⊥) → (kind ≡ 5 → ⊥) → (kind ≡ 6 → ⊥) → (kind ≡ 7 → ⊥) → (kind ≡ 8 → ⊥) → (kind ≡ 9 → ⊥)
-    → (kind ≡ 12 → ⊥) → (kind ≡ 14 → ⊥) → (kind ≡ 15 → ⊥) → layoutOf kind ≡ none
+-- no TYPE over 16 bits is listed
+pub layout-beyond : (type : ℕ) → 65536 ≤ type → layoutOf type ≡ none
 unfolding layoutOf layouts
-not-listed kind a b c d e f g h i j k = missing kind layouts (λ x. a (sym x), (λ x. b (sym x), (λ x. c (sym x), (λ x. d (sym x), (λ x. e (sym x), (λ x. f (sym x), (λ x. g (sym x), (λ x. h (sym x), (λ x. i (sym x), (λ x. j (sym x), (λ x. k (sym x), tt)))))))))))
+layout-beyond type h = past-rows 65536 type layouts tt h
 
 -- ---- a step's ways
 -- the layout of a piece
@@ -170,28 +164,27 @@ module _ (s : List ℕ) (l : List Piece) (start end at : ℕ) {p : PieceRead} (e
     unfolding stepAt stepRead
     step-part i h k = k ∙ sym (ap (λ (m : List Piece). stepRead (stepAt m s start end at)) octets ∙ rw (le-ltb end (at + n) (omega arith)))
 
-  module _ (q : p ≡ piece.Name) {r : NameRead} (k : r ≡ nameRead (nameFrom s (rdata start end) at at)) where
+  module _ (q : p ≡ piece.Name) {r : NameRead} (k : r ≡ nameRead (nameAt s (rdata start end) at)) where
     naming : l ≡ name ∷ drop 1 l
     naming = headed l piece.Name (sym q ∙ e)
 
-    at-name : stepRead (stepAt l s start end at) ≡ stepRead (nameStep (nameFrom s (rdata start end) at at))
+    at-name : stepRead (stepAt l s start end at) ≡ stepRead (nameStep (nameAt s (rdata start end) at))
     unfolding stepAt
     at-name = ap (λ (m : List Piece). stepRead (stepAt m s start end at)) naming
 
-    pub step-faulty : {f : Fault} → r .answer ≡ Faulty f → record { step = step.Misfit f; octets = r .octets } ≡ stepRead (stepAt l s start end at)
-    unfolding stepRead plainly
-    step-faulty {f} h = go (name-faulty (nameFrom s (rdata start end) at at) k h) ∙ sym at-name
-      where
-        go : (x : (fault : name.Fault) × (nameFrom s (rdata start end) at at ≡ faulty fault) × (f ≡ faultOf fault) × (r .octets ≡ replicate 255 0))
-            → record { step = step.Misfit f; octets = r .octets } ≡ stepRead (nameStep (nameFrom s (rdata start end) at at))
-        go (fault, u, a, b) = rw (u, a, b)
+    pub step-faulty : {f : Fault} {x : Step} {t : Stepped} → r .answer ≡ Faulty f → x ≡ faultStep (r .answer) → t ≡ plainly x
+        → t ≡ stepRead (stepAt l s start end at)
+    unfolding stepRead
+    step-faulty h u v =
+        let (fault, e, a, b) = name-faulty (nameAt s (rdata start end) at) k h in
+        v ∙ ap plainly (u ∙ ap faultStep h ∙ ap step.Misfit a) ∙ sym (at-name ∙ ap (λ w. stepRead (nameStep w)) e)
 
     pub step-name : {next size : ℕ} → r .answer ≡ Read next size → record { step = step.Name size next; octets = r .octets } ≡ stepRead (stepAt l s start end at)
     unfolding stepRead
-    step-name {next} {size} h = go (name-read (nameFrom s (rdata start end) at at) k h) ∙ sym at-name
+    step-name {next} {size} h = go (name-read (nameAt s (rdata start end) at) k h) ∙ sym at-name
       where
-        go : (x : (n : Name) × (nameFrom s (rdata start end) at at ≡ named n next) × (size ≡ length (nameForm n)) × (r .octets ≡ padded (nameForm n)))
-            → record { step = step.Name size next; octets = r .octets } ≡ stepRead (nameStep (nameFrom s (rdata start end) at at))
+        go : (x : (n : Name) × (nameAt s (rdata start end) at ≡ named n next) × (size ≡ length (nameForm n)) × (r .octets ≡ padded (nameForm n)))
+            → record { step = step.Name size next; octets = r .octets } ≡ stepRead (nameStep (nameAt s (rdata start end) at))
         go (n, u, a, b) = rw (u, a, b)
 
 -- ---- the bounds of a step
@@ -208,18 +201,20 @@ module _ (s : List ℕ) (start end at i : ℕ) (h : end ≤ length s) (k : at �
       go : (b : Bool) → ltb end (at + n) ≡ b → Steps (stepRead (cond b (stops (record { kind = short; octet = start })) (part-to (at + n))) .step) i at end
       go true p = tt
       go false p = let q = ltb-false end (at + n) p in (f (omega arith), omega arith, omega arith)
-  step-within (name ∷ l) f = go (nameFrom s (rdata start end) at at) refl
+  step-within (name ∷ l) f = go (nameAt s (rdata start end) at) refl
     where
-      go : (w : walk.Named) → nameFrom s (rdata start end) at at ≡ w → Steps (stepRead (nameStep w) .step) i at end
+      go : (w : walk.Named) → nameAt s (rdata start end) at ≡ w → Steps (stepRead (nameStep w) .step) i at end
       go (named n next) p = let q = read-sized s (rdata start end) at at n next h p in (f (omega arith), q .2, q .3, q .1)
       go (faulty fault) p = tt
 
-  pub steps : (kind size : ℕ) {r : Stepped} → r ≡ stepRead (stepAt (drop i (layoutIn kind size)) s start end at) → Steps (r .step) i at end
-  steps kind size e =
+  -- a step of RDATA, with its bounds
+  pub with-steps : (kind size : ℕ) {r : Stepped} → r ≡ stepRead (stepAt (drop i (layoutIn kind size)) s start end at)
+      → (r ≡ stepRead (stepAt (drop i (layoutIn kind size)) s start end at)) × Steps (r .step) i at end
+  with-steps kind size e =
       let l = layoutIn kind size in
       let few = layout-small kind size .0 in
       let long = length-drop i l in
-      subst (λ (x : Stepped). Steps (x .step) i at end) (sym e) (step-within (drop i l) (λ j. omega arith))
+      (e, subst (λ (x : Stepped). Steps (x .step) i at end) (sym e) (step-within (drop i l) (λ j. omega arith)))
 
 -- by the code's step
 pub part-within : (x : Step) {i at end next : ℕ} → Steps x i at end → x ≡ step.Part next → (i < 3) × (at ≤ next) × (next ≤ end)

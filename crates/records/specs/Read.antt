@@ -8,10 +8,10 @@ use lib.ListN.{length}
 use Rattle.octets.specs.Fields.{twoAt, fourAt}
 use Rattle.names.specs.Name.{Name, cut, Fault}
 use Rattle.names.specs.Walk.{message, Named, named, faulty, nameAt}
-use Rattle.records.specs.Layout.{laid, misfit, rdataAt}
+use Rattle.records.specs.Layout.{Laid, laid, misfit, rdataAt}
 use Rattle.records.specs.Message.{Question, Record}
 
--- an entry and the offset behind it, or its first fault
+-- an entry and the offset after it, or its first fault
 pub data Entry (A : Type 0) : Type 0 where
   entry : A → ℕ → Entry A
   bad : Fault → Entry A
@@ -20,12 +20,12 @@ pub data Entry (A : Type 0) : Type 0 where
 abbrev pub past-end : {A : Type 0} → ℕ → Entry A
 past-end at = bad (record { kind = cut; octet = at })
 
--- fields of these widths at an offset: the first that runs past the message's end
-unfoldable pub unfit : List ℕ → ℕ → List ℕ → Option ℕ
-unfit s at [] = none
-unfit s at (width ∷ widths) = let later = unfit s (at + width) widths in cond (leb (at + width) (length s)) later (some at)
+-- fields of these widths from an offset on: the offset of the first that runs past the message's end, if one does
+unfoldable pub firstCut : List ℕ → ℕ → List ℕ → Option ℕ
+firstCut s at [] = none
+firstCut s at (width ∷ widths) = let later = firstCut s (at + width) widths in cond (leb (at + width) (length s)) later (some at)
 
--- a name, then what its fields, at the offset behind it, give; a fault met in the name is at once the answer
+-- a name, then what its fields, at the offset after it, give; a fault met in the name is at once the answer
 abbrev pub with-name : {A : Type 0} → Named → (Name → ℕ → Entry A) → Entry A
 with-name (named name next) f = f name next
 with-name (faulty fault) f = bad fault
@@ -34,20 +34,26 @@ abbrev pub with-fields : {A : Type 0} → Option ℕ → Entry A → Entry A
 with-fields none e = e
 with-fields (some at) e = past-end at
 
--- TYPE and CLASS behind the name
+-- RDATA makes the record; a fault met in it is at once the answer
+abbrev pub filled : (List ℕ → Record) → ℕ → Laid → Entry Record
+filled made next (laid octets) = entry (made octets) next
+filled made next (misfit fault) = bad fault
+
+-- TYPE and CLASS after the name
 unfoldable pub questionAt : List ℕ → ℕ → Entry Question
 questionAt s at = with-name (nameAt s message at) λ name next.
-    with-fields (unfit s next (2 ∷ 2 ∷ [])) (entry (record { name = name; type = twoAt s next; class = twoAt s (next + 2) }) (next + 4))
+    with-fields (firstCut s next (2 ∷ 2 ∷ [])) (entry (record { name = name; type = twoAt s next; class = twoAt s (next + 2) }) (next + 4))
 
--- TYPE, CLASS, TTL, RDLENGTH behind the name, then RDATA; RDATA past the message is found before anything inside it
+-- TYPE, CLASS, TTL, RDLENGTH after the name, then RDATA; RDATA past the message is found before anything inside it
 unfoldable pub recordAt : List ℕ → ℕ → Entry Record
 recordAt s at = with-name (nameAt s message at) λ name next.
+    let type = twoAt s next in
     let size = twoAt s (next + 8) in
-    let read : Entry Record = elim (rdataAt true s (twoAt s next) (next + 10) size) [
-      | laid octets ↦ entry (record { name = name; type = twoAt s next; class = twoAt s (next + 2); ttl = fourAt s (next + 4); rdata = octets }) (next + 10 + size)
-      | misfit fault ↦ bad fault
-    ] in
-    with-fields (unfit s next (2 ∷ 2 ∷ 4 ∷ 2 ∷ [])) (cond (ltb (length s) (next + 10 + size)) (past-end (next + 10)) read)
+    let made : List ℕ → Record = λ octets.
+    record { name = name; type = type; class = twoAt s (next + 2); ttl = fourAt s (next + 4); rdata = octets } in
+    with-fields (firstCut s next (2 ∷ 2 ∷ 4 ∷ 2 ∷ []))
+    (cond (ltb (length s) (next + 10 + size)) (past-end (next + 10))
+    (filled made (next + 10 + size) (rdataAt true s type (next + 10) size)))
 
 -- where reading came to: an offset, or the faulty entry's offset with its fault
 pub data Reached : Type 0 where
@@ -62,7 +68,7 @@ pub record Section (A : Type 0) : Type 0 where
 abbrev pub add : {A : Type 0} → A → Section A → Section A
 add a section = record { entries = a ∷ section .entries; end = section .end }
 
--- so many entries from an offset on
+-- n entries from an offset on
 unfoldable pub sectionAt : {A : Type 0} → (List ℕ → ℕ → Entry A) → List ℕ → ℕ → ℕ → Section A
 sectionAt read s zero at = record { entries = []; end = reached at }
 sectionAt read s (suc n) at = elim (read s at) [

@@ -20,14 +20,14 @@ use Rattle.names.specs.declared.Fault.the-variants.{Cut}
 use Rattle.names.specs.declared.Named.{Named}
 use Rattle.names.specs.declared.Named.the-variants.{Read, Faulty}
 use Rattle.names.specs.declared.NameRead.{NameRead}
-use Rattle.records.specs.Read.{unfit, questionAt}
+use Rattle.records.specs.Read.{firstCut, questionAt}
 use Rattle.records.specs.RecordLaws.{sum}
 use Rattle.records.specs.Parts.{begunAt, question-begun, headAt}
 use Rattle.records.specs.declared.Question.the-variants as question
 use Rattle.records.specs.declared.Record.the-variants as record′
 use Rattle.records.specs.Answer.{padded, Begins, questionRead, recordRead}
 
--- ---- what a name's answer tells
+-- ---- what a name's answer says
 -- the parts of an answer
 abbrev nextOf : Named → ℕ
 nextOf (Read next size) = next
@@ -67,23 +67,23 @@ module _ {r : NameRead} where
       let q = sym (ap (λ (x : NameRead). x .answer) e) ∙ p in
       (fault, refl, sym (ap (faultIn f) q), ap (λ (x : NameRead). x .octets) e)
 
--- ---- fields behind a name
+-- ---- fields after a name
 -- the fields before the i-th fit, and end at `place`
 pub record Fields (s widths : List ℕ) (next place i : ℕ) : Type 0 where
-  pub same : unfit s next widths ≡ unfit s place (drop i widths)
+  pub same : firstCut s next widths ≡ firstCut s place (drop i widths)
   pub long : place + sum (drop i widths) ≡ next + sum widths
 
 pub fields-start : (s widths : List ℕ) (next : ℕ) → Fields s widths next next 0
 fields-start s widths next = record { same = refl; long = refl }
 
 module _ {s widths : List ℕ} {next place i : ℕ} (f : Fields s widths next place i) where
-  -- the i-th field and those behind it
+  -- the i-th field and those after it
   first : i < length widths → drop i widths ≡ getD widths i 0 ∷ drop (i + 1) widths
   first h = rw (add-one, drop-cons widths i 0)
 
   -- it fits
   pub fields-more : {width : ℕ} → i < length widths → width ≡ getD widths i 0 → place + width ≤ length s → Fields s widths next (place + width) (i + 1)
-  unfolding unfit
+  unfolding firstCut
   fields-more {width} h e k =
       record {
         same = f .same ∙ rw (first h, ← e, le-leb (place + width) (length s) k);
@@ -91,16 +91,16 @@ module _ {s widths : List ℕ} {next place i : ℕ} (f : Fields s widths next pl
       }
 
   -- it does not
-  fields-cut : {width : ℕ} → i < length widths → width ≡ getD widths i 0 → length s < place + width → unfit s next widths ≡ some place
-  unfolding unfit
+  fields-cut : {width : ℕ} → i < length widths → width ≡ getD widths i 0 → length s < place + width → firstCut s next widths ≡ some place
+  unfolding firstCut
   fields-cut {width} h e k = f .same ∙ rw (first h, ← e, lt-leb (place + width) (length s) k)
 
   -- there is no i-th field
-  fields-end : length widths ≤ i → (unfit s next widths ≡ none) × (place ≡ next + sum widths)
-  unfolding unfit
+  fields-end : length widths ≤ i → (firstCut s next widths ≡ none) × (place ≡ next + sum widths)
+  unfolding firstCut
   fields-end h = (f .same ∙ rw (drop-of-length-le widths h), let p : sum (drop i widths) ≡ 0 = rw (drop-of-length-le widths h) in omega (arith, f .long))
 
--- ---- a name with fields behind it
+-- ---- a name with fields after it
 -- where a name that is read ends
 name-ends : (s : List ℕ) (at : ℕ) {r : NameRead} → r ≡ nameRead (nameAt s message at) → {next size : ℕ} → r .answer ≡ Read next size
     → (at < next) × (next ≤ length s) × (size ≤ 255)
@@ -169,20 +169,20 @@ module _ (s : List ℕ) (at : ℕ) {r : NameRead} (e : r ≡ nameRead (begunAt s
           → record { answer = record′.Faulty f; name = r .octets } ≡ recordRead (headAt s at)
       go (fault, q, a, b) = rw (q, a, b)
 
-  module _ {next size : ℕ} (p : r .answer ≡ Read next size) {length′ : ℕ} (l : length′ ≡ twoAt s (next + 8)) where
-    pub head-cut : length s < next + 10 + length′ → record { answer = record′.Faulty (Cut (next + 10)); name = replicate 255 0 } ≡ recordRead (headAt s at)
+  module _ {next size : ℕ} (p : r .answer ≡ Read next size) {rdlength : ℕ} (l : rdlength ≡ twoAt s (next + 8)) where
+    pub head-cut : length s < next + 10 + rdlength → record { answer = record′.Faulty (Cut (next + 10)); name = replicate 255 0 } ≡ recordRead (headAt s at)
     unfolding recordRead headAt
     head-cut h =
         let (n, q, a, b) = name-read (begunAt s at (2 ∷ 2 ∷ 4 ∷ 2 ∷ [])) e p in
-        rw (q, ← l, lt-ltb (length s) (next + 10 + length′) h)
+        rw (q, ← l, lt-ltb (length s) (next + 10 + rdlength) h)
 
-    pub head-whole : {kind class ttl : ℕ} → next + 10 + length′ ≤ length s → kind ≡ twoAt s next → class ≡ twoAt s (next + 2) → ttl ≡ fourAt s (next + 4)
-        → record { answer = record′.Read (record { size = size; kind = kind; class = class; ttl = ttl; rdata = next + 10; length = length′ }); name = r .octets }
+    pub head-whole : {kind class ttl : ℕ} → next + 10 + rdlength ≤ length s → kind ≡ twoAt s next → class ≡ twoAt s (next + 2) → ttl ≡ fourAt s (next + 4)
+        → record { answer = record′.Read (record { size = size; kind = kind; class = class; ttl = ttl; rdata = next + 10; rdlength = rdlength }); name = r .octets }
         ≡ recordRead (headAt s at)
     unfolding recordRead headAt
     head-whole {kind} {class} {ttl} h k c t = go (name-read (begunAt s at (2 ∷ 2 ∷ 4 ∷ 2 ∷ [])) e p)
       where
         go : (x : (n : Name) × (begunAt s at (2 ∷ 2 ∷ 4 ∷ 2 ∷ []) ≡ named n next) × (size ≡ length (nameForm n)) × (r .octets ≡ padded (nameForm n)))
-            → record { answer = record′.Read (record { size = size; kind = kind; class = class; ttl = ttl; rdata = next + 10; length = length′ }); name = r .octets }
+            → record { answer = record′.Read (record { size = size; kind = kind; class = class; ttl = ttl; rdata = next + 10; rdlength = rdlength }); name = r .octets }
             ≡ recordRead (headAt s at)
-        go (n, q, a, b) = rw (q, a, b, k, c, t, ← l, le-ltb (length s) (next + 10 + length′) h)
+        go (n, q, a, b) = rw (q, a, b, k, c, t, ← l, le-ltb (length s) (next + 10 + rdlength) h)

@@ -18,7 +18,7 @@ use Rattle.names.specs.Walk.{part, message, rdata, Named, named, faulty, nameFr
 use Rattle.names.specs.NameLaws.{Sized, form-some, read-back, read-back-sized, read-sized, read-valid, read-form, part-octets, part-long, drop-part}
 use Rattle.names.specs.NameLaws as N
 use Rattle.records.specs.Message.{Question, Record, questionForm, recordForm, question?, record?}
-use Rattle.records.specs.Read.{Entry, entry, bad, unfit, with-name, with-fields, questionAt, recordAt}
+use Rattle.records.specs.Read.{Entry, entry, bad, firstCut, with-name, with-fields, filled, questionAt, recordAt}
 use Rattle.records.specs.Layout.{Piece, fixed, name, layoutOf, Laid, laid, misfit, before, pieces, rdataAt, laid?, fits?}
 
 -- ---- equal answers
@@ -73,7 +73,7 @@ end-back jumps s start end at d = go (ltb at end) refl
     go true p e = absurd (misfit≢laid e)
     go false p e = (ltb-false at end p, sym (laid-octets e))
 
--- octets that were read lie within RDATA, and the rest was read behind them
+-- octets that were read are within RDATA, and the rest was read after them
 fixed-back : (jumps : Bool) (n : ℕ) (layout : List Piece) (s : List ℕ) (start end at : ℕ) (d : List ℕ) → pieces jumps (fixed n ∷ layout) s start end at ≡ laid d
     → (at + n ≤ end) × ((m : List ℕ) × (pieces jumps layout s start end (at + n) ≡ laid m) × (d ≡ part s at n ++ m))
 unfolding pieces
@@ -84,7 +84,7 @@ fixed-back jumps n layout s start end at d = go (ltb end (at + n)) refl (pieces 
     go true p w e = absurd (misfit≢laid e)
     go false p w e = (ltb-false end (at + n) p, before-back (part s at n) w d e)
 
--- a name was read, and the rest behind it
+-- a name was read, and the rest after it
 name-back : (jumps : Bool) (layout : List Piece) (s : List ℕ) (start end at : ℕ) (d : List ℕ) → pieces jumps (name ∷ layout) s start end at ≡ laid d
     → (labels : Name) × (next : ℕ) × (m : List ℕ) × (nameFrom s (rdata start end) (cond jumps at 0) at ≡ named labels next)
     × (pieces jumps layout s start end next ≡ laid m) × (d ≡ nameForm labels ++ m)
@@ -130,8 +130,8 @@ pieces-octets jumps (name ∷ layout) s start end at d o h e =
     let w = read-valid s (rdata start end) (cond jumps at 0) at labels next o h p in
     rw r (All-append (λ x. x < 256) (nameForm labels) m (N.form-octets labels (w .0)) (pieces-octets jumps layout s start end next m o h q))
 
--- octets of a layout are read as themselves wherever they stand
-pieces-same : (jumps : Bool) (layout : List Piece) (s r : List ℕ) (start end at : ℕ) (d : List ℕ) → Fills layout d → drop at s ≡ d ++ r → at + length d ≡ end
+-- octets of a layout are read as themselves wherever they are
+pub pieces-same : (jumps : Bool) (layout : List Piece) (s r : List ℕ) (start end at : ℕ) (d : List ℕ) → Fills layout d → drop at s ≡ d ++ r → at + length d ≡ end
     → pieces jumps layout s start end at ≡ laid d
 unfolding pieces
 pieces-same jumps [] s r start end at d f e h =
@@ -153,8 +153,8 @@ pieces-same jumps (name ∷ layout) s r start end at d (m, b, z, k, g, q) e h =
     ∙ ap (before (nameForm m)) (pieces-same jumps layout s r start end next b g (drop-past s (nameForm m) (b ++ r) at here) (omega arith))
     ∙ ap laid (sym q)
 
--- with no pointer allowed, what is read is what stands there
-pieces-whole : (layout : List Piece) (s : List ℕ) (start end at : ℕ) (d : List ℕ) → end ≤ length s → at ≤ end
+-- with no pointer allowed, what is read is what is there
+pub pieces-whole : (layout : List Piece) (s : List ℕ) (start end at : ℕ) (d : List ℕ) → end ≤ length s → at ≤ end
     → pieces false layout s start end at ≡ laid d → drop at s ≡ d ++ drop end s
 pieces-whole [] s start end at d h k e =
     let (p, q) = end-back false s start end at d e in
@@ -243,26 +243,26 @@ rdata-fits jumps s type at size d o h e = go (eqb size 0) refl (layoutOf type) r
         let same = pieces-same false layout d [] 0 (0 + length d) 0 d f (sym (append-nil d)) refl in
         (laid-test (rdata-listed false d type 0 (length d) layout (eqb-false (length d) 0 r) q ∙ same), pieces-octets jumps layout s at (at + size) at d o h l)
 
--- ---- fields behind a name
+-- ---- fields after a name
 -- the sum of the widths
 abbrev pub sum : List ℕ → ℕ
 sum [] = 0
 sum (width ∷ widths) = width + sum widths
 
 -- fields that end within the message fit
-fields-fit : (s : List ℕ) (at : ℕ) (widths : List ℕ) → at + sum widths ≤ length s → unfit s at widths ≡ none
-unfolding unfit
+fields-fit : (s : List ℕ) (at : ℕ) (widths : List ℕ) → at + sum widths ≤ length s → firstCut s at widths ≡ none
+unfolding firstCut
 fields-fit s at [] h = refl
 fields-fit s at (width ∷ widths) h = rw (le-leb (at + width) (length s) (omega arith)) (fields-fit s (at + width) widths (omega arith))
 
 -- fields that fit end within the message
-fields-room : (s : List ℕ) (at : ℕ) (widths : List ℕ) → at ≤ length s → unfit s at widths ≡ none → at + sum widths ≤ length s
-unfolding unfit
+pub fields-room : (s : List ℕ) (at : ℕ) (widths : List ℕ) → at ≤ length s → firstCut s at widths ≡ none → at + sum widths ≤ length s
+unfolding firstCut
 fields-room s at [] h e = omega arith
 fields-room s at (width ∷ widths) h e = let k = go (leb (at + width) (length s)) refl (fields-room s (at + width) widths) e in omega arith
   where
-    go : (b : Bool) → leb (at + width) (length s) ≡ b → (at + width ≤ length s → unfit s (at + width) widths ≡ none → at + width + sum widths ≤ length s)
-        → cond b (unfit s (at + width) widths) (some at) ≡ none → at + width + sum widths ≤ length s
+    go : (b : Bool) → leb (at + width) (length s) ≡ b → (at + width ≤ length s → firstCut s (at + width) widths ≡ none → at + width + sum widths ≤ length s)
+        → cond b (firstCut s (at + width) widths) (some at) ≡ none → at + width + sum widths ≤ length s
     go true p f e = f (leb-true (at + width) (length s) p) e
     go false p f e = absurd (Option·some-ne-none at e)
 
@@ -295,14 +295,14 @@ module _ {A : Type 0} where
   pub entry-next : {a b : A} {i j : ℕ} → entry a i ≡ entry b j → i ≡ j
   entry-next e = ap behind e
 
-  -- what stands behind a name that was read, and behind fields that fit
-  with-name-back : (w : Named) (f : Name → ℕ → Entry A) (a : A) (i : ℕ) → with-name w f ≡ entry a i
+  -- what comes after a name that was read, and after fields that fit
+  pub with-name-back : (w : Named) (f : Name → ℕ → Entry A) (a : A) (i : ℕ) → with-name w f ≡ entry a i
       → (n : Name) × (next : ℕ) × (w ≡ named n next) × (f n next ≡ entry a i)
   with-name-back (named n next) f a i e = (n, next, refl, e)
   with-name-back (faulty fault) f a i e = absurd (bad≢entry e)
 
   -- fields before an entry that was read fit
-  with-fields-back : (o : Option ℕ) (w : Entry A) (a : A) (i : ℕ) → with-fields o w ≡ entry a i → (o ≡ none) × (w ≡ entry a i)
+  pub with-fields-back : (o : Option ℕ) (w : Entry A) (a : A) (i : ℕ) → with-fields o w ≡ entry a i → (o ≡ none) × (w ≡ entry a i)
   with-fields-back none w a i e = (refl, e)
   with-fields-back (some at) w a i e = absurd (bad≢entry e)
 
@@ -322,7 +322,7 @@ unfolding question?
 question-made q a b c =
     both (name? (q .name) && word? (q .type)) (word? (q .class)) (both (name? (q .name)) (word? (q .type)) a (lt→ltb (q .type) 65536 b)) (lt→ltb (q .class) 65536 c)
 
--- where a valid question's form stands, that question is read
+-- where a valid question's form is, that question is read
 pub question-back : (s r : List ℕ) (at : ℕ) (q : Question) → T (question? q) → drop at s ≡ questionForm q ++ r
     → questionAt s at ≡ entry q (at + length (questionForm q))
 unfolding questionAt questionForm
@@ -343,13 +343,13 @@ question-back s r at q h e =
     rw (read-back s _ message at at (q .name) v here room, fields-fit s next (2 ∷ 2 ∷ []) (omega arith), two-at s _ next (q .type) t first, two-at s _ (next + 2) (q .class) c second)
     (ap (entry q) place)
 
--- a question that is read is valid, and ends behind its start and within the message
+-- a question that is read is valid, and ends after its start and within the message
 pub question-read : (s : List ℕ) (at : ℕ) (q : Question) (next : ℕ) → Octets s → questionAt s at ≡ entry q next → T (question? q) × (at < next) × (next ≤ length s)
 unfolding questionAt
 question-read s at q next o e =
     let (n, i, p, f) = with-name-back (nameAt s message at) _ q next e in
     let (v, a, b) = read-valid s message at at n i o (omega arith) p in
-    let (u, g) = with-fields-back (unfit s i (2 ∷ 2 ∷ [])) _ q next f in
+    let (u, g) = with-fields-back (firstCut s i (2 ∷ 2 ∷ [])) _ q next f in
     let room = fields-room s i (2 ∷ 2 ∷ []) b u in
     let same = entry-next g in
     (subst (λ (k : Question). T (question? k)) (entry-value g) (question-made _ v (twoAt-word s o i) (twoAt-word s o (i + 2))), omega arith, omega arith)
@@ -408,7 +408,7 @@ record-long r =
     let f = length-append (n ++ two (r .type) ++ two (r .class) ++ four (r .ttl) ++ two l) (r .rdata) in
     omega arith
 
--- where a valid record's form stands, that record is read
+-- where a valid record's form is, that record is read
 pub record-back : (s r : List ℕ) (at : ℕ) (q : Record) → T (record? q) → length (q .rdata) < 65536 → drop at s ≡ recordForm q ++ r
     → recordAt s at ≡ entry q (at + length (recordForm q))
 unfolding recordAt recordForm
@@ -453,40 +453,30 @@ record-back s r at q h small e =
     )
     (ap (entry q) place)
 
--- RDATA's answer within a record's
-abbrev pub filled : (List ℕ → Record) → ℕ → Laid → Entry Record
-filled f next (laid d) = entry (f d) next
-filled f next (misfit fault) = bad fault
-
 -- a record that was read has RDATA that was read
-filled-back : (f : List ℕ → Record) (next : ℕ) (w : Laid) (q : Record) (i : ℕ) → filled f next w ≡ entry q i → (d : List ℕ) × (w ≡ laid d) × (f d ≡ q) × (next ≡ i)
+pub filled-back : (f : List ℕ → Record) (next : ℕ) (w : Laid) (q : Record) (i : ℕ) → filled f next w ≡ entry q i → (d : List ℕ) × (w ≡ laid d) × (f d ≡ q) × (next ≡ i)
 filled-back f next (laid d) q i e = (d, refl, entry-value e, entry-next e)
 filled-back f next (misfit fault) q i e = absurd (bad≢entry e)
 
--- RDATA of a record that was read lies within the message
-room-back : (s : List ℕ) (next : ℕ) (fault : Fault) (w : Entry Record) (q : Record) (i : ℕ) → cond (ltb (length s) next) (bad fault) w ≡ entry q i → (next ≤ length s) × (w ≡ entry q i)
+-- RDATA of a record that was read is within the message
+pub room-back : (s : List ℕ) (next : ℕ) (fault : Fault) (w : Entry Record) (q : Record) (i : ℕ) → cond (ltb (length s) next) (bad fault) w ≡ entry q i → (next ≤ length s) × (w ≡ entry q i)
 room-back s next fault w q i = go (ltb (length s) next) refl
   where
     go : (b : Bool) → ltb (length s) next ≡ b → cond b (bad fault) w ≡ entry q i → (next ≤ length s) × (w ≡ entry q i)
     go true p e = absurd (bad≢entry e)
     go false p e = (ltb-false (length s) next p, e)
 
--- the same answer as `recordAt` writes it
-pub elim-filled : (f : List ℕ → Record) (next : ℕ) (w : Laid) → (elim w as (λ x. Entry Record) [ laid d ↦ entry (f d) next | misfit fault ↦ bad fault ]) ≡ filled f next w
-elim-filled f next (laid d) = refl
-elim-filled f next (misfit fault) = refl
-
--- a record that is read is valid, and ends behind its start and within the message
+-- a record that is read is valid, and ends after its start and within the message
 pub record-read : (s : List ℕ) (at : ℕ) (q : Record) (next : ℕ) → Octets s → recordAt s at ≡ entry q next → T (record? q) × (at < next) × (next ≤ length s)
 unfolding recordAt
 record-read s at q next o e =
     let (n, i, p, f) = with-name-back (nameAt s message at) _ q next e in
     let (v, a, b) = read-valid s message at at n i o (omega arith) p in
-    let (u, g) = with-fields-back (unfit s i (2 ∷ 2 ∷ 4 ∷ 2 ∷ [])) _ q next f in
+    let (u, g) = with-fields-back (firstCut s i (2 ∷ 2 ∷ 4 ∷ 2 ∷ [])) _ q next f in
     let size = twoAt s (i + 8) in
     let made : List ℕ → Record = λ d. record { name = n; type = twoAt s i; class = twoAt s (i + 2); ttl = fourAt s (i + 4); rdata = d } in
     let (room, k) = room-back s (i + 10 + size) _ _ q next g in
     let w = rdataAt true s (twoAt s i) (i + 10) size in
-    let (d, l, same, place) = filled-back made (i + 10 + size) w q next (sym (elim-filled made (i + 10 + size) w) ∙ k) in
+    let (d, l, same, place) = filled-back made (i + 10 + size) w q next k in
     let (z, c) = rdata-fits true s (twoAt s i) (i + 10) size d o room l in
     (subst (λ (r : Record). T (record? r)) same (record-made (made d) v (twoAt-word s o i) (twoAt-word s o (i + 2)) (fourAt-long s o (i + 4)) c z), omega arith, omega arith)

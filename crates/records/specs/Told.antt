@@ -2,7 +2,7 @@
 use mathlib.Core.Path.{_≡_, refl, sym, ap, _∙_, subst}
 use mathlib.Core.Bool.{true}
 use mathlib.Core.List.{List}
-use Prim.Native.Nat.{ℕ, _+_, _-_, _≤_}
+use Prim.Native.Nat.{ℕ, _+_, _-_, _≤_, _<_}
 use native.Mathlib.Omega.{arith}
 use lib.ListN.{length, take, drop, replicate, length-append}
 use lib.Seq.{drop-drop, take-append-seam}
@@ -10,9 +10,11 @@ use Rattle.names.specs.Name.{Name, nameForm, Fault}
 use Rattle.names.specs.Answer.{faultOf}
 use Rattle.records.specs.Layout.{Piece, pieces}
 use Rattle.records.specs.Message.{Question}
-use Rattle.records.specs.Read.{Entry, entry, bad}
-use Rattle.records.specs.Parts.{HeadOf, StepOf, stepAt, follow, pieces-step, part-to, name-to, done, stops}
-use Rattle.records.specs.Answer.{padded, askedOf, questionRead, headRead, recordRead, plainly, stepRead}
+use Rattle.records.specs.Read.{Entry, entry, bad, questionAt}
+use Rattle.records.specs.Parts.{HeadOf, headAt, StepOf, stepAt, follow, pieces-step, part-to, name-to, done, stops}
+use Rattle.records.specs.Answer.{padded, askedOf, questionRead, Asks, headRead, recordRead, Heads, plainly, stepRead}
+use Rattle.records.specs.declared.Asked.{Asked}
+use Rattle.records.specs.declared.Head.{Head}
 use Rattle.records.specs.declared.Question.{Question as QuestionAnswer}
 use Rattle.records.specs.declared.Question.the-variants as question
 use Rattle.records.specs.declared.QuestionRead.{QuestionRead}
@@ -78,10 +80,30 @@ tells x {r} {y} e q = subst (λ (z : Step). Tells z (r .octets) x) q (subst (λ 
 pub name-room : (x : StepOf) {r : Stepped} {size n : ℕ} → r ≡ stepRead x → r .step ≡ step.Name size n → size ≤ length (r .octets)
 name-room x {r} {size} e q = let (m, u, y, z) = tells x e q in form-room (nameForm m) (r .octets) size y z
 
--- the i-th piece of a layout, then those behind it
+-- the i-th piece of a layout, then those after it
 pub pieces-next : (s : List ℕ) (l : List Piece) (start end at i : ℕ) {x : StepOf} → stepAt (drop i l) s start end at ≡ x
     → pieces true (drop i l) s start end at ≡ follow s at (λ (n : ℕ). pieces true (drop (i + 1) l) s start end n) x
 pieces-next s l start end at i q =
     pieces-step (drop i l) s start end at
     ∙ ap (λ (m : List Piece). follow s at (pieces true m s start end) (stepAt (drop i l) s start end at)) (drop-drop 1 i l)
     ∙ ap (follow s at (λ (n : ℕ). pieces true (drop (i + 1) l) s start end n)) q
+
+-- ---- the bounds of answers
+pub asks-within : (x : QuestionAnswer) (at : ℕ) {end : ℕ} {a : Asked} → Asks x at end → x ≡ question.Read a
+    → (a .size ≤ 255) × (a .kind < 65536) × (a .class < 65536) × (at + 5 ≤ a .next) × (a .next ≤ end)
+asks-within x at {end} h e = subst (λ (y : QuestionAnswer). Asks y at end) e h
+
+pub heads-within : (x : RecordAnswer) (at : ℕ) {end : ℕ} {a : Head} → Heads x at end → x ≡ record′.Read a
+    → (a .size ≤ 255) × (a .kind < 65536) × (a .class < 65536) × (at + 11 ≤ a .rdata) × (a .rdata + a .rdlength ≤ end) × (a .rdlength < 65536)
+heads-within x at {end} h e = subst (λ (y : RecordAnswer). Heads y at end) e h
+
+-- the arrays have room for the names
+pub question-room : (s : List ℕ) (at : ℕ) {r : QuestionRead} {a : Asked} → r ≡ questionRead (questionAt s at) → r .answer ≡ question.Read a → a .size ≤ length (r .name)
+question-room s at {r} {a} e p =
+    let (q, next, u, v, l) = asked (questionAt s at) e p in
+    form-room (nameForm (q .name)) (r .name) (a .size) (ap (λ (c : Asked). c .size) v) l
+
+pub record-room : (s : List ℕ) (at : ℕ) {r : RecordRead} {a : Head} → r ≡ recordRead (headAt s at) → r .answer ≡ record′.Read a → a .size ≤ length (r .name)
+record-room s at {r} {a} e p =
+    let (k, next, u, v, l) = headed (headAt s at) e p in
+    form-room (nameForm (k .name)) (r .name) (a .size) (ap (λ (c : Head). c .size) v) l

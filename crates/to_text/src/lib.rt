@@ -6,7 +6,7 @@ ghost use Rattle.json.specs.Converted.{toText, Converts};
 ghost use Rattle.print_message.specs.Whole.{textOf, Accepted};
 use octets::Outcome;
 use print_message::put_text;
-use records::uncompress;
+use forms::uncompress;
 
 // Writes the text of an accepted message, if it fits; a first run over no octets measures it.
 fn deliver_measured(s: &[u8], lone: bool, text: &mut [u8]) -> Outcome

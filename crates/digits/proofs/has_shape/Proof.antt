@@ -56,9 +56,8 @@ returns-10 : tie.Need-returns-10
 returns-10 c = error-shaped (paired (c .before .before .before .before .args .hex .now)) (c .before .match .keys10) (c .is-error .ensures)
 
 returns-11 : tie.Need-returns-11
-returns-11 c =
-    let h = c .match .rest in
-    none-shaped (paired (c .before .before .before .args .hex .now)) (h .0 .0 .0 .0 .0 .0 .0 .0 .0 .1) (h .0 .0 .0 .0 .0 .0 .0 .0 .1) (h .0 .0 .0 .0 .0 .0 .0 .1) (h .0 .0 .0 .0 .0 .0 .1) (h .0 .0 .0 .0 .0 .1) (h .0 .0 .0 .0 .1) (h .0 .0 .0 .1) (h .0 .0 .1) (h .0 .1) (h .1)
+unfolding rows
+returns-11 c = let args = c .before .before .before .args in none-shaped _ (args .code) (paired (args .hex .now)) (c .match .rest)
 
 pub has-shape-spec : {M : Type 1} → statement M
 has-shape-spec =

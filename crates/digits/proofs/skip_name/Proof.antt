@@ -2,7 +2,7 @@
 -- Assumes nothing.
 use Prim.Native.Nat.{_≤_, _-_}
 use Rattle.octets.specs.Lists.{paired}
-use Rattle.digits.specs.Skipping.{nameEnd, From, from-start, skip-behind, skip-root, skip-bits, skip-cut, skip-long, skip-label}
+use Rattle.digits.specs.Skipping.{nameEnd, From, from-start, skip-past, skip-root, skip-bits, skip-cut, skip-long, skip-label}
 use borrow.Author.Needs.{needs}
 use Rattle.digits.proofs.skip_name.Statement.{statement}
 use Rattle.digits.proofs.skip_name.Tie as tie
@@ -20,7 +20,7 @@ loop-holds : tie.Need-loop-holds Inv-loop μ-loop
 loop-holds c = (search needs, from-start _ _)
 
 returns : tie.Need-returns Inv-loop μ-loop
-returns c = search (skip-behind, needs)
+returns c = search (skip-past, needs)
 
 octet-at-requires : tie.Need-octet-at-requires Inv-loop μ-loop
 octet-at-requires c κs = search needs

@@ -16,10 +16,10 @@ same-length c = search needs
 
 returns : tie.Need-returns
 unfolding overlay
-returns c = (search needs, λ h. search needs)
+returns c = (search needs, record { wrote = λ h. search needs })
 
 returns-2 : tie.Need-returns-2
-returns-2 c = (search needs, λ h. absurd (omega (arith, h, c .if1 .left)))
+returns-2 c = (search needs, record { wrote = λ h. absurd (omega (arith, h, c .if1 .left)) })
 
 pub keep-spec : {M : Type 1} → statement M
 keep-spec = tie.close (tie.spec add-next slice-write-form same-length returns returns-2)

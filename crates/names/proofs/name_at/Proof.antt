@@ -1,34 +1,35 @@
--- `names::name_at` meets its contract. The outer loop's invariant: the walk from `place` on gives the whole answer, from what is written in `form`
--- so far. The inner loop's: k octets of the label are copied, unless the name is too long, and the end is not before them. The measure of the outer loop is the bound on the
--- definition's steps: a label adds to `total`, a pointer lowers `low`. Assumes nothing.
+-- `names::name_at` meets its contract. The outer loop's invariant: the walk from `place` on gives the whole answer, from what
+-- is written in `form` so far. The inner loop's: k octets of the label are copied, unless the name is too long, and the end is
+-- not before them. The measure of the outer loop is the bound on the definition's steps: a label adds to `total`, a pointer
+-- lowers `low`. Assumes nothing.
 use Prim.Native.Nat.{_≤_, _+_, _-_}
 use mathlib.Core.Path.{_≡_}
 use borrow.Author.Needs.{needs}
 use lib.ListN.{length}
-use Rattle.octets.specs.Overlay.{Wrote, nothing}
-use Rattle.names.specs.Walk.{part, endOf, nameFrom}
+use Rattle.names.specs.Walk.{part, endOf, nameAt}
 use Rattle.names.specs.Answer.{limitOf, nameRead}
-use Rattle.names.specs.Ways.{From, from-start, label-more, behind, root-first, root-later, label-cut, label-long, label-read, bits-reserved, pointer-cut, target-low, target-far, jump-first, jump-later}
+use Rattle.names.specs.Ways.{From, from-start, Kept, Label, keep-none, keep-more, name-past, root-read, label-cut, label-long, label-read, bits-reserved, pointer-cut, target-low, target-far, jump-read}
 use Rattle.names.proofs.name_at.Statement.{statement}
 use Rattle.names.proofs.name_at.Tie as tie
 
 abbrev Inv-loop : tie.InvT-loop
-Inv-loop s run at bound low place total next form₀ end x more to₀ k₀ form to k =
-    (k ≤ x) × (place + 1 + k ≤ end) × (to ≡ total + 1 + k) × (length form ≡ 255) × (more ≤ 254 → Wrote form₀ to₀ (part s (place + 1) k) form to)
+Inv-loop s at bound low place total next form₀ end x more to₀ k₀ form to k =
+    (k ≤ x) × (place + 1 + k ≤ end) × (to ≡ total + 1 + k) × (length form ≡ 255)
+    × Kept more form₀ to₀ (part s (place + 1) k) form to × Label s bound place end x
 
 abbrev μ-loop : tie.MeasureT-loop
-μ-loop s run at bound low place total next form₀ end x more to₀ k₀ form to k = x - k
+μ-loop s at bound low place total next form₀ end x more to₀ k₀ form to k = x - k
 
 abbrev Inv-walk : tie.InvT-walk
-Inv-walk s run at bound₀ low₀ place₀ total₀ next₀ form₀ bound low place total next form =
+Inv-walk s at bound₀ low₀ place₀ total₀ next₀ form₀ bound low place total next form =
     (total ≤ 254) × (endOf s (limitOf bound) ≤ length s) × (length form ≡ 255)
-    × From s (nameRead (nameFrom s (limitOf bound₀) run at)) form bound low next total place
+    × From s (nameRead (nameAt s (limitOf bound₀) at)) form bound low next total place
 
 abbrev μ-walk : tie.MeasureT-walk
-μ-walk s run at bound₀ low₀ place₀ total₀ next₀ form₀ bound low place total next form = low + (255 - total)
+μ-walk s at bound₀ low₀ place₀ total₀ next₀ form₀ bound low place total next form = low + (255 - total)
 
 walk-holds : tie.Need-walk-holds Inv-loop μ-loop Inv-walk μ-walk
-walk-holds c = (search needs, search needs, search needs, from-start _ _ _ _ (search needs))
+walk-holds c = (search needs, search needs, search needs, from-start _ _ _ (search needs))
 
 end-of-requires : tie.Need-end-of-requires Inv-loop μ-loop Inv-walk μ-walk
 end-of-requires c κs = search needs
@@ -45,17 +46,17 @@ shared-slice-read-wide c = search needs
 wide-requires : tie.Need-wide-requires Inv-loop μ-loop Inv-walk μ-walk
 wide-requires c κs = search needs
 
-add-size : tie.Need-add-size Inv-loop μ-loop Inv-walk μ-walk
-add-size c = search needs
+add-own-end : tie.Need-add-own-end Inv-loop μ-loop Inv-walk μ-walk
+add-own-end c = search needs
 
-add-after : tie.Need-add-after Inv-loop μ-loop Inv-walk μ-walk
-add-after c = search needs
+own-end-requires : tie.Need-own-end-requires Inv-loop μ-loop Inv-walk μ-walk
+own-end-requires c κs = search needs
+
+add-t24 : tie.Need-add-t24 Inv-loop μ-loop Inv-walk μ-walk
+add-t24 c = search needs
 
 returns : tie.Need-returns Inv-loop μ-loop Inv-walk μ-walk
-returns c = search (root-first, needs)
-
-returns-2 : tie.Need-returns-2 Inv-loop μ-loop Inv-walk μ-walk
-returns-2 c = search (root-later, needs)
+returns c = search (root-read, needs)
 
 add-more : tie.Need-add-more Inv-loop μ-loop Inv-walk μ-walk
 add-more c = search needs
@@ -73,7 +74,7 @@ keep-requires : tie.Need-keep-requires Inv-loop μ-loop Inv-walk μ-walk
 keep-requires c κs = (search needs, λ h. search needs)
 
 loop-holds : tie.Need-loop-holds Inv-loop μ-loop Inv-walk μ-walk
-loop-holds c = (search needs, search needs, search needs, search needs, λ h. nothing _ _)
+loop-holds c = (search needs, search needs, search needs, search needs, keep-none _ _ _, search needs)
 
 add-from : tie.Need-add-from Inv-loop μ-loop Inv-walk μ-walk
 add-from c = search needs
@@ -103,13 +104,7 @@ loop-less : tie.Need-loop-less Inv-loop μ-loop Inv-walk μ-walk
 loop-less c = search needs
 
 loop-again : tie.Need-loop-again Inv-loop μ-loop Inv-walk μ-walk
-loop-again c = (
-  search needs,
-  search needs,
-  search needs,
-  search needs,
-  λ h. label-more _ _ _ (c .before .before .before .before .if5 .left) (search needs) (c .before .before .before .before .before .before .loop .inv .4 h) (c .before .keep2 .ensures .1 h),
-)
+loop-again c = (search needs, search needs, search needs, search needs, search (keep-more, needs), search needs)
 
 fail-requires-3 : tie.Need-fail-requires-3 Inv-loop μ-loop Inv-walk μ-walk
 fail-requires-3 c κs = search needs
@@ -124,25 +119,16 @@ walk-less : tie.Need-walk-less Inv-loop μ-loop Inv-walk μ-walk
 walk-less c = search needs
 
 walk-again : tie.Need-walk-again Inv-loop μ-loop Inv-walk μ-walk
-walk-again c = (
-  search needs,
-  search needs,
-  search needs,
-  label-read
-      (c .before .before .before .before .before .before .before .before .before .before .before .before .before .walk .inv .3)
-      (c .before .before .before .before .before .before .before .before .before .before .before .before .end-of .ensures)
-      (c .before .before .before .before .before .before .before .before .before .before .before .if1 .left)
-      (c .before .before .before .before .before .before .before .before .before .wide .ensures .0)
-      (c .before .before .before .before .before .before .before .before .if2 .left)
-      (c .before .before .before .before .before .before .before .if4 .taken)
-      (c .before .loop-test .left)
-      (c .before .before .loop .inv .1)
-      (c .before .before .loop .inv .0)
-      (c .if6 .left)
-      (c .before .before .before .before .before .before .before .before .before .before .before .before .before .walk .inv .1)
-      (c .before .before .before .before .keep .ensures .1 (c .if6 .left))
-      (c .before .before .loop .inv .4 (c .if6 .left)),
-)
+walk-again c =
+    let loop = c .before .before .loop .inv in
+    let kept = c .before .before .before .before in
+    let tested = kept .before .before .before .before in
+    let walk = tested .before .before .before .before .before .walk .inv in (
+      search needs,
+      search needs,
+      search needs,
+      label-read (walk .3) (loop .5) (c .before .loop-test .left) (loop .1) (loop .0) (c .if5 .left) (kept .keep .ensures .1) (loop .4),
+    )
 
 fail-requires-4 : tie.Need-fail-requires-4 Inv-loop μ-loop Inv-walk μ-walk
 fail-requires-4 c κs = search needs
@@ -174,41 +160,43 @@ fail-requires-6 c κs = search needs
 fail-requires-7 : tie.Need-fail-requires-7 Inv-loop μ-loop Inv-walk μ-walk
 fail-requires-7 c κs = search needs
 
-add-next : tie.Need-add-next Inv-loop μ-loop Inv-walk μ-walk
-add-next c = search needs
+add-own-end-2 : tie.Need-add-own-end-2 Inv-loop μ-loop Inv-walk μ-walk
+add-own-end-2 c = search needs
+
+own-end-requires-2 : tie.Need-own-end-requires-2 Inv-loop μ-loop Inv-walk μ-walk
+own-end-requires-2 c κs = search needs
 
 walk-less-2 : tie.Need-walk-less-2 Inv-loop μ-loop Inv-walk μ-walk
 walk-less-2 c = search needs
 
 walk-again-2 : tie.Need-walk-again-2 Inv-loop μ-loop Inv-walk μ-walk
-walk-again-2 c = (search needs, search needs, search needs, search (jump-first, needs))
+walk-again-2 c = (search needs, search needs, search needs, search (jump-read, needs))
 
-walk-less-3 : tie.Need-walk-less-3 Inv-loop μ-loop Inv-walk μ-walk
-walk-less-3 c = search needs
-
-walk-again-3 : tie.Need-walk-again-3 Inv-loop μ-loop Inv-walk μ-walk
-walk-again-3 c = (search needs, search needs, search needs, search (jump-later, needs))
+returns-2 : tie.Need-returns-2 Inv-loop μ-loop Inv-walk μ-walk
+returns-2 c = search (name-past, needs)
 
 returns-3 : tie.Need-returns-3 Inv-loop μ-loop Inv-walk μ-walk
-returns-3 c = search (behind, needs)
+returns-3 c = search (label-cut, needs)
 
 returns-4 : tie.Need-returns-4 Inv-loop μ-loop Inv-walk μ-walk
-returns-4 c = search (label-cut, needs)
+returns-4 c =
+    let inner = c .before .before .before in
+    let loop = inner .loop .inv in
+    let tested = inner .before .before .before .before .before .before in
+    let walk = tested .before .before .before .before .before .walk .inv in
+    label-long (walk .3) (loop .5) (c .before .before .loop-test .left) (loop .1) (c .before .if5 .taken) (c .fail3 .ensures)
 
 returns-5 : tie.Need-returns-5 Inv-loop μ-loop Inv-walk μ-walk
-returns-5 c = search (label-long, needs)
+returns-5 c = search (bits-reserved, needs)
 
 returns-6 : tie.Need-returns-6 Inv-loop μ-loop Inv-walk μ-walk
-returns-6 c = search (bits-reserved, needs)
+returns-6 c = search (pointer-cut, needs)
 
 returns-7 : tie.Need-returns-7 Inv-loop μ-loop Inv-walk μ-walk
-returns-7 c = search (pointer-cut, needs)
+returns-7 c = search (target-low, needs)
 
 returns-8 : tie.Need-returns-8 Inv-loop μ-loop Inv-walk μ-walk
-returns-8 c = search (target-low, needs)
-
-returns-9 : tie.Need-returns-9 Inv-loop μ-loop Inv-walk μ-walk
-returns-9 c = search (target-far, needs)
+returns-8 c = search (target-far, needs)
 
 pub name-at-spec : {M : Type 1} → statement M
 name-at-spec =
@@ -224,10 +212,10 @@ name-at-spec =
     fail-requires
     shared-slice-read-wide
     wide-requires
-    add-size
-    add-after
+    add-own-end
+    own-end-requires
+    add-t24
     returns
-    returns-2
     add-more
     add-more-2
     slice-aggregate-keep
@@ -259,15 +247,14 @@ name-at-spec =
     add-target
     fail-requires-6
     fail-requires-7
-    add-next
+    add-own-end-2
+    own-end-requires-2
     walk-less-2
     walk-again-2
-    walk-less-3
-    walk-again-3
+    returns-2
     returns-3
     returns-4
     returns-5
     returns-6
     returns-7
-    returns-8
-    returns-9)
+    returns-8)

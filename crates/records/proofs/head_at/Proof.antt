@@ -1,4 +1,4 @@
--- `records::head_at` meets its contract: the name's fault, RDATA past the message's end, or the fields behind the name. Assumes nothing.
+-- `records::head_at` meets its contract: the name's fault, RDATA past the message's end, or the fields after the name. Assumes nothing.
 use borrow.Author.Needs.{needs}
 use mathlib.Core.List.{[], _∷_}
 use native.Mathlib.Omega.{arith}
@@ -39,8 +39,8 @@ add-two-at-2 c = omega (arith, begins _ (2 ∷ 2 ∷ 4 ∷ 2 ∷ []) (c .before 
 two-at-requires-3 : tie.Need-two-at-requires-3
 two-at-requires-3 c κs = omega (arith, begins _ (2 ∷ 2 ∷ 4 ∷ 2 ∷ []) (c .before .before .before .before .before .before .before .begun-at .ensures .1) (c .before .before .before .before .answer2 .given .1))
 
-cast-length : tie.Need-cast-length
-cast-length c = search needs
+cast-rdlength : tie.Need-cast-rdlength
+cast-rdlength c = search needs
 
 add-rdata : tie.Need-add-rdata
 add-rdata c = omega (arith, begins _ (2 ∷ 2 ∷ 4 ∷ 2 ∷ []) (c .before .before .before .before .before .before .before .before .begun-at .ensures .1) (c .before .before .before .before .before .answer2 .given .1))
@@ -75,7 +75,7 @@ head-at-spec =
     four-at-requires
     add-two-at-2
     two-at-requires-3
-    cast-length
+    cast-rdlength
     add-rdata
     add-if1
     returns

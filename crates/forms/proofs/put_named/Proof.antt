@@ -1,0 +1,24 @@
+-- `forms::put_named` meets its contract: three texts, one after another. Assumes nothing.
+use borrow.Author.Needs.{needs}
+use Rattle.octets.specs.Overlay.{then}
+use Rattle.forms.proofs.put_named.Statement.{statement}
+use Rattle.forms.proofs.put_named.Tie as tie
+
+put-all-requires : tie.Need-put-all-requires
+put-all-requires c κs = search needs
+
+put-two-requires : tie.Need-put-two-requires
+put-two-requires c κs = search needs
+
+put-two-requires-2 : tie.Need-put-two-requires-2
+put-two-requires-2 c κs = search needs
+
+same-length : tie.Need-same-length
+same-length c = search needs
+
+returns : tie.Need-returns
+returns c = (search (then, needs), search needs)
+
+pub put-named-spec : {M : Type 1} → statement M
+put-named-spec =
+    tie.close (tie.spec put-all-requires put-two-requires put-two-requires-2 same-length returns)

@@ -1,0 +1,84 @@
+-- `forms::put_section` meets its contract: to write the entries that are left is to write the whole section. Assumes nothing.
+use borrow.Author.Needs.{needs}
+use Prim.Native.Nat.{_+_, _*_, _≤_}
+use mathlib.Core.Path.{_≡_, _∙_}
+use native.Mathlib.Omega.{arith}
+use lib.ListN.{length}
+use Rattle.forms.specs.Putting.{sectionRun, goes-within, Onward, onward-start, onward-end, onward-more, onward-stop}
+use Rattle.forms.proofs.put_section.Statement.{statement}
+use Rattle.forms.proofs.put_section.Tie as tie
+
+abbrev Inv-loop : tie.InvT-loop
+Inv-loop s records count at out₀ to left₀ place₀ next₀ opts₀ out left place next opts =
+    (place ≤ length s) × (next ≤ 255 * place) × (opts + left ≤ 4294967295) × (length out ≡ length out₀)
+    × Onward opts (sectionRun records s left place) (sectionRun records s count at) out₀ to out next
+
+abbrev μ-loop : tie.MeasureT-loop
+μ-loop s records count at out₀ to left₀ place₀ next₀ opts₀ out left place next opts = left
+
+loop-holds : tie.Need-loop-holds Inv-loop μ-loop
+loop-holds c = (search needs, search needs, search needs, search needs, onward-start _ _ _)
+
+put-entry-requires : tie.Need-put-entry-requires Inv-loop μ-loop
+put-entry-requires c κs = omega (arith, c .before .before .loop .inv)
+
+enum-known-fault : tie.Need-enum-known-fault Inv-loop μ-loop
+enum-known-fault c = search needs
+
+same-length : tie.Need-same-length Inv-loop μ-loop
+same-length c = search needs
+
+returns : tie.Need-returns Inv-loop μ-loop
+returns c =
+    let m = c .before .before .before .before .before in
+    (onward-stop _ _ _ _ (m .before .before .before .loop .inv .4) (m .before .before .loop-test .taken) (m .put-entry .ensures .0) (c .before .fault .given .1), tt)
+
+enum-known-behind : tie.Need-enum-known-behind Inv-loop μ-loop
+enum-known-behind c = search needs
+
+opt-of-requires : tie.Need-opt-of-requires Inv-loop μ-loop
+opt-of-requires c κs = search needs
+
+add-opts : tie.Need-add-opts Inv-loop μ-loop
+add-opts c = search needs
+
+sub-left : tie.Need-sub-left Inv-loop μ-loop
+sub-left c = search needs
+
+loop-less : tie.Need-loop-less Inv-loop μ-loop
+loop-less c = search needs
+
+loop-again : tie.Need-loop-again Inv-loop μ-loop
+loop-again c = let k = goes-within _ (c .before .before .before .before .before .before .put-entry .ensures .1) (c .before .before .behind .given .1) in (
+  k .0,
+  k .1,
+  omega (arith, c .before .before .before .before .before .before .before .before .before .loop .inv, c .opt-of .ensures .1),
+  c .before .before .before .before .before .before .put-entry .kept .1 .1 .1 .0 ∙ c .before .before .before .before .before .before .before .before .before .loop .inv .3,
+  onward-more _ _ _ _ (c .before .before .before .before .before .before .before .before .before .loop .inv .4) (c .before .before .before .before .before .before .before .before .loop-test .taken) (c .before .before .before .before .before .before .put-entry .ensures .0) (c .before .before .behind .given .1) (search needs),
+)
+
+same-length-2 : tie.Need-same-length-2 Inv-loop μ-loop
+same-length-2 c = search needs
+
+returns-2 : tie.Need-returns-2 Inv-loop μ-loop
+returns-2 c = let i = c .before .loop .inv in (onward-end _ _ _ _ (i .4) (c .loop-test .left), (i .0, i .1))
+
+pub put-section-spec : {M : Type 1} → statement M
+put-section-spec =
+    tie.close
+    (tie.spec
+    Inv-loop
+    μ-loop
+    loop-holds
+    put-entry-requires
+    enum-known-fault
+    same-length
+    returns
+    enum-known-behind
+    opt-of-requires
+    add-opts
+    sub-left
+    loop-less
+    loop-again
+    same-length-2
+    returns-2)

@@ -1,0 +1,129 @@
+-- `forms::uncompress` meets its contract: the first run finds the refusals, the second one writes. Assumes nothing.
+use borrow.Author.Needs.{needs}
+use Rattle.forms.specs.Uncompressed.{too-long, too-short, z-set, at-fault, left-over, form-long, no-room, with-room}
+use Rattle.forms.proofs.uncompress.Statement.{statement}
+use Rattle.forms.proofs.uncompress.Tie as tie
+
+refuse-requires : tie.Need-refuse-requires
+refuse-requires c κs = search needs
+
+returns : tie.Need-returns
+returns c = search (too-long, needs)
+
+refuse-requires-2 : tie.Need-refuse-requires-2
+refuse-requires-2 c κs = search needs
+
+returns-2 : tie.Need-returns-2
+returns-2 c = search (too-short, needs)
+
+shared-slice-read-if3 : tie.Need-shared-slice-read-if3
+shared-slice-read-if3 c = search needs
+
+refuse-requires-3 : tie.Need-refuse-requires-3
+refuse-requires-3 c κs = search needs
+
+returns-3 : tie.Need-returns-3
+returns-3 c = search (z-set, needs)
+
+slice-relend-prefix-put-message : tie.Need-slice-relend-prefix-put-message
+slice-relend-prefix-put-message c = search needs
+
+slice-aggregate-put-message : tie.Need-slice-aggregate-put-message
+slice-aggregate-put-message c = search needs
+
+put-message-requires : tie.Need-put-message-requires
+put-message-requires c κs = search needs
+
+enum-known-at : tie.Need-enum-known-at
+enum-known-at c = search needs
+
+number-of-requires : tie.Need-number-of-requires
+number-of-requires c κs = search needs
+
+refuse-requires-4 : tie.Need-refuse-requires-4
+refuse-requires-4 c κs = search needs
+
+enum-known-at-2 : tie.Need-enum-known-at-2
+enum-known-at-2 c = search needs
+
+refuse-requires-5 : tie.Need-refuse-requires-5
+refuse-requires-5 c κs = search needs
+
+same-length : tie.Need-same-length
+same-length c = search needs
+
+returns-4 : tie.Need-returns-4
+returns-4 c =
+    let m = c .before .before .before .before .before .before .before in
+    left-over _ _ _ (λ i. m .before .before .before .before .before .before .before .shared-slice-known .given i .fits) (m .before .before .before .before .before .if1 .left) (m .before .before .before .before .if2 .left) (m .before .before .if3 .left) (m .put-message .kept .1 .0) (m .put-message .ensures) (c .before .before .before .at2 .given .1) (c .before .if4 .taken) (c .refuse5 .ensures)
+
+refuse-requires-6 : tie.Need-refuse-requires-6
+refuse-requires-6 c κs = search needs
+
+same-length-2 : tie.Need-same-length-2
+same-length-2 c = search needs
+
+returns-5 : tie.Need-returns-5
+returns-5 c =
+    let m = c .before .before .before .before .before .before .before .before in
+    form-long _ _ _ (λ i. m .before .before .before .before .before .before .before .shared-slice-known .given i .fits) (m .before .before .before .before .before .if1 .left) (m .before .before .before .before .if2 .left) (m .before .before .if3 .left) (m .put-message .kept .1 .0) (m .put-message .ensures) (c .before .before .before .before .at2 .given .1) (c .before .before .if4 .left) (c .before .if5 .taken) (c .refuse6 .ensures)
+
+put-message-requires-2 : tie.Need-put-message-requires-2
+put-message-requires-2 c κs = search needs
+
+same-length-3 : tie.Need-same-length-3
+same-length-3 c = search needs
+
+returns-6 : tie.Need-returns-6
+returns-6 c =
+    let m = c .before .before .before .before .before .before .before in
+    at-fault _ _ _ (λ i. m .before .before .before .before .before .before .before .shared-slice-known .given i .fits) (m .before .before .before .before .before .if1 .left) (m .before .before .before .before .if2 .left) (m .before .before .if3 .left) (m .put-message .kept .1 .0) (m .put-message .ensures) (c .before .before .before .at .given .1) (c .before .number-of .ensures) (c .refuse4 .ensures)
+
+same-length-4 : tie.Need-same-length-4
+same-length-4 c = search needs
+
+returns-7 : tie.Need-returns-7
+returns-7 c =
+    let k = c .before .before .before .before in
+    let m = k .before .before .before .before .before .before .before .before in
+    with-room _ _ _ (λ i. m .before .before .before .before .before .before .before .shared-slice-known .given i .fits) (m .before .before .before .before .before .if1 .left) (m .before .before .before .before .if2 .left) (m .before .before .if3 .left) (m .put-message .kept .1 .0) (m .put-message .ensures) (k .before .before .before .before .at2 .given .1) (k .before .before .if4 .left) (k .before .if5 .left) (k .if6 .taken) (c .before .before .put-message2 .ensures)
+
+same-length-5 : tie.Need-same-length-5
+same-length-5 c = search needs
+
+returns-8 : tie.Need-returns-8
+returns-8 c =
+    let m = c .before .before .before .before .before .before .before .before in
+    no-room _ _ _ (λ i. m .before .before .before .before .before .before .before .shared-slice-known .given i .fits) (m .before .before .before .before .before .if1 .left) (m .before .before .before .before .if2 .left) (m .before .before .if3 .left) (m .put-message .kept .1 .0) (m .put-message .ensures) (c .before .before .before .before .at2 .given .1) (c .before .before .if4 .left) (c .before .if5 .left) (c .if6 .left)
+
+pub uncompress-spec : {M : Type 1} → statement M
+uncompress-spec =
+    tie.close
+    (tie.spec
+    refuse-requires
+    returns
+    refuse-requires-2
+    returns-2
+    shared-slice-read-if3
+    refuse-requires-3
+    returns-3
+    slice-relend-prefix-put-message
+    slice-aggregate-put-message
+    put-message-requires
+    enum-known-at
+    number-of-requires
+    refuse-requires-4
+    enum-known-at-2
+    refuse-requires-5
+    same-length
+    returns-4
+    refuse-requires-6
+    same-length-2
+    returns-5
+    put-message-requires-2
+    same-length-3
+    returns-6
+    same-length-4
+    returns-7
+    same-length-5
+    returns-8)

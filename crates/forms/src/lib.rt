@@ -1,0 +1,271 @@
+// The uncompressed form of a message: each name is written without pointers, and RDLENGTH is adjusted. It is defined in the
+// specs/ of `records`; what its writers do is defined here.
+use names::Fault;
+use octets::Outcome;
+use octets::put_all;
+use octets::put_four;
+use octets::put_two;
+use octets::two_at;
+use records::Question;
+use records::Record;
+use records::Step;
+use records::head_at;
+use records::question_at;
+use records::rdata_step;
+ghost use mathlib.Core.Path.{_≡_};
+ghost use Prim.Native.Nat.{_+_, _*_, _^_, _≤_, _<_};
+ghost use mathlib.Core.Bool.{true, false};
+ghost use mathlib.Core.List.{_++_};
+ghost use lib.ListN.{length};
+ghost use Rattle.octets.specs.Fields.{two};
+ghost use Rattle.octets.specs.Overlay.{Wrote};
+ghost use Rattle.names.specs.Answer.{numberOf};
+ghost use Rattle.records.specs.Layout.{rdataAt};
+ghost use Rattle.records.specs.Decode.{refused};
+ghost use Rattle.forms.specs.Putting.{Lays, Laying, partAt, Puts, Goes, optOf, sectionRun, Runs, Comes, messageRun};
+ghost use Rattle.forms.specs.Uncompressed.{scanOf, Uncompressed};
+
+// The next place of the form, or RDATA's fault.
+enum Laid {
+    To(usize),
+    Misfit(Fault),
+}
+
+// The offset after an entry, the next place of the form and the entry's TYPE, or the entry's fault.
+enum Gone {
+    To(usize, usize, u32),
+    Faulty(Fault),
+}
+
+// The offset after a section, the next place of the form and the number of entries of TYPE 41, or the faulty entry's offset
+// with its fault.
+enum Came {
+    To(usize, usize, usize),
+    Stopped(usize, Fault),
+}
+
+// Writes RDATA without pointers.
+fn put_rdata(s: &[u8], kind: u32, start: usize, size: usize, out: &mut [u8], to: usize) -> Laid
+    requires { ⌜ (length (now s) ≤ 65535) × (start + size ≤ length (now s)) × (to ≤ 255 * start) ⌝ }
+    ensures { λ r. ⌜ Lays (rdataAt true (now (s .entry)) kind start size) (now (out .entry)) to (now (out .exit)) r ⌝ }
+    ensures { λ r. ⌜ Laying r to (255 * (start + size)) ⌝ }
+{
+    let mut i = 0;
+    let mut at = start;
+    let mut next = to;
+    loop {
+        let stepped = rdata_step(s, kind, start, size, i, at);
+        let step = stepped.step;
+        let octets = stepped.octets;
+        match step {
+            Step::Part(end) => {
+                next = put_all(out, next, &s[at..end]);
+                at = end;
+                i += 1;
+            }
+            Step::Name(length, end) => {
+                next = put_all(out, next, &octets[0..length]);
+                at = end;
+                i += 1;
+            }
+            Step::Done => {
+                return Laid::To(next);
+            }
+            Step::Misfit(fault) => {
+                return Laid::Misfit(fault);
+            }
+        }
+    }
+}
+
+// Writes a name, TYPE and CLASS.
+fn put_named(out: &mut [u8], to: usize, name: &[u8], kind: u32, class: u32) -> usize
+    requires { ⌜ (to < 2 ^ 30) × (length (now name) ≤ 255) × (kind < 65536) × (class < 65536) ⌝ }
+    ensures { λ r. ⌜ Wrote (now (out .entry)) to (now (name .entry) ++ two kind ++ two class) (now (out .exit)) r ⌝ }
+    ensures { λ r. ⌜ r ≡ to + length (now (name .entry)) + 4 ⌝ }
+{
+    let typed = put_all(out, to, name);
+    let classed = put_two(out, typed, kind);
+    put_two(out, classed, class)
+}
+
+// Writes the question at an offset.
+fn put_question(s: &[u8], at: usize, out: &mut [u8], to: usize) -> Gone
+    requires { ⌜ (length (now s) ≤ 65535) × (at ≤ length (now s)) × (to ≤ 255 * at) ⌝ }
+    ensures { λ r. ⌜ Puts (partAt false (now (s .entry)) at) (now (out .entry)) to (now (out .exit)) r ⌝ }
+    ensures { λ r. ⌜ Goes r (length (now (s .entry))) ⌝ }
+{
+    let read = question_at(s, at);
+    let answer = read.answer;
+    let name = read.name;
+    match answer {
+        Question::Faulty(fault) => Gone::Faulty(fault),
+        Question::Read(asked) => {
+            let size = asked.size;
+            let end = put_named(out, to, &name[0..size], asked.kind, asked.class);
+            Gone::To(asked.next, end, asked.kind)
+        }
+    }
+}
+
+// Writes the record at an offset: RDATA two octets further on, and then its length in front of it.
+fn put_record(s: &[u8], at: usize, out: &mut [u8], to: usize) -> Gone
+    requires { ⌜ (length (now s) ≤ 65535) × (at ≤ length (now s)) × (to ≤ 255 * at) ⌝ }
+    ensures { λ r. ⌜ Puts (partAt true (now (s .entry)) at) (now (out .entry)) to (now (out .exit)) r ⌝ }
+    ensures { λ r. ⌜ Goes r (length (now (s .entry))) ⌝ }
+{
+    let read = head_at(s, at);
+    let answer = read.answer;
+    let name = read.name;
+    match answer {
+        Record::Faulty(fault) => Gone::Faulty(fault),
+        Record::Read(head) => {
+            let size = head.size;
+            let classed = put_named(out, to, &name[0..size], head.kind, head.class);
+            let place = put_four(out, classed, head.ttl);
+            let inside = place + 2;
+            match put_rdata(s, head.kind, head.rdata, head.rdlength, out, inside) {
+                Laid::Misfit(fault) => Gone::Faulty(fault),
+                Laid::To(end) => {
+                    let _length = put_two(out, place, (end - inside) as u32);
+                    Gone::To(head.rdata + head.rdlength, end, head.kind)
+                }
+            }
+        }
+    }
+}
+
+// Writes the record at an offset, or the question.
+fn put_entry(s: &[u8], records: bool, at: usize, out: &mut [u8], to: usize) -> Gone
+    requires { ⌜ (length (now s) ≤ 65535) × (at ≤ length (now s)) × (to ≤ 255 * at) ⌝ }
+    ensures { λ r. ⌜ Puts (partAt records (now (s .entry)) at) (now (out .entry)) to (now (out .exit)) r ⌝ }
+    ensures { λ r. ⌜ Goes r (length (now (s .entry))) ⌝ }
+{
+    if records {
+        return put_record(s, at, out, to);
+    }
+    put_question(s, at, out, to)
+}
+
+// 1 for TYPE 41, else 0.
+fn opt_of(kind: u32) -> usize
+    ensures { λ r. ⌜ r ≡ optOf kind ⌝ }
+    ensures { λ r. ⌜ r ≤ 1 ⌝ }
+{
+    if kind == 41 {
+        return 1;
+    }
+    0
+}
+
+// Writes `count` records from an offset on, or questions.
+fn put_section(s: &[u8], records: bool, count: u32, at: usize, out: &mut [u8], to: usize) -> Came
+    requires { ⌜ (length (now s) ≤ 65535) × (at ≤ length (now s)) × (to ≤ 255 * at) ⌝ }
+    ensures { λ r. ⌜ Runs 0 (sectionRun records (now (s .entry)) count at) (now (out .entry)) to (now (out .exit)) r ⌝ }
+    ensures { λ r. ⌜ Comes r (length (now (s .entry))) ⌝ }
+{
+    let mut left = count as usize;
+    let mut place = at;
+    let mut next = to;
+    let mut opts = 0;
+    while left > 0 {
+        match put_entry(s, records, place, out, next) {
+            Gone::Faulty(fault) => {
+                return Came::Stopped(place, fault);
+            }
+            Gone::To(behind, end, kind) => {
+                opts += opt_of(kind);
+                place = behind;
+                next = end;
+                left -= 1;
+            }
+        }
+    }
+    Came::To(place, next, opts)
+}
+
+// Writes the header's octets and the sections by the header's counts.
+fn put_message(s: &[u8], out: &mut [u8]) -> Came
+    requires { ⌜ (length (now s) ≤ 65535) × (12 ≤ length (now s)) ⌝ }
+    ensures { λ r. ⌜ Runs 0 (messageRun (now (s .entry))) (now (out .entry)) 0 (now (out .exit)) r ⌝ }
+{
+    let first = put_all(out, 0, &s[0..12]);
+    let questions = put_section(s, false, two_at(s, 4), 12, out, first);
+    let Came::To(answers_at, second, _) = questions else {
+        return questions;
+    };
+    let answers = put_section(s, true, two_at(s, 6), answers_at, out, second);
+    let Came::To(authority_at, third, _) = answers else {
+        return answers;
+    };
+    let authority = put_section(s, true, two_at(s, 8), authority_at, out, third);
+    let Came::To(additional_at, fourth, _) = authority else {
+        return authority;
+    };
+    put_section(s, true, two_at(s, 10), additional_at, out, fourth)
+}
+
+// The length of the form or the refusal, and the number of TYPE 41 records of the additional section.
+pub struct Scan {
+    pub outcome: Outcome,
+    pub opts: usize,
+}
+
+// The refusal of a number at a place.
+fn refuse(number: u32, place: usize) -> Scan
+    ensures { λ r. ⌜ r ≡ scanOf (refused number place) ⌝ }
+{
+    Scan {
+        outcome: Outcome::Refused(number, place),
+        opts: 0,
+    }
+}
+
+// Document 01's number of a fault.
+fn number_of(fault: Fault) -> u32
+    ensures { λ r. ⌜ r ≡ numberOf fault ⌝ }
+{
+    match fault {
+        Fault::Cut(_) => 1,
+        Fault::Reserved(_) => 4,
+        Fault::Target(_) => 5,
+        Fault::Long(_) => 6,
+        Fault::Short(_) => 7,
+        Fault::Surplus(_) => 7,
+    }
+}
+
+// The uncompressed form of the message. A first run, over no octets, finds a refusal and the form's length. A second one writes
+// the form if the buffer has room for it: `json::convert` lends none and only measures, a caller that wants the form lends it.
+pub fn uncompress(s: &[u8], out: &mut [u8]) -> Scan
+    ensures { λ r. ⌜ Uncompressed (now (s .entry)) (now (out .entry)) r (now (out .exit)) ⌝ }
+{
+    if s.len() > 65535 {
+        return refuse(2, 0);
+    }
+    if s.len() < 12 {
+        return refuse(1, 0);
+    }
+    if s[3] / 64 % 2 == 1 {
+        return refuse(3, 0);
+    }
+    match put_message(s, &mut out[..0]) {
+        Came::Stopped(at, fault) => refuse(number_of(fault), at),
+        Came::To(at, size, opts) => {
+            if at < s.len() {
+                return refuse(8, at);
+            }
+            if size > 65535 {
+                return refuse(9, 0);
+            }
+            let scan = Scan {
+                outcome: Outcome::Length(size),
+                opts,
+            };
+            if size <= out.len() {
+                let _again = put_message(s, out);
+            }
+            scan
+        }
+    }
+}
