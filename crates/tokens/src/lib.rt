@@ -7,20 +7,18 @@ ghost use lib.ListN.{length, drop};
 ghost use Rattle.octets.specs.Lists.{octet?, word?, long?};
 ghost use Rattle.octets.specs.Fields.{two, four};
 ghost use Rattle.octets.specs.Codec.{tried};
-ghost use Rattle.octets.specs.Overlay.{Wrote};
 ghost use Rattle.options.specs.Options.{members};
 ghost use Rattle.edns.specs.Edns.{flags, rcodes};
-ghost use Rattle.strict.specs.Meaning.{ttl?, unsigned};
 ghost use Rattle.tokens.specs.Cursor.{Safe, Passed, Stopped, Came};
 ghost use Rattle.tokens.specs.Step.{Held, Emits, Judged};
 ghost use Rattle.tokens.specs.Place.{Byte};
 ghost use Rattle.tokens.specs.Items.{comma-of};
 ghost use Rattle.tokens.specs.Choice.{Further};
-ghost use Rattle.tokens.specs.Number.{capped, NumberRead, TillRead, PositiveRead, DigitOf};
-ghost use Rattle.tokens.specs.Signed.{Kept, SignedRead, Plus, Minus};
+ghost use Rattle.tokens.specs.Number.{capped, NumberRead, TillRead, PositiveRead, NoNumber, DigitOf};
+ghost use Rattle.tokens.specs.Signed.{SignedRead, Plus, Minus};
 ghost use Rattle.tokens.specs.Hex.{HexTest, HexAt, Quoted, HexRead};
-ghost use Rattle.tokens.specs.Rows.{RowRead, OrRow};
-ghost use Rattle.tokens.specs.Fields.{Done};
+ghost use Rattle.tokens.specs.Rows.{RowRead, NoRow, OrRow};
+ghost use Rattle.tokens.specs.Fields.{NumberPut, TtlPut};
 use octets::put_all;
 
 // Where the reader is in a text. `spelled`: all before `at` is within the grammar; if not, nothing more is read, and `at` is the first octet at which no text
@@ -185,7 +183,7 @@ pub struct Amount {
 
 // No number: the reader stops at `at`.
 fn none(c: Cursor, at: usize) -> Amount
-    ensures { λ r. ⌜ Stopped c at (r .cursor) ⌝ }
+    ensures { λ r. ⌜ NoNumber c at r ⌝ }
 {
     Amount {
         cursor: stop(c, at),
@@ -284,8 +282,15 @@ pub fn till(text: &[u8], c: Cursor, title: &[u8]) -> Amount
     ensures { λ r. ⌜ TillRead (now (title .entry)) (now (text .entry)) c r ⌝ }
 {
     let n = number(text, c);
+    let d = literal(text, n.cursor, title);
+    if !d.spelled {
+        return Amount {
+            cursor: d,
+            value: 0,
+        };
+    }
     Amount {
-        cursor: literal(text, n.cursor, title),
+        cursor: d,
         value: n.value,
     }
 }
@@ -443,7 +448,7 @@ pub struct Row {
 
 // No title: the reader stops where it is.
 fn no_row(c: Cursor) -> Row
-    ensures { λ r. ⌜ Stopped c (c .at) (r .cursor) ⌝ }
+    ensures { λ r. ⌜ NoRow c r ⌝ }
 {
     let at = c.at;
     Row {
@@ -561,7 +566,7 @@ pub fn option_name(text: &[u8], c: Cursor) -> Row
 // A number of one octet.
 pub fn put_octet(c: Cursor, value: u64, out: &mut [u8]) -> Cursor
     requires { ⌜ c .to ≤ 65535 ⌝ }
-    ensures { λ r. ⌜ Done (λ n. value ≡ capped n) octet? (λ n. n ∷ []) c (now (out .entry)) r (now (out .exit)) ⌝ }
+    ensures { λ r. ⌜ NumberPut value octet? (λ n. n ∷ []) c (now (out .entry)) r (now (out .exit)) ⌝ }
 {
     if value > 255 {
         return judge(c, false);
@@ -572,7 +577,7 @@ pub fn put_octet(c: Cursor, value: u64, out: &mut [u8]) -> Cursor
 // A number of two octets.
 pub fn put_word(c: Cursor, value: u64, out: &mut [u8]) -> Cursor
     requires { ⌜ c .to ≤ 65535 ⌝ }
-    ensures { λ r. ⌜ Done (λ n. value ≡ capped n) word? two c (now (out .entry)) r (now (out .exit)) ⌝ }
+    ensures { λ r. ⌜ NumberPut value word? two c (now (out .entry)) r (now (out .exit)) ⌝ }
 {
     if value > 65535 {
         return judge(c, false);
@@ -602,7 +607,7 @@ fn emit_four(c: Cursor, bits: u32, out: &mut [u8]) -> Cursor
 // A number of four octets.
 pub fn put_long(c: Cursor, value: u64, out: &mut [u8]) -> Cursor
     requires { ⌜ c .to ≤ 65535 ⌝ }
-    ensures { λ r. ⌜ Done (λ n. value ≡ capped n) long? four c (now (out .entry)) r (now (out .exit)) ⌝ }
+    ensures { λ r. ⌜ NumberPut value long? four c (now (out .entry)) r (now (out .exit)) ⌝ }
 {
     if value > 4294967295 {
         return judge(c, false);
@@ -613,7 +618,7 @@ pub fn put_long(c: Cursor, value: u64, out: &mut [u8]) -> Cursor
 // A TTL.
 pub fn put_ttl(c: Cursor, bits: u32, fits: bool, out: &mut [u8]) -> Cursor
     requires { ⌜ c .to ≤ 65535 ⌝ }
-    ensures { λ r. ⌜ Done (Kept fits bits) ttl? (λ s. four (unsigned s)) c (now (out .entry)) r (now (out .exit)) ⌝ }
+    ensures { λ r. ⌜ TtlPut fits bits c (now (out .entry)) r (now (out .exit)) ⌝ }
 {
     if !fits {
         return judge(c, false);
