@@ -1,5 +1,5 @@
 -- A reader of one of two things. Assumes nothing.
-use mathlib.Core.Path.{_≡_, refl, sym, _∙_, ap, subst}
+use mathlib.Core.Path.{_≡_, refl, sym, _∙_, subst}
 use mathlib.Core.Logic.{inl, inr}
 use mathlib.Core.Bool.{Bool, true, false, not, cond}
 use mathlib.Core.Option.{Option, none, some}
@@ -53,14 +53,6 @@ further-keeps {t} {at} {c} {r} h k f = go (c .spelled) refl
     go : (b : Bool) → c .spelled ≡ b → Keeps t c r
     go true g = subst (Keeps t c) (sym (f .goes g)) (keeps-same h)
     go false g = went-keeps h (f .stops g) (least (ltb (c .at) at) refl) (most (ltb (c .at) at))
-
--- it has stopped only if the first had
-pub further-stopped : {at : ℕ} {c r : Cursor} → Further at c r → r .spelled ≡ false → c .spelled ≡ false
-further-stopped {at} {c} {r} f e = go (c .spelled) refl
-  where
-    go : (b : Bool) → c .spelled ≡ b → c .spelled ≡ false
-    go true g = ap (λ (z : Cursor). z .spelled) (sym (f .goes g)) ∙ e
-    go false g = g
 
 further-same : (m n : ℕ) → cond (ltb m n) n m ≡ cond (ltb n m) m n
 further-same m n = go (ltb m n) (ltb n m) refl refl

@@ -27,7 +27,8 @@ pub record Done {A : Type 0} (P : A → Type 0) (ok : A → Bool) (wire : A → 
   pub put : (a : A) → P a → Put ok wire c b r b′ a
 
 -- All that is done for a field of the message: in range, the octets xs are written; out of range, only `meant` changes.
-pub record FieldPut {A : Type 0} (P : A → Type 0) (ok : A → Bool) (wire : A → List ℕ) (fits : Bool) (xs : List ℕ) (c : Cursor) (b : List ℕ) (r : Cursor) (b′ : List ℕ) : Type 0 where
+pub record FieldPut {A : Type 0} (P : A → Type 0) (ok : A → Bool) (wire : A → List ℕ) (fits : Bool) (xs : List ℕ)
+    (c : Cursor) (b : List ℕ) (r : Cursor) (b′ : List ℕ) : Type 0 where
   pub done : Done P ok wire c b r b′
   pub fitting : fits ≡ true → Emits xs c b r b′
   pub out : fits ≡ false → Judged false c r
@@ -91,14 +92,17 @@ module _ {A : Type 0} {P : A → Type 0} {wire : A → List ℕ} {n : ℕ} {c r 
         record { meant = h .meant ∙ sym (and-true (c .meant)); small = λ k. rw l (h .small); wrote = λ k s. record { place = h .to s ∙ rw l; text = w a p .1 .text } };
   }
 
-module _ {A : Type 0} {P : A → Type 0} {ok : A → Bool} {wire : A → List ℕ} {fits : Bool} {xs : List ℕ} {c r : Cursor} {b : List ℕ} where
-  field-out : fits ≡ false → c .to ≤ 65535 → ((a : A) → P a → ok a ≡ false) → Judged false c r → FieldPut P ok wire fits xs c b r b
+module _ {A : Type 0} {P : A → Type 0} {ok : A → Bool} {wire : A → List ℕ} {fits : Bool} {xs : List ℕ} {c r : Cursor}
+    {b : List ℕ} where
+  field-out : fits ≡ false → c .to ≤ 65535 → ((a : A) → P a → ok a ≡ false) → Judged false c r
+      → FieldPut P ok wire fits xs c b r b
   field-out e h out j = record { done = done-out h out j; fitting = λ d. clash e d; out = λ d. j; stays = λ d. refl }
 
-  field-in : {b′ : List ℕ} → fits ≡ true → ((a : A) → P a → (ok a ≡ true) × (wire a ≡ xs)) → Emits xs c b r b′ → FieldPut P ok wire fits xs c b r b′
+  field-in : {b′ : List ℕ} → fits ≡ true → ((a : A) → P a → (ok a ≡ true) × (wire a ≡ xs)) → Emits xs c b r b′
+      → FieldPut P ok wire fits xs c b r b′
   field-in e fits x = record { done = done-in fits x; fitting = λ d. x; out = λ d. clash d e; stays = λ d. clash d e }
 
--- a number below a limit, which is a power of 256
+-- a number below a limit
 module _ {v : ℕ} {c r : Cursor} {b : List ℕ} (limit : ℕ) (low : limit ≤ 4294967296) (wire : ℕ → List ℕ) where
   number-out : c .to ≤ 65535 → limit ≤ v → Judged false c r → NumberPut v (λ n. ltb n limit) wire c b r b
   number-out h k = field-out (le-ltb v limit k) h λ n e. le-ltb n limit (omega arith)

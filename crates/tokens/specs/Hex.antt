@@ -23,7 +23,7 @@ use Rattle.tokens.specs.Step.{Found, found-stuck, moves}
 use Rattle.tokens.specs.Many.{run-of, Going, going-start, going-more, going-stop, many-once}
 use Rattle.tokens.specs.Leaf.{found-stop, stays-at, strip-at-once, strip-first}
 
--- the octets l stand in the text from `from` to `end`, two digits each
+-- the octets l are in the text from `from` to `end`, two digits each
 pub record HexRun (t : List ℕ) (r : Span) (l : List ℕ) : Type 0 where
   pub digits : take (r .end - r .from) (drop (r .from) t) ≡ each hexOctet l
   pub octets : Octets l
@@ -31,7 +31,8 @@ pub record HexRun (t : List ℕ) (r : Span) (l : List ℕ) : Type 0 where
   pub within : r .end ≤ length t
   pub long : r .end ≡ r .from + 2 * length l
 
--- octets were read; where the reader stopped, the octets before that are from `from` to `end`. Between the two are all whole pairs of digits up to its place.
+-- octets were read; where the reader stopped, those before that. Between `from` and `end` are the whole pairs of digits
+-- from c's place to the reader's.
 pub record HexRead (t : List ℕ) (c : Cursor) (r : Span) : Type 0 where
   pub found : Found (hex .parse) (HexRun t r) t c (r .cursor)
   pub keeps : Keeps t c (r .cursor)
@@ -41,18 +42,18 @@ pub record HexRead (t : List ℕ) (c : Cursor) (r : Span) : Type 0 where
   pub run : HexRun t r so-far
 
 -- ---- one digit
--- x is a digit, and stands for n
+-- x is the digit of n
 pub record HexValue (x : ℕ) : Type 0 where
   pub n : ℕ
   pub small : n < 16
   pub is : hexDigit n ≡ x
 
--- r tells whether x is a digit
+-- r is whether x is a digit
 pub record HexTest (x : ℕ) (r : Bool) : Type 0 where
   pub yes : r ≡ true → HexValue x
   pub no : r ≡ false → (w : List ℕ) → unhex (x ∷ w) ≡ stuck (x ∷ w)
 
--- r tells whether a digit stands at a place
+-- r is whether a digit is at a place
 pub record HexAt (t : List ℕ) (at : ℕ) (r : Bool) : Type 0 where
   pub inside : r ≡ true → at < length t
   pub yes : r ≡ true → HexValue (getD t at 0)

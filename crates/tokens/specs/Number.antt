@@ -54,7 +54,7 @@ pub record NoNumber (c : Cursor) (n : ℕ) (r : Amount) : Type 0 where
   pub value : r .value ≡ 0
 
 -- ---- digits
--- r is what the digit x stands for, or 10 if it is none
+-- r is the number of the digit x, or 10 if it is none
 pub record DigitOf (x r : ℕ) : Type 0 where
   pub low : r ≤ 9 → x ≡ 48 + r
   pub high : 9 < r → digit? x ≡ false
@@ -116,10 +116,15 @@ digits-capped d = omega (arith, d .is)
 
 module _ {t : List ℕ} {c : Cursor} where
   pub positive-stuck : Safe t c → not (c .spelled) ≡ true → PositiveRead t c (record { cursor = c; value = 0 })
-  positive-stuck h g = record { found = found-stuck positive t c h (not-true (c .spelled) g); keeps = keeps-same h; stop = λ e. refl }
+  positive-stuck h g = record {
+    found = found-stuck positive t c h (not-true (c .spelled) g);
+    keeps = keeps-same h;
+    stop = λ e. refl;
+  }
 
   module _ (f : Safe t c) (g : not (c .spelled) ≡ false) where
-    stops : {r : Amount} → positive (drop (c .at) t) ≡ stuck (drop (c .at) t) → NoNumber c (c .at) r → PositiveRead t c r
+    stops : {r : Amount} → positive (drop (c .at) t) ≡ stuck (drop (c .at) t) → NoNumber c (c .at) r
+        → PositiveRead t c r
     stops e s = record {
       found = found-stop f (not-false (c .spelled) g) e (omega arith) (f .inside) (s .cursor);
       keeps = went-keeps f (s .cursor) (omega arith) (f .inside);
@@ -143,7 +148,9 @@ module _ {t : List ℕ} {c : Cursor} where
     module _ {at value : ℕ} (d : Digits t c at value) where
       done : {r : Cursor} → NoDigit (drop at t) → Came c at r → PositiveRead t c (record { cursor = r; value = value })
       done e s = record {
-        found = found-took f (not-false (c .spelled) g) (d .goes ∙ run-stop (d .n) (drop at t) e) (d .onward) (d .within) s (d .filled, d .is);
+        found =
+            let run = d .goes ∙ run-stop (d .n) (drop at t) e in
+            found-took f (not-false (c .spelled) g) run (d .onward) (d .within) s (d .filled, d .is);
         keeps = went-keeps f s (d .onward) (d .within);
         stop = λ k. clash k (s .is);
       }

@@ -64,7 +64,7 @@ natural-at-once (d ∷ w) = go (eqb d 48)
 abbrev joined : Parsed ℕ → Parsed ℕ → Parsed Signed
 joined o p = and-then (or-else (and-then o λ a r. took (inl a) r) (and-then p λ b r. took (inr b) r)) λ u r. took (made plus minus u) r
 
--- where no minus stands, a number
+-- with no minus there, a number
 signed-plus : (w u : List ℕ) → strip (45 ∷ []) w ≡ stuck u → and-then (natural w) (λ n r. took (plus n) r) ≡ signedNumber .parse w
 unfolding signedNumber
 signed-plus w u e = go (natural-at-once w) (strip-at-once 45 w) e
@@ -129,9 +129,15 @@ module _ {a : Amount} where
   }
 
   pub minus-zero : a .value ≡ 0 → Minus a (record { cursor = a .cursor; bits = 0; fits = true })
-  minus-zero h = record { cursor = refl; kept = λ n e. absurd (omega (arith, e)); none = λ e. (refl, refl); over = λ e. refl }
+  minus-zero h = record {
+    cursor = refl;
+    kept = λ n e. absurd (omega (arith, e));
+    none = λ e. (refl, refl);
+    over = λ e. refl;
+  }
 
-  pub minus-fits : {b : ℕ} → a .value ≤ 2147483648 → (a .value ≡ 0 → ⊥) → b ≡ 4294967296 - a .value → Minus a (record { cursor = a .cursor; bits = b; fits = true })
+  pub minus-fits : {b : ℕ} → a .value ≤ 2147483648 → (a .value ≡ 0 → ⊥) → b ≡ 4294967296 - a .value
+      → Minus a (record { cursor = a .cursor; bits = b; fits = true })
   unfolding ttl? unsigned
   minus-fits h z d = record {
     cursor = refl;

@@ -110,7 +110,7 @@ module _ {A : Type 0} {P : A → Type 0} {t : List ℕ} {p : List ℕ → Parsed
       go (stopped g) y = same (rw g at y)
       go (taken {a} g v) y = two v (rw g at y)
 
--- one thing after another, where the first, k, tells what the second is
+-- one thing after another, where the first, k, decides what the second is
 pub found-by : {A : Type 0} {B : A → Type 0} {p : List ℕ → Parsed A} {t : List ℕ} {c r s : Cursor} (q : (a : A) → List ℕ → Parsed (B a)) (Q : (a : A) → B a → Type 0) (k : A)
     → Found p (λ a. k ≡ a) t c r → Found (q k) (Q k) t r s
     → Found {A = (a : A) × B a} (λ w. and-then (p w) λ a w. and-then (q a w) λ b r. took (a, b) r) (λ u. (k ≡ u .0) × Q (u .0) (u .1)) t c s
@@ -172,7 +172,7 @@ put-then {ok = ok} {ok′ = ok′} {wire = wire} {wire′ = wire′} {c = c} {r 
     before : T (s .meant) → T (r .meant)
     before k = and-left (r .meant) (ok′ y) (subst T (q .meant) k)
 
--- with nothing written before it; with nothing written behind it; of the same value, seen another way
+-- with nothing written before it; with nothing written after it; of the same value, seen another way
 module _ {A : Type 0} {ok : A → Bool} {wire : A → List ℕ} {t b b′ : List ℕ} {c r s : Cursor} {a : A} where
   pub put-from : Keeps t c r → Put ok wire r b s b′ a → Put ok wire c b s b′ a
   put-from k h = record {
@@ -236,7 +236,7 @@ module _ {A : Type 0} {ok : A → Bool} {wire : A → List ℕ} {p : List ℕ �
   step-pair x y = found-as (found-pair x y) λ u h. put-then (h .0) (h .1)
 
 -- ---- octets written and judgements made where nothing is read
--- places for n octets of the message were held, unless they go past its limit
+-- places for n octets of the message were held, unless they go past its limit; then the place is as it was
 pub record Held (n : ℕ) (c r : Cursor) : Type 0 where
   pub at : r .at ≡ c .at
   pub spelled : r .spelled ≡ c .spelled
@@ -362,7 +362,7 @@ module _ {A : Type 0} {wire : A → List ℕ} {c : Cursor} {b : List ℕ} {a : A
       earlier : T (s .meant) → T (r .meant)
       earlier y = and-left (r .meant) k (subst T (j .meant) y)
 
-  -- octets behind those of a value
+  -- octets after those of a value
   pub put-emit : {ok : A → Bool} {r s : Cursor} {b′ b″ xs : List ℕ} → Put ok wire c b r b′ a → Emits xs r b′ s b″ → Put ok (λ a. wire a ++ xs) c b s b″ a
   put-emit {ok} {r} {s} {b′} {b″} {xs} p e = put-as {ok = λ (u : A × Unit {0}). ok (u .0) && true} (sym (and-true (ok a))) refl (put-then p written)
     where
