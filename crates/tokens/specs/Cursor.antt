@@ -11,6 +11,11 @@ use Rattle.octets.specs.Parsed.{Parsed, took, stuck, and-then, strip}
 use Rattle.octets.specs.Fields.{drop-one}
 use Rattle.tokens.specs.declared.Cursor.{Cursor}
 
+-- two that are alike in every field
+pub cursors : {r s : Cursor} → r .at ≡ s .at → r .to ≡ s .to → r .spelled ≡ s .spelled → r .meant ≡ s .meant
+    → r .small ≡ s .small → r ≡ s
+cursors a t p m l = λ i. record { at = a i; to = t i; spelled = p i; meant = m i; small = l i }
+
 -- what is left to read; where the reader has stopped, the text from there on
 abbrev pub left-of : Bool → List ℕ → Parsed (Unit {0})
 left-of true w = took tt w

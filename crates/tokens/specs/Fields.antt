@@ -1,11 +1,11 @@
 -- Numbers of one, two and four octets, judged and written. Assumes nothing.
-use mathlib.Core.Path.{_≡_, sym, _∙_, ap, subst}
+use mathlib.Core.Path.{_≡_, refl, sym, _∙_, ap, subst}
 use mathlib.Core.Bool.{Bool, true, false, not, _&&_, and-true}
 use mathlib.Core.List.{List, [], _∷_, _++_}
 use Prim.Native.Nat.{ℕ, _+_, _≤_, _<_}
 use native.Mathlib.Omega.{arith}
 use borrow.Author.Tests.{lt-ltb, le-ltb, not-true, not-false}
-use lib.Dec.{T, leb}
+use lib.Dec.{T, leb, ltb}
 use lib.ListN.{length}
 use Rattle.octets.specs.Lists.{octet?, word?, long?}
 use Rattle.octets.specs.Bits.{and-right}
@@ -14,7 +14,7 @@ use Rattle.octets.specs.Fields.{two, four}
 use Rattle.octets.specs.Overlay.{Wrote}
 use Rattle.strict.specs.Meaning.{ttl?, unsigned}
 use Rattle.tokens.specs.declared.Cursor.{Cursor}
-use Rattle.tokens.specs.Cursor.{Keeps}
+use Rattle.tokens.specs.Cursor.{Keeps, clash}
 use Rattle.tokens.specs.Step.{Found, found-at, Put, put-then, put-from, Step, Held, Emits, Judged}
 use Rattle.tokens.specs.Number.{capped}
 use Rattle.tokens.specs.Signed.{Kept}
@@ -25,6 +25,21 @@ pub record Done {A : Type 0} (P : A → Type 0) (ok : A → Bool) (wire : A → 
   pub spelled : r .spelled ≡ c .spelled
   pub room : r .to ≤ 65535
   pub put : (a : A) → P a → Put ok wire c b r b′ a
+
+-- All that is done for a field of the message: in range, the octets xs are written; out of range, only `meant` changes.
+pub record FieldPut {A : Type 0} (P : A → Type 0) (ok : A → Bool) (wire : A → List ℕ) (fits : Bool) (xs : List ℕ)
+    (c : Cursor) (b : List ℕ) (r : Cursor) (b′ : List ℕ) : Type 0 where
+  pub done : Done P ok wire c b r b′
+  pub fitting : fits ≡ true → Emits xs c b r b′
+  pub out : fits ≡ false → Judged false c r
+  pub stays : fits ≡ false → b′ ≡ b
+
+-- a number that was kept as `value`; a TTL
+abbrev pub NumberPut : ℕ → (ℕ → Bool) → (ℕ → List ℕ) → (c : Cursor) (b : List ℕ) (r : Cursor) (b′ : List ℕ) → Type 0
+NumberPut value ok wire = FieldPut (λ n. value ≡ capped n) ok wire (ok value) (wire value)
+
+abbrev pub TtlPut : Bool → ℕ → (c : Cursor) (b : List ℕ) (r : Cursor) (b′ : List ℕ) → Type 0
+TtlPut fits bits = FieldPut (Kept fits bits) ttl? (λ s. four (unsigned s)) fits (four bits)
 
 module _ {A : Type 0} {P : A → Type 0} {ok : A → Bool} {wire : A → List ℕ} {c r : Cursor} {b b′ : List ℕ} where
   -- out of range
@@ -77,31 +92,49 @@ module _ {A : Type 0} {P : A → Type 0} {wire : A → List ℕ} {n : ℕ} {c r 
         record { meant = h .meant ∙ sym (and-true (c .meant)); small = λ k. rw l (h .small); wrote = λ k s. record { place = h .to s ∙ rw l; text = w a p .1 .text } };
   }
 
-module _ {v : ℕ} {c r : Cursor} {b b′ : List ℕ} where
-  pub octet-out : c .to ≤ 65535 → 255 < v → Judged false c r → Done (λ n. v ≡ capped n) octet? (λ n. n ∷ []) c b r b′
-  octet-out h k = done-out h λ n e. le-ltb n 256 (omega arith)
+module _ {A : Type 0} {P : A → Type 0} {ok : A → Bool} {wire : A → List ℕ} {fits : Bool} {xs : List ℕ} {c r : Cursor}
+    {b : List ℕ} where
+  field-out : fits ≡ false → c .to ≤ 65535 → ((a : A) → P a → ok a ≡ false) → Judged false c r
+      → FieldPut P ok wire fits xs c b r b
+  field-out e h out j = record { done = done-out h out j; fitting = λ d. clash e d; out = λ d. j; stays = λ d. refl }
 
-  pub octet-in : v ≤ 255 → Emits (v ∷ []) c b r b′ → Done (λ n. v ≡ capped n) octet? (λ n. n ∷ []) c b r b′
-  octet-in k = done-in λ n e. let d : n ≡ v = omega arith in (lt-ltb n 256 (omega arith), rw d)
+  field-in : {b′ : List ℕ} → fits ≡ true → ((a : A) → P a → (ok a ≡ true) × (wire a ≡ xs)) → Emits xs c b r b′
+      → FieldPut P ok wire fits xs c b r b′
+  field-in e fits x = record { done = done-in fits x; fitting = λ d. x; out = λ d. clash d e; stays = λ d. clash d e }
 
-  pub word-out : c .to ≤ 65535 → 65535 < v → Judged false c r → Done (λ n. v ≡ capped n) word? two c b r b′
-  word-out h k = done-out h λ n e. le-ltb n 65536 (omega arith)
+-- a number below a limit
+module _ {v : ℕ} {c r : Cursor} {b : List ℕ} (limit : ℕ) (low : limit ≤ 4294967296) (wire : ℕ → List ℕ) where
+  number-out : c .to ≤ 65535 → limit ≤ v → Judged false c r → NumberPut v (λ n. ltb n limit) wire c b r b
+  number-out h k = field-out (le-ltb v limit k) h λ n e. le-ltb n limit (omega arith)
 
-  pub word-in : {xs : List ℕ} → v ≤ 65535 → xs ≡ two v → Emits xs c b r b′ → Done (λ n. v ≡ capped n) word? two c b r b′
-  word-in k x = done-in λ n e. let d : n ≡ v = omega arith in (lt-ltb n 65536 (omega arith), rw d (sym x))
+  number-in : {b′ : List ℕ} → v < limit → Emits (wire v) c b r b′ → NumberPut v (λ n. ltb n limit) wire c b r b′
+  number-in k = field-in (lt-ltb v limit k) λ n e. let d : n ≡ v = omega arith in (lt-ltb n limit (omega arith), rw d)
 
-  pub long-out : c .to ≤ 65535 → 4294967295 < v → Judged false c r → Done (λ n. v ≡ capped n) long? four c b r b′
-  long-out h k = done-out h λ n e. le-ltb n 4294967296 (omega arith)
+module _ {v : ℕ} {c r : Cursor} {b : List ℕ} where
+  pub octet-out : c .to ≤ 65535 → 255 < v → Judged false c r → NumberPut v octet? (λ n. n ∷ []) c b r b
+  octet-out h k = number-out 256 (omega arith) _ h (omega arith)
 
-  pub long-in : {xs : List ℕ} → v ≤ 4294967295 → xs ≡ four v → Emits xs c b r b′ → Done (λ n. v ≡ capped n) long? four c b r b′
-  long-in k x = done-in λ n e. let d : n ≡ v = omega arith in (lt-ltb n 4294967296 (omega arith), rw d (sym x))
+  pub octet-in : {b′ : List ℕ} → v ≤ 255 → Emits (v ∷ []) c b r b′ → NumberPut v octet? (λ n. n ∷ []) c b r b′
+  octet-in k = number-in 256 (omega arith) _ (omega arith)
 
-module _ {bits : ℕ} {fits : Bool} {c r : Cursor} {b b′ : List ℕ} where
-  pub ttl-out : c .to ≤ 65535 → not fits ≡ true → Judged false c r → Done (Kept fits bits) ttl? (λ s. four (unsigned s)) c b r b′
-  ttl-out h k = done-out h λ s e. sym (e .0) ∙ not-true fits k
+  pub word-out : c .to ≤ 65535 → 65535 < v → Judged false c r → NumberPut v word? two c b r b
+  word-out h k = number-out 65536 (omega arith) two h (omega arith)
 
-  pub ttl-in : {xs : List ℕ} → not fits ≡ false → xs ≡ four bits → Emits xs c b r b′ → Done (Kept fits bits) ttl? (λ s. four (unsigned s)) c b r b′
-  ttl-in k x = done-in λ s e. let g = not-false fits k in (sym (e .0) ∙ g, rw (← (e .1 (subst T (sym g) tt))) (sym x))
+  pub word-in : {xs b′ : List ℕ} → v ≤ 65535 → xs ≡ two v → Emits xs c b r b′ → NumberPut v word? two c b r b′
+  word-in k x e = number-in 65536 (omega arith) two (omega arith) (rw (← x) e)
+
+  pub long-out : c .to ≤ 65535 → 4294967295 < v → Judged false c r → NumberPut v long? four c b r b
+  long-out h k = number-out 4294967296 (omega arith) four h (omega arith)
+
+  pub long-in : {xs b′ : List ℕ} → v ≤ 4294967295 → xs ≡ four v → Emits xs c b r b′ → NumberPut v long? four c b r b′
+  long-in k x e = number-in 4294967296 (omega arith) four (omega arith) (rw (← x) e)
+
+module _ {bits : ℕ} {fits : Bool} {c r : Cursor} {b : List ℕ} where
+  pub ttl-out : c .to ≤ 65535 → not fits ≡ true → Judged false c r → TtlPut fits bits c b r b
+  ttl-out h k = field-out (not-true fits k) h λ s e. sym (e .0) ∙ not-true fits k
+
+  pub ttl-in : {b′ : List ℕ} → not fits ≡ false → Emits (four bits) c b r b′ → TtlPut fits bits c b r b′
+  ttl-in k = let g = not-false fits k in field-in g λ s e. (sym (e .0) ∙ g, rw (← (e .1 (subst T (sym g) tt))))
 
 -- ---- read, and then judged and written
 module _ {A : Type 0} {ok : A → Bool} {wire : A → List ℕ} {t b b′ : List ℕ} {c s : Cursor} where

@@ -1,12 +1,12 @@
 -- Hexadecimal digits two by two, up to the quote: how a reader goes through them. Assumes nothing.
-use mathlib.Core.Path.{_≡_, refl, sym, _∙_, subst}
+use mathlib.Core.Path.{_≡_, refl, sym, _∙_, ap, subst}
 use mathlib.Core.Bool.{Bool, true, false, not}
 use mathlib.Core.List.{List, [], _∷_, _++_, append-nil}
 use Prim.Native.Nat.{ℕ, _+_, _-_, _*_, _/_, _%_, _≤_, _<_}
 use native.Mathlib.Omega.{arith}
 use borrow.Author.Tests.{not-true, not-false, lt-ltb, le-ltb}
 use lib.Dec.{T, not-T, leb, ltb, leb→le, ltb→lt}
-use lib.ListN.{length, take, drop, getD, length-append, drop-of-length-le}
+use lib.ListN.{length, take, drop, getD, length-append, length-drop, drop-of-length-le}
 use lib.Seq.{take-add, drop-drop}
 use Rattle.octets.specs.Lists.{Octets, each}
 use Rattle.octets.specs.Bits.{is-false, and-left, and-right, All-append}
@@ -21,9 +21,9 @@ use Rattle.tokens.specs.declared.Span.{Span}
 use Rattle.tokens.specs.Cursor.{left-of, rest, Safe, Keeps, keeps-same, keeps-then, Passed, Came, Stopped, went-keeps, Reads, stopped, taken, clash}
 use Rattle.tokens.specs.Step.{Found, found-stuck, moves}
 use Rattle.tokens.specs.Many.{run-of, Going, going-start, going-more, going-stop, many-once}
-use Rattle.tokens.specs.Leaf.{found-stop, stays-at, strip-at-once}
+use Rattle.tokens.specs.Leaf.{found-stop, stays-at, strip-at-once, strip-first}
 
--- the octets l stand in the text from `from` to `end`, two digits each
+-- the octets l are in the text from `from` to `end`, two digits each
 pub record HexRun (t : List ℕ) (r : Span) (l : List ℕ) : Type 0 where
   pub digits : take (r .end - r .from) (drop (r .from) t) ≡ each hexOctet l
   pub octets : Octets l
@@ -31,26 +31,29 @@ pub record HexRun (t : List ℕ) (r : Span) (l : List ℕ) : Type 0 where
   pub within : r .end ≤ length t
   pub long : r .end ≡ r .from + 2 * length l
 
--- octets were read; where the reader stopped, the octets before that stand from `from` to `end`
+-- octets were read; where the reader stopped, those before that. Between `from` and `end` are the whole pairs of digits
+-- from c's place to the reader's.
 pub record HexRead (t : List ℕ) (c : Cursor) (r : Span) : Type 0 where
   pub found : Found (hex .parse) (HexRun t r) t c (r .cursor)
   pub keeps : Keeps t c (r .cursor)
+  pub from : r .from ≡ c .at
+  pub end : r .end ≡ c .at + (r .cursor .at - c .at) / 2 * 2
   pub so-far : List ℕ
   pub run : HexRun t r so-far
 
 -- ---- one digit
--- x is a digit, and stands for n
+-- x is the digit of n
 pub record HexValue (x : ℕ) : Type 0 where
   pub n : ℕ
   pub small : n < 16
   pub is : hexDigit n ≡ x
 
--- r tells whether x is a digit
+-- r is whether x is a digit
 pub record HexTest (x : ℕ) (r : Bool) : Type 0 where
   pub yes : r ≡ true → HexValue x
   pub no : r ≡ false → (w : List ℕ) → unhex (x ∷ w) ≡ stuck (x ∷ w)
 
--- r tells whether a digit stands at a place
+-- r is whether a digit is at a place
 pub record HexAt (t : List ℕ) (at : ℕ) (r : Bool) : Type 0 where
   pub inside : r ≡ true → at < length t
   pub yes : r ≡ true → HexValue (getD t at 0)
@@ -134,6 +137,20 @@ module _ {t : List ℕ} {c x : Cursor} {at : ℕ} where
   pub quoted : {r : Cursor} → Safe t c → c .at ≤ at → at ≤ length t → Came c at x → Passed (34 ∷ []) t x r → Quoted t c at r
   quoted f h k s q = record { left = rw (s .is, s .at) at (q .left); keeps = keeps-then (went-keeps f s h k) (q .keeps) }
 
+-- the reader is at the place or one past it
+quoted-near : {t : List ℕ} {c r : Cursor} {at : ℕ} → at ≤ length t → Quoted t c at r → (at ≤ r .at) × (r .at ≤ at + 1)
+quoted-near {t} {c} {r} {at} h q = go (r .spelled) (q .left)
+  where
+    near : (n : ℕ) → n ≤ 1 → length (drop at t) ≡ n + length (drop (r .at) t) → (at ≤ r .at) × (r .at ≤ at + 1)
+    near n k e =
+        let d : length t - at ≡ n + (length t - r .at) = omega (arith, e, length-drop at t, length-drop (r .at) t) in
+        let i = q .keeps .safe .inside in
+        (omega arith, omega arith)
+
+    go : (b : Bool) → left-of b (drop (r .at) t) ≡ strip (34 ∷ []) (drop at t) → (at ≤ r .at) × (r .at ≤ at + 1)
+    go true e = near 1 (omega arith) (omega (arith, ap length (strip-first 34 (drop at t) (drop (r .at) t) (sym e))))
+    go false e = near 0 (omega arith) (omega (arith, ap length (stays-at (strip-at-once 34 (drop at t)) (sym e))))
+
 -- ---- the octets so far
 no-quote : Avoids (λ x. x < 256) hexOctet 34
 no-quote = hexOctet-avoids 34 (omega arith)
@@ -174,6 +191,8 @@ module _ {t : List ℕ} {c : Cursor} {at : ℕ} (w : Pairs t c at) where
     pairs-close {r} f g k q = record {
       found = record { reads = rw (not-false (c .spelled) g, w .goes .goes, many-once octetCodec 34 no-quote no-octet (drop at t), pair-none (drop at t) (p .no (not-true b k)), ← (q .left)) (go (r .spelled) refl (q .left)); moves = moves (q .keeps) };
       keeps = q .keeps;
+      from = refl;
+      end = let n = quoted-near (w .within) q in omega (arith, w .long, n .0, n .1);
       so-far = w .l;
       run = run-here;
     }
@@ -197,6 +216,8 @@ module _ {t : List ℕ} {c : Cursor} {at : ℕ} (w : Pairs t c at) where
         pairs-half f g h s = record {
           found = found-stop f (not-false (c .spelled) g) (going-stop octetCodec 34 no-quote no-octet (w .goes) (λ d. omega (arith, first .is, hexDigit-in (first .n) (first .small) .0)) (pair-half (drop at t) (digit-there t at pairs-inside first) (q .no (not-true e h)))) (omega (arith, w .long)) (omega (arith, pairs-inside)) s;
           keeps = went-keeps f s (omega (arith, w .long)) (omega (arith, pairs-inside));
+          from = refl;
+          end = omega (arith, w .long, s .at);
           so-far = w .l;
           run = run-here;
         }
@@ -221,4 +242,11 @@ module _ {t : List ℕ} {c : Cursor} {at : ℕ} (w : Pairs t c at) where
 
 -- a reader that has stopped
 pub hex-stuck : {t : List ℕ} {c : Cursor} → Safe t c → not (c .spelled) ≡ true → HexRead t c (record { cursor = c; from = c .at; end = c .at })
-hex-stuck {t} {c} h g = record { found = found-stuck (hex .parse) t c h (not-true (c .spelled) g); keeps = keeps-same h; so-far = pairs-start t c h .l; run = run-here (pairs-start t c h) }
+hex-stuck {t} {c} h g = record {
+  found = found-stuck (hex .parse) t c h (not-true (c .spelled) g);
+  keeps = keeps-same h;
+  from = refl;
+  end = omega arith;
+  so-far = pairs-start t c h .l;
+  run = run-here (pairs-start t c h);
+}

@@ -9,5 +9,6 @@ pub mod Choice
 pub mod Number
 pub mod Signed
 pub mod Hex
+pub mod Table
 pub mod Rows
 pub mod Fields

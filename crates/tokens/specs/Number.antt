@@ -13,8 +13,8 @@ use Rattle.octets.specs.Decimal.{digit?, digit-in, digit-test, NoDigit, leading
 use Rattle.octets.specs.Fields.{drop-one}
 use Rattle.tokens.specs.declared.Cursor.{Cursor}
 use Rattle.tokens.specs.declared.Amount.{Amount}
-use Rattle.tokens.specs.Cursor.{Safe, Keeps, keeps-same, keeps-then, Passed, Came, Stopped, went-keeps}
-use Rattle.tokens.specs.Step.{Found, found-as, found-behind, found-stuck}
+use Rattle.tokens.specs.Cursor.{Safe, Keeps, keeps-same, keeps-then, Passed, Came, Stopped, went-keeps, clash}
+use Rattle.tokens.specs.Step.{Found, found-as, found-none, found-behind, found-stuck}
 use Rattle.tokens.specs.Leaf.{found-took, found-stop, found-same, found-entry, passed-took, passed-stop, strip-first, strip-not}
 
 -- what is kept of a number: one above 2^63 counts as 2^63, which is more than the octets of any text
@@ -36,18 +36,25 @@ capped-is n k h = go (eqb n k) refl
     go true e = eq-eqb (capped n) k (omega (arith, eqb-true n k e))
     go false e = ne-eqb (capped n) k (λ d. eqb-false n k e (omega (arith, d)))
 
--- a number was read
+-- a number was read; on a stop the value is 0
 pub record NumberRead (t : List ℕ) (c : Cursor) (r : Amount) : Type 0 where
   pub found : Found natural (λ n. r .value ≡ capped n) t c (r .cursor)
   pub keeps : Keeps t c (r .cursor)
+  pub stop : r .cursor .spelled ≡ false → r .value ≡ 0
 
 -- a number that is not 0 was read
 pub record PositiveRead (t : List ℕ) (c : Cursor) (r : Amount) : Type 0 where
   pub found : Found positive (λ n. (0 < n) × (r .value ≡ capped n)) t c (r .cursor)
   pub keeps : Keeps t c (r .cursor)
+  pub stop : r .cursor .spelled ≡ false → r .value ≡ 0
+
+-- no number: the reader stopped at place n
+pub record NoNumber (c : Cursor) (n : ℕ) (r : Amount) : Type 0 where
+  pub cursor : Stopped c n (r .cursor)
+  pub value : r .value ≡ 0
 
 -- ---- digits
--- r is what the digit x stands for, or 10 if it is none
+-- r is the number of the digit x, or 10 if it is none
 pub record DigitOf (x r : ℕ) : Type 0 where
   pub low : r ≤ 9 → x ≡ 48 + r
   pub high : 9 < r → digit? x ≡ false
@@ -108,30 +115,45 @@ pub digits-capped : {t : List ℕ} {c : Cursor} {at v : ℕ} → Digits t c at v
 digits-capped d = omega (arith, d .is)
 
 module _ {t : List ℕ} {c : Cursor} where
-  pub positive-stuck : {v : ℕ} → Safe t c → not (c .spelled) ≡ true → PositiveRead t c (record { cursor = c; value = v })
-  positive-stuck h g = record { found = found-stuck positive t c h (not-true (c .spelled) g); keeps = keeps-same h }
+  pub positive-stuck : Safe t c → not (c .spelled) ≡ true → PositiveRead t c (record { cursor = c; value = 0 })
+  positive-stuck h g = record {
+    found = found-stuck positive t c h (not-true (c .spelled) g);
+    keeps = keeps-same h;
+    stop = λ e. refl;
+  }
 
   module _ (f : Safe t c) (g : not (c .spelled) ≡ false) where
-    stops : {r : Amount} → positive (drop (c .at) t) ≡ stuck (drop (c .at) t) → Stopped c (c .at) (r .cursor) → PositiveRead t c r
-    stops e s = record { found = found-stop f (not-false (c .spelled) g) e (omega arith) (f .inside) s; keeps = went-keeps f s (omega arith) (f .inside) }
+    stops : {r : Amount} → positive (drop (c .at) t) ≡ stuck (drop (c .at) t) → NoNumber c (c .at) r
+        → PositiveRead t c r
+    stops e s = record {
+      found = found-stop f (not-false (c .spelled) g) e (omega arith) (f .inside) (s .cursor);
+      keeps = went-keeps f (s .cursor) (omega arith) (f .inside);
+      stop = λ k. s .value;
+    }
 
     -- no digit there
-    pub positive-short : {r : Amount} → length t ≤ c .at → Stopped c (c .at) (r .cursor) → PositiveRead t c r
+    pub positive-short : {r : Amount} → length t ≤ c .at → NoNumber c (c .at) r → PositiveRead t c r
     positive-short l = stops (rw (drop-of-length-le t l) positive-empty)
 
     module _ {w : ℕ} (k : c .at < length t) (q : DigitOf (getD t (c .at) 0) w) where
-      pub positive-other : {r : Amount} → 9 < w → Stopped c (c .at) (r .cursor) → PositiveRead t c r
+      pub positive-other : {r : Amount} → 9 < w → NoNumber c (c .at) r → PositiveRead t c r
       positive-other l = stops (rw (drop-one t (c .at) k) (positive-none (getD t (c .at) 0) _ no))
         where
           no : 49 ≤ getD t (c .at) 0 → getD t (c .at) 0 ≤ 57 → ⊥
           no a b = T-not (digit? (getD t (c .at) 0)) (subst (λ b. T (not b)) (sym (q .high l)) tt) (digit-test (getD t (c .at) 0) (omega arith) b)
 
-      pub positive-zero : {r : Amount} → w < 1 → Stopped c (c .at) (r .cursor) → PositiveRead t c r
+      pub positive-zero : {r : Amount} → w < 1 → NoNumber c (c .at) r → PositiveRead t c r
       positive-zero z = stops (rw (drop-one t (c .at) k) (positive-none (getD t (c .at) 0) _ λ a b. omega (arith, q .low (omega arith))))
 
     module _ {at value : ℕ} (d : Digits t c at value) where
       done : {r : Cursor} → NoDigit (drop at t) → Came c at r → PositiveRead t c (record { cursor = r; value = value })
-      done e s = record { found = found-took f (not-false (c .spelled) g) (d .goes ∙ run-stop (d .n) (drop at t) e) (d .onward) (d .within) s (d .filled, d .is); keeps = went-keeps f s (d .onward) (d .within) }
+      done e s = record {
+        found =
+            let run = d .goes ∙ run-stop (d .n) (drop at t) e in
+            found-took f (not-false (c .spelled) g) run (d .onward) (d .within) s (d .filled, d .is);
+        keeps = went-keeps f s (d .onward) (d .within);
+        stop = λ k. clash k (s .is);
+      }
 
       -- the text ends, or what comes is no digit
       pub digits-short : {r : Cursor} → length t ≤ at → Came c at r → PositiveRead t c (record { cursor = r; value = value })
@@ -167,21 +189,36 @@ module _ {t : List ℕ} {c z : Cursor} (q : Passed (48 ∷ []) t c z) where
   number-zero g = record {
     found = found-same natural (λ h. rw (passed-took q g) (sym (natural-zero (drop (c .at) t) (drop (z .at) t) (passed-took q g)))) (found-entry q {P = λ n. 0 ≡ capped n} 0 refl);
     keeps = q .keeps;
+    stop = λ e. refl;
   }
 
   pub number-other : {r : Amount} → z .spelled ≡ false → PositiveRead t c r → NumberRead t c r
   number-other {r} g y = record {
     found = found-same natural (λ h. sym (natural-other (drop (c .at) t) _ (passed-stop q g h))) (found-as (y .found) λ n h. h .1);
     keeps = y .keeps;
+    stop = y .stop;
   }
 
--- ---- a number and the fixed octets behind it
+-- ---- a number and the fixed octets after it
 abbrev pub tillParse : List ℕ → List ℕ → Parsed ℕ
 tillParse title w = and-then (natural w) λ a w. and-then (strip title w) λ u r. took a r
 
 pub record TillRead (title t : List ℕ) (c : Cursor) (r : Amount) : Type 0 where
   pub found : Found (tillParse title) (λ n. r .value ≡ capped n) t c (r .cursor)
   pub keeps : Keeps t c (r .cursor)
+  pub stop : r .cursor .spelled ≡ false → r .value ≡ 0
 
-pub till-read : {title t : List ℕ} {c d : Cursor} {n : Amount} → NumberRead t c n → Passed title t (n .cursor) d → TillRead title t c (record { cursor = d; value = n .value })
-till-read x q = record { found = found-behind (x .found) q; keeps = keeps-then (x .keeps) (q .keeps) }
+module _ {title t : List ℕ} {c d : Cursor} {n : Amount} (x : NumberRead t c n) (q : Passed title t (n .cursor) d) where
+  pub till-read : not (d .spelled) ≡ false → TillRead title t c (record { cursor = d; value = n .value })
+  till-read g = record {
+    found = found-behind (x .found) q;
+    keeps = keeps-then (x .keeps) (q .keeps);
+    stop = λ e. clash e (not-false (d .spelled) g);
+  }
+
+  pub till-stop : not (d .spelled) ≡ true → TillRead title t c (record { cursor = d; value = 0 })
+  till-stop g = record {
+    found = found-none (found-behind (x .found) q) (not-true (d .spelled) g);
+    keeps = keeps-then (x .keeps) (q .keeps);
+    stop = λ e. refl;
+  }

@@ -1,97 +1,222 @@
--- Tables of titles: each title in turn, from the last to the first. Assumes nothing.
-use mathlib.Core.Path.{_≡_, refl}
-use mathlib.Core.Bool.{Bool, true, false}
-use mathlib.Core.List.{List, [], _∷_}
-use Prim.Native.Nat.{ℕ}
+-- How a loop tries the titles of a table, row by row. Assumes nothing.
+use mathlib.Core.Path.{_≡_, refl, sym, _∙_, ap, subst}
+use mathlib.Core.Bool.{Bool, true, false, cond}
+use mathlib.Core.List.{List}
+use Prim.Native.Nat.{ℕ, zero, suc, _+_, _-_, _≤_, _<_, max}
 use Prim.Native.String.{String}
 use native.Mathlib.Omega.{arith}
-use lib.ListN.{drop}
-use Rattle.octets.specs.Lists.{ascii}
+use borrow.Author.Tests.{ltb-true, ltb-false}
+use lib.Dec.{ltb}
+use lib.ListN.{length, drop, getD}
 use Rattle.octets.specs.Parsed.{Parsed, stuck, and-then}
 use Rattle.octets.specs.Codec.{tried}
-use Rattle.options.specs.Options.{members, rows}
-use Rattle.edns.specs.Edns.{flags, rcodes}
 use Rattle.tokens.specs.declared.Cursor.{Cursor}
 use Rattle.tokens.specs.declared.Row.{Row}
-use Rattle.tokens.specs.Cursor.{left-of, Safe, Keeps, keeps-then, Passed, Stopped, went-keeps, Reads, stopped}
+use Rattle.tokens.specs.Cursor.{left-of, Safe, Keeps, keeps-then, Passed, Stopped, cursors, Reads, stopped, clash}
 use Rattle.tokens.specs.Step.{Found, moves}
-use Rattle.tokens.specs.Leaf.{entry, found-entry}
+use Rattle.tokens.specs.Leaf.{entry, found-same, found-entry}
 use Rattle.tokens.specs.Choice.{choice, found-first, Further, further-keeps, second-further}
+use Rattle.tokens.specs.Table.{tableOf, triedRows, triedIn, rows-tried}
+use Rattle.tokens.specs.Table.{RowAt, titleAt, rows-end, rows-cut, rows-row}
 
--- one of several titles was read, and this is its key
+-- one of several titles was read, and this is its key; on a stop the key is 0
 pub record RowRead (p : List ℕ → Parsed ℕ) (t : List ℕ) (c : Cursor) (r : Row) : Type 0 where
   pub found : Found p (λ n. r .key ≡ n) t c (r .cursor)
   pub keeps : Keeps t c (r .cursor)
+  pub stop : r .cursor .spelled ≡ false → r .key ≡ 0
 
--- this title, or one of those that `later` was read for
-pub record OrRow (title : List ℕ) (key : ℕ) (t : List ℕ) (c : Cursor) (later r : Row) : Type 0 where
-  pub or : (q : List ℕ → Parsed ℕ) → RowRead q t c later → RowRead (choice (entry title key) q) t c r
+-- by another parser that answers the same
+row-same : {p : List ℕ → Parsed ℕ} {t : List ℕ} {c : Cursor} {r : Row} (q : List ℕ → Parsed ℕ)
+    → ((w : List ℕ) → p w ≡ q w) → RowRead p t c r → RowRead q t c r
+row-same {t = t} {c = c} q e x = record {
+  found = found-same q (λ g. e (drop (c .at) t)) (x .found);
+  keeps = x .keeps;
+  stop = x .stop;
+}
 
--- no title: the reader stops where it is
-pub no-row : {t : List ℕ} {c : Cursor} {r : Row} → Safe t c → Stopped c (c .at) (r .cursor) → RowRead (tried []) t c r
-unfolding tried
-no-row {t} {c} {r} f s = record { found = record { reads = rw (← (s .at)) (go (c .spelled)); moves = moves (went-keeps f s (omega arith) (f .inside)) }; keeps = went-keeps f s (omega arith) (f .inside) }
+-- a table's octets in the place of its rows
+pub row-of : {table t : List ℕ} {c : Cursor} {r : Row} (rows : List (ℕ × String)) → table ≡ tableOf rows
+    → RowRead (triedIn table) t c r → RowRead (tried rows) t c r
+row-of rows e = row-same (tried rows) (λ w. rw e (rows-tried rows (length (tableOf rows)) w (omega arith)))
+
+-- ---- a stop is at the furthest place that a row reached
+-- a reader that stopped, brought on to place n
+abbrev onTo : ℕ → Cursor → Cursor
+onTo n c = record {
+  at = cond (c .spelled) (c .at) (max n (c .at));
+  to = c .to;
+  spelled = c .spelled;
+  meant = c .meant;
+  small = c .small;
+}
+
+abbrev rowOnTo : ℕ → Row → Row
+rowOnTo n r = record { cursor = onTo n (r .cursor); key = r .key }
+
+largest : (m n : ℕ) → cond (ltb m n) n m ≡ max n m
+largest m n = go (ltb m n) refl
   where
-    go : (b : Bool) → Reads t (λ n. r .key ≡ n) (r .cursor) (and-then (left-of b (drop (r .cursor .at) t)) (λ u w. stuck w))
-    go true = stopped (s .is)
-    go false = stopped (s .is)
+    go : (b : Bool) → ltb m n ≡ b → cond b n m ≡ max n m
+    go true e = omega (arith, ltb-true m n e)
+    go false e = omega (arith, ltb-false m n e)
 
-module _ {title t : List ℕ} {key : ℕ} {c d : Cursor} {later : Row} (q : Passed title t c d) where
-  pub row-here : d .spelled ≡ true → OrRow title key t c later (record { cursor = d; key = key })
-  row-here g = record { or = λ p y. record { found = found-first (entry title key) p (found-entry q key refl) g; keeps = q .keeps } }
+on-further : (n : ℕ) (c : Cursor) → Further n c (onTo n c)
+on-further n c = record {
+  goes = λ g. cursors (rw g) refl refl refl refl;
+  stops = λ g. record { is = g; at = rw (g, largest (c .at) n); to = refl; meant = refl; small = refl };
+}
 
-  pub row-other : {r : Cursor} → d .spelled ≡ false → Further (d .at) (later .cursor) r → OrRow title key t c later (record { cursor = r; key = later .key })
-  row-other g f = record {
-    or = λ p y. record {
-      found = second-further (entry title key) p (λ z n. later .key ≡ n) (found-entry q {P = λ n. key ≡ n} key refl) (y .found) g f (λ n h. h);
-      keeps = keeps-then (y .keeps) (further-keeps (y .keeps .safe) (q .keeps .safe .inside) f);
-    };
-  }
+-- a reader that is there already
+on-past : (n : ℕ) (c : Cursor) → n ≤ c .at → onTo n c ≡ c
+on-past n c h = cursors (go (c .spelled)) refl refl refl refl
+  where
+    go : (b : Bool) → cond b (c .at) (max n (c .at)) ≡ c .at
+    go true = refl
+    go false = omega arith
 
--- a title before the rows of a table
-pub row-more : {t : List ℕ} {c : Cursor} {later r : Row} (row : ℕ × String) (rows : List (ℕ × String)) → OrRow (ascii (row .1)) (row .0) t c later r → RowRead (tried rows) t c later → RowRead (tried (row ∷ rows)) t c r
-unfolding tried
-row-more row rows o y = o .or (tried rows) y
+on-on : (k m n : ℕ) (c : Cursor) → k ≡ max m n → onTo m (onTo n c) ≡ onTo k c
+on-on k m n c e = cursors (go (c .spelled)) refl refl refl refl
+  where
+    go : (b : Bool) → let at = cond b (c .at) (max n (c .at)) in cond b at (max m at) ≡ cond b (c .at) (max k (c .at))
+    go true = refl
+    go false = omega arith
 
--- five titles before the rows of a table
-rows-five : {t : List ℕ} {c : Cursor} {r₀ r₁ r₂ r₃ r₄ r₅ : Row} (u v w x y : ℕ × String) (rows : List (ℕ × String))
-    → OrRow (ascii (u .1)) (u .0) t c r₄ r₅ → OrRow (ascii (v .1)) (v .0) t c r₃ r₄ → OrRow (ascii (w .1)) (w .0) t c r₂ r₃ → OrRow (ascii (x .1)) (x .0) t c r₁ r₂ → OrRow (ascii (y .1)) (y .0) t c r₀ r₁
-    → RowRead (tried rows) t c r₀ → RowRead (tried (u ∷ v ∷ w ∷ x ∷ y ∷ rows)) t c r₅
-rows-five u v w x y rows e d c b a z = row-more u _ e (row-more v _ d (row-more w _ c (row-more x _ b (row-more y _ a z))))
+-- ---- one row
+-- a reader that stops where it is
+abbrev halted : Cursor → Cursor
+halted c = record { at = c .at; to = c .to; spelled = false; meant = c .meant; small = c .small }
 
--- ---- the tables
 module _ {t : List ℕ} {c : Cursor} where
-  pub flags-read : {r₀ r₁ r₂ : Row} → OrRow (ascii "[]") 0 t c r₁ r₂ → OrRow (ascii "[\"DO\"]") 1 t c r₀ r₁ → Safe t c → Stopped c (c .at) (r₀ .cursor) → RowRead (tried flags) t c r₂
-  unfolding flags
-  flags-read b a f s = row-more (0, "[]") ((1, "[\"DO\"]") ∷ []) b (row-more (1, "[\"DO\"]") [] a (no-row f s))
+  -- no row
+  row-none : Safe t c → RowRead (λ w. stuck w) t c (record { cursor = halted c; key = 0 })
+  row-none f = record {
+    found = record { reads = go (c .spelled); moves = moves keeps };
+    keeps = keeps;
+    stop = λ e. refl;
+  }
+    where
+      keeps : Keeps t c (halted c)
+      keeps = record {
+        safe = record { inside = f .inside; room = f .room };
+        onward = omega arith;
+        to = refl;
+        meant = refl;
+        small = refl;
+      }
 
-  module _ {r₀ r₁ r₂ r₃ r₄ r₅ : Row} where
-    pub rcodes-19 : OrRow (ascii "BADMODE") 19 t c r₄ r₅ → OrRow (ascii "BADNAME") 20 t c r₃ r₄ → OrRow (ascii "BADALG") 21 t c r₂ r₃ → OrRow (ascii "BADTRUNC") 22 t c r₁ r₂ → OrRow (ascii "BADCOOKIE") 23 t c r₀ r₁
-        → Safe t c → Stopped c (c .at) (r₀ .cursor) → RowRead (tried (drop 15 rcodes)) t c r₅
-    unfolding rcodes
-    rcodes-19 u v w x y f s = rows-five (19, "BADMODE") (20, "BADNAME") (21, "BADALG") (22, "BADTRUNC") (23, "BADCOOKIE") [] u v w x y (no-row f s)
+      go : (b : Bool) → Reads {A = ℕ} t (λ n. 0 ≡ n) (halted c) (and-then (left-of b (drop (c .at) t)) (λ u w. stuck w))
+      go true = stopped refl
+      go false = stopped refl
 
-    pub rcodes-10 : OrRow (ascii "NotZone") 10 t c r₄ r₅ → OrRow (ascii "DSOTYPENI") 11 t c r₃ r₄ → OrRow (ascii "BADSIG") 16 t c r₂ r₃ → OrRow (ascii "BADKEY") 17 t c r₁ r₂ → OrRow (ascii "BADTIME") 18 t c r₀ r₁
-        → RowRead (tried (drop 15 rcodes)) t c r₀ → RowRead (tried (drop 10 rcodes)) t c r₅
-    unfolding rcodes
-    rcodes-10 = rows-five (10, "NotZone") (11, "DSOTYPENI") (16, "BADSIG") (17, "BADKEY") (18, "BADTIME") (drop 15 rcodes)
+  module _ {title : List ℕ} (key : ℕ) {d : Cursor} (later : List ℕ → Parsed ℕ) (q : Passed title t c d) where
+    -- its title is there
+    row-here : d .spelled ≡ true → RowRead (choice (entry title key) later) t c (record { cursor = d; key = key })
+    row-here g = record {
+      found = found-first (entry title key) later (found-entry q key refl) g;
+      keeps = q .keeps;
+      stop = λ e. clash e g;
+    }
 
-    pub rcodes-5 : OrRow (ascii "Refused") 5 t c r₄ r₅ → OrRow (ascii "YXDomain") 6 t c r₃ r₄ → OrRow (ascii "YXRRSet") 7 t c r₂ r₃ → OrRow (ascii "NXRRSet") 8 t c r₁ r₂ → OrRow (ascii "NotAuth") 9 t c r₀ r₁
-        → RowRead (tried (drop 10 rcodes)) t c r₀ → RowRead (tried (drop 5 rcodes)) t c r₅
-    unfolding rcodes
-    rcodes-5 = rows-five (5, "Refused") (6, "YXDomain") (7, "YXRRSet") (8, "NXRRSet") (9, "NotAuth") (drop 10 rcodes)
+    -- its title is not there: one of the rows after it, or the further place
+    row-other : {r : Row} → d .spelled ≡ false → RowRead later t c r
+        → RowRead (choice (entry title key) later) t c (rowOnTo (d .at) r)
+    row-other {r} g y =
+        let f = on-further (d .at) (r .cursor) in
+        let x = found-entry q {P = λ n. key ≡ n} key refl in
+        record {
+          found = second-further (entry title key) later (λ z n. r .key ≡ n) x (y .found) g f (λ n h. h);
+          keeps = keeps-then (y .keeps) (further-keeps (y .keeps .safe) (q .keeps .safe .inside) f);
+          stop = y .stop;
+        }
 
-    pub rcodes-0 : OrRow (ascii "NoError") 0 t c r₄ r₅ → OrRow (ascii "FormErr") 1 t c r₃ r₄ → OrRow (ascii "ServFail") 2 t c r₂ r₃ → OrRow (ascii "NXDomain") 3 t c r₁ r₂ → OrRow (ascii "NotImp") 4 t c r₀ r₁
-        → RowRead (tried (drop 5 rcodes)) t c r₀ → RowRead (tried rcodes) t c r₅
-    unfolding rcodes
-    rcodes-0 = rows-five (0, "NoError") (1, "FormErr") (2, "ServFail") (3, "NXDomain") (4, "NotImp") (drop 5 rcodes)
+-- ---- the loop
+-- No title of the rows before `from` is in the text, and `far` is the furthest place that one reached. So what the rows
+-- from there on find, brought on to that place, is what the whole table finds.
+pub record Trying (table t : List ℕ) (c : Cursor) (from : ℕ) (far : Cursor) : Type 0 where
+  pub left : ℕ
+  pub enough : length table ≤ from + left
+  pub within : from ≤ length table
+  pub stopped : Stopped c (far .at) far
+  pub onward : c .at ≤ far .at
+  pub goes : (r : Row) → RowRead (triedRows left (drop from table)) t c r
+      → RowRead (triedIn table) t c (rowOnTo (far .at) r)
 
-    pub members-10 : OrRow (ascii "COOKIE") 10 t c r₄ r₅ → OrRow (ascii "KEEPALIVE") 11 t c r₃ r₄ → OrRow (ascii "PADDING") 12 t c r₂ r₃ → OrRow (ascii "KEYTAG") 14 t c r₁ r₂ → OrRow (ascii "EDE") 15 t c r₀ r₁
-        → Safe t c → Stopped c (c .at) (r₀ .cursor) → RowRead (tried (drop 5 members)) t c r₅
-    unfolding members rows
-    members-10 u v w x y f s = rows-five (10, "COOKIE") (11, "KEEPALIVE") (12, "PADDING") (14, "KEYTAG") (15, "EDE") [] u v w x y (no-row f s)
+pub trying-start : {t : List ℕ} {c far : Cursor} (table : List ℕ) → Stopped c (c .at) far → Trying table t c 0 far
+trying-start {t} {c} {far} table s = record {
+  left = length table;
+  enough = omega arith;
+  within = omega arith;
+  stopped = record { is = s .is; at = refl; to = s .to; meant = s .meant; small = s .small };
+  onward = omega (arith, s .at);
+  goes = λ r x.
+      let e = on-past (far .at) (r .cursor) (omega (arith, s .at, x .keeps .onward)) in
+      subst (λ (z : Cursor). RowRead (triedIn table) t c (record { cursor = z; key = r .key })) (sym e) x;
+}
 
-    pub members-3 : OrRow (ascii "NSID") 3 t c r₄ r₅ → OrRow (ascii "DAU") 5 t c r₃ r₄ → OrRow (ascii "DHU") 6 t c r₂ r₃ → OrRow (ascii "N3U") 7 t c r₁ r₂ → OrRow (ascii "EXPIRE") 9 t c r₀ r₁
-        → RowRead (tried (drop 5 members)) t c r₀ → RowRead (tried members) t c r₅
-    unfolding members rows
-    members-3 = rows-five (3, "NSID") (5, "DAU") (6, "DHU") (7, "N3U") (9, "EXPIRE") (drop 5 members)
+module _ {table t : List ℕ} {c : Cursor} {from : ℕ} {far : Cursor} (y : Trying table t c from far) where
+  abbrev Reading : Cursor → ℕ → Type 0
+  Reading r key = RowRead (triedIn table) t c (record { cursor = r; key = key })
+
+  -- no row is left
+  ends : Safe t c → ((w : List ℕ) → triedRows (y .left) (drop from table) w ≡ stuck w) → Reading far 0
+  ends f none = subst (λ (z : Cursor). Reading z 0) there (y .goes _ (row-same _ (λ w. sym (none w)) (row-none f)))
+    where
+      there : onTo (far .at) (halted c) ≡ far
+      there =
+          let s = y .stopped in
+          cursors (omega (arith, y .onward)) (sym (s .to)) (sym (s .is)) (sym (s .meant)) (sym (s .small))
+
+  pub trying-end : Safe t c → length table - from < 2 → Reading far 0
+  trying-end f h = ends f (rows-end table (y .left) from h)
+
+  pub trying-cut : {size : ℕ} → Safe t c → 2 ≤ length table - from → size ≡ getD table (from + 1) 0
+      → length table - (from + 2) < size → Reading far 0
+  trying-cut f h e k = ends f (rows-cut table (y .left) from h e k)
+
+  module _ {size : ℕ} {d : Cursor} (a : RowAt table from size) (q : Passed (titleAt table from size) t c d) where
+    -- the rows that are left, one fewer
+    fewer : (n : ℕ) × (y .left ≡ suc n)
+    fewer = go (y .left) (y .enough)
+      where
+        go : (m : ℕ) → length table ≤ from + m → (n : ℕ) × (m ≡ suc n)
+        go zero h = absurd (omega (arith, a .two))
+        go (suc n) h = (n, refl)
+
+    abbrev later : List ℕ → Parsed ℕ
+    later = triedRows (fewer .0) (drop (from + 2 + size) table)
+
+    onwards : (r : Row) → RowRead (choice (entry (titleAt table from size) (getD table from 0)) later) t c r
+        → RowRead (triedIn table) t c (rowOnTo (far .at) r)
+    onwards r x = y .goes r (row-same _ (λ w. sym (begins w)) x)
+      where
+        begins : (w : List ℕ) → triedRows (y .left) (drop from table) w
+            ≡ choice (entry (titleAt table from size) (getD table from 0)) later w
+        begins w = ap (λ (m : ℕ). triedRows m (drop from table) w) (fewer .1) ∙ rows-row table (fewer .0) from a w
+
+    pub trying-here : {key : ℕ} → d .spelled ≡ true → key ≡ getD table from 0 → Reading d key
+    trying-here {key} g e =
+        let there = on-further (far .at) d .goes g in
+        rw e (subst (λ (z : Cursor). Reading z (getD table from 0)) there (onwards _ (row-here _ later q g)))
+
+    pub trying-more : {next : Cursor} → d .spelled ≡ false → Further (d .at) far next
+        → Trying table t c (from + 2 + size) next
+    trying-more {next} g f =
+        let s = f .stops (y .stopped .is) in
+        let k : next .at ≡ max (far .at) (d .at) = s .at ∙ largest (far .at) (d .at) ∙ omega arith in
+        let o = y .stopped in
+        record {
+          left = fewer .0;
+          enough = omega (arith, y .enough, fewer .1);
+          within = omega (arith, a .two, a .whole);
+          stopped = record {
+            is = s .is;
+            at = refl;
+            to = s .to ∙ o .to;
+            meant = s .meant ∙ o .meant;
+            small = s .small ∙ o .small;
+          };
+          onward = omega (arith, k, y .onward);
+          goes = λ r x.
+              let e = on-on (next .at) (far .at) (d .at) (r .cursor) k in
+              subst (λ (z : Cursor). Reading z (r .key)) e (onwards _ (row-other _ later q g x));
+        }

@@ -1,5 +1,5 @@
 -- Signed numbers: what is kept of one, and how it is read. Assumes nothing.
-use mathlib.Core.Path.{_≡_, refl, sym, ap}
+use mathlib.Core.Path.{_≡_, refl, sym, _∙_, ap}
 use mathlib.Core.Logic.{inl, inr}
 use mathlib.Core.Bool.{Bool, true, false, cond}
 use mathlib.Core.List.{List, [], _∷_}
@@ -16,7 +16,7 @@ use Rattle.strict.specs.Meaning.{ttl?, unsigned}
 use Rattle.tokens.specs.declared.Cursor.{Cursor}
 use Rattle.tokens.specs.declared.Amount.{Amount}
 use Rattle.tokens.specs.declared.Ttl.{Ttl}
-use Rattle.tokens.specs.Cursor.{Keeps, keeps-then, Passed}
+use Rattle.tokens.specs.Cursor.{Keeps, keeps-then, Passed, clash}
 use Rattle.tokens.specs.Step.{Found, found-lit, found-map}
 use Rattle.tokens.specs.Leaf.{found-same, passed-took, passed-stop, strip-first, AtOnce, goes, stays, strip-at-once}
 use Rattle.tokens.specs.Number.{capped, NumberRead, PositiveRead}
@@ -25,10 +25,12 @@ use Rattle.tokens.specs.Number.{capped, NumberRead, PositiveRead}
 abbrev pub Kept : Bool → ℕ → Signed → Type 0
 Kept fits bits s = (fits ≡ ttl? s) × (T fits → bits ≡ unsigned s)
 
--- a signed number was read
+-- a signed number was read; on a stop it counts as 0, and out of range the bits are 0
 pub record SignedRead (t : List ℕ) (c : Cursor) (r : Ttl) : Type 0 where
   pub found : Found (signedNumber .parse) (Kept (r .fits) (r .bits)) t c (r .cursor)
   pub keeps : Keeps t c (r .cursor)
+  pub stop : r .cursor .spelled ≡ false → (r .fits ≡ true) × (r .bits ≡ 0)
+  pub over : r .fits ≡ false → r .bits ≡ 0
 
 -- ---- what the parser answers
 -- a parser of numbers that stops, stops at the first octet
@@ -62,7 +64,7 @@ natural-at-once (d ∷ w) = go (eqb d 48)
 abbrev joined : Parsed ℕ → Parsed ℕ → Parsed Signed
 joined o p = and-then (or-else (and-then o λ a r. took (inl a) r) (and-then p λ b r. took (inr b) r)) λ u r. took (made plus minus u) r
 
--- where no minus stands, a number
+-- with no minus there, a number
 signed-plus : (w u : List ℕ) → strip (45 ∷ []) w ≡ stuck u → and-then (natural w) (λ n r. took (plus n) r) ≡ signedNumber .parse w
 unfolding signedNumber
 signed-plus w u e = go (natural-at-once w) (strip-at-once 45 w) e
@@ -76,7 +78,7 @@ signed-plus w u e = go (natural-at-once w) (strip-at-once 45 w) e
     go stays goes e = absurd (took≢stuck e)
     go stays stays e = ap (λ v. stuck v) (one (ltb (length w) (length w)))
 
--- behind a minus, a number that is not 0
+-- after a minus, a number that is not 0
 signed-minus : (w r : List ℕ) → strip (45 ∷ []) w ≡ took tt r → and-then (positive r) (λ n r. took (minus n) r) ≡ signedNumber .parse w
 unfolding signedNumber natural positive
 signed-minus w r e = rw (strip-first 45 w r e) (go (positive-at-once r))
@@ -89,30 +91,60 @@ signed-minus w r e = rw (strip-first 45 w r e) (go (positive-at-once r))
 pub record Plus (a : Amount) (r : Ttl) : Type 0 where
   pub cursor : r .cursor ≡ a .cursor
   pub kept : (n : ℕ) → a .value ≡ capped n → Kept (r .fits) (r .bits) (plus n)
+  pub none : a .value ≡ 0 → (r .fits ≡ true) × (r .bits ≡ 0)
+  pub over : r .fits ≡ false → r .bits ≡ 0
 
 pub record Minus (a : Amount) (r : Ttl) : Type 0 where
   pub cursor : r .cursor ≡ a .cursor
   pub kept : (n : ℕ) → (0 < n) × (a .value ≡ capped n) → Kept (r .fits) (r .bits) (minus n)
+  pub none : a .value ≡ 0 → (r .fits ≡ true) × (r .bits ≡ 0)
+  pub over : r .fits ≡ false → r .bits ≡ 0
 
 module _ {a : Amount} where
   pub plus-over : 2147483647 < a .value → Plus a (record { cursor = a .cursor; bits = 0; fits = false })
   unfolding ttl?
-  plus-over h = record { cursor = refl; kept = λ n e. (sym (le-ltb n 2147483648 (omega arith)), λ t. absurd t) }
+  plus-over h = record {
+    cursor = refl;
+    kept = λ n e. (sym (le-ltb n 2147483648 (omega arith)), λ t. absurd t);
+    none = λ e. absurd (omega arith);
+    over = λ e. refl;
+  }
 
   pub plus-fits : {b : ℕ} → a .value ≤ 2147483647 → b ≡ a .value → Plus a (record { cursor = a .cursor; bits = b; fits = true })
   unfolding ttl? unsigned
-  plus-fits h d = record { cursor = refl; kept = λ n e. (sym (lt-ltb n 2147483648 (omega arith)), λ t. omega arith) }
+  plus-fits h d = record {
+    cursor = refl;
+    kept = λ n e. (sym (lt-ltb n 2147483648 (omega arith)), λ t. omega arith);
+    none = λ e. (refl, d ∙ e);
+    over = λ e. clash e refl;
+  }
 
   pub minus-over : 2147483648 < a .value → Minus a (record { cursor = a .cursor; bits = 0; fits = false })
   unfolding ttl?
-  minus-over h = record { cursor = refl; kept = λ n e. (sym (lt-leb n 2147483648 (omega (arith, e .1))), λ t. absurd t) }
+  minus-over h = record {
+    cursor = refl;
+    kept = λ n e. (sym (lt-leb n 2147483648 (omega (arith, e .1))), λ t. absurd t);
+    none = λ e. absurd (omega arith);
+    over = λ e. refl;
+  }
 
-  pub minus-zero : {b : ℕ} {f : Bool} → a .value ≡ 0 → Minus a (record { cursor = a .cursor; bits = b; fits = f })
-  minus-zero h = record { cursor = refl; kept = λ n e. absurd (omega (arith, e)) }
+  pub minus-zero : a .value ≡ 0 → Minus a (record { cursor = a .cursor; bits = 0; fits = true })
+  minus-zero h = record {
+    cursor = refl;
+    kept = λ n e. absurd (omega (arith, e));
+    none = λ e. (refl, refl);
+    over = λ e. refl;
+  }
 
-  pub minus-fits : {b : ℕ} → a .value ≤ 2147483648 → b ≡ 4294967296 - a .value → Minus a (record { cursor = a .cursor; bits = b; fits = true })
+  pub minus-fits : {b : ℕ} → a .value ≤ 2147483648 → (a .value ≡ 0 → ⊥) → b ≡ 4294967296 - a .value
+      → Minus a (record { cursor = a .cursor; bits = b; fits = true })
   unfolding ttl? unsigned
-  minus-fits h d = record { cursor = refl; kept = λ n e. (sym (le-leb n 2147483648 (omega (arith, e .1))), λ t. omega (arith, e .1)) }
+  minus-fits h z d = record {
+    cursor = refl;
+    kept = λ n e. (sym (le-leb n 2147483648 (omega (arith, e .1))), λ t. omega (arith, e .1));
+    none = λ e. absurd (z e);
+    over = λ e. clash e refl;
+  }
 
 -- ---- the reader
 module _ {t : List ℕ} {c m : Cursor} (q : Passed (45 ∷ []) t c m) {a : Amount} {r : Ttl} where
@@ -120,10 +152,14 @@ module _ {t : List ℕ} {c m : Cursor} (q : Passed (45 ∷ []) t c m) {a : Amoun
   signed-negative g y k = record {
     found = found-same (signedNumber .parse) (λ h. rw (passed-took q g) (signed-minus (drop (c .at) t) (drop (m .at) t) (passed-took q g))) (found-lit q (found-map minus (k .kept) (rw (← (k .cursor)) at (y .found))));
     keeps = keeps-then (q .keeps) (rw (← (k .cursor)) at (y .keeps));
+    stop = λ e. k .none (y .stop (rw (← (k .cursor)) e));
+    over = k .over;
   }
 
   pub signed-number : m .spelled ≡ false → NumberRead t c a → Plus a r → SignedRead t c r
   signed-number g y k = record {
     found = found-same (signedNumber .parse) (λ h. signed-plus (drop (c .at) t) _ (passed-stop q g h)) (found-map plus (k .kept) (rw (← (k .cursor)) at (y .found)));
     keeps = rw (← (k .cursor)) at (y .keeps);
+    stop = λ e. k .none (y .stop (rw (← (k .cursor)) e));
+    over = k .over;
   }

@@ -1,6 +1,6 @@
 -- Readers one after another, and what they write. Assumes nothing.
 use mathlib.Core.Path.{_≡_, refl, sym, _∙_, subst}
-use mathlib.Core.Bool.{Bool, true, false, not, _&&_, and-true, and-false, and-assoc}
+use mathlib.Core.Bool.{Bool, true, false, not, cond, _&&_, and-true, and-false, and-assoc}
 use mathlib.Core.List.{List, [], _∷_, _++_}
 use Prim.Native.Nat.{ℕ, _+_, _-_, _≤_, _<_}
 use native.Mathlib.Omega.{arith}
@@ -13,7 +13,7 @@ use Rattle.octets.specs.Parsed.{Parsed, took, stuck, and-then, strip, took≢st
 use Rattle.octets.specs.Codec.{Codec, exact}
 use Rattle.octets.specs.Overlay.{Wrote, then, nothing, before, each-append, each-single}
 use Rattle.tokens.specs.declared.Cursor.{Cursor}
-use Rattle.tokens.specs.Cursor.{left-of, rest, Safe, Keeps, Passed, Reads, stopped, taken, reads-as, reads-at}
+use Rattle.tokens.specs.Cursor.{left-of, rest, Safe, Keeps, Passed, Reads, stopped, taken, reads-as, reads-at, clash}
 
 -- ---- what is read, whatever is done with it
 pub then-then : {A B C : Type 0} (o : Parsed A) (f : A → List ℕ → Parsed B) (g : B → List ℕ → Parsed C) → and-then (and-then o f) g ≡ and-then o (λ a r. and-then (f a r) g)
@@ -43,6 +43,14 @@ found-stuck {A} {P} p t c h g = record { reads = subst (λ b. Reads t P c (and-t
 module _ {A : Type 0} {P : A → Type 0} {t : List ℕ} {p : List ℕ → Parsed A} where
   pub found-as : {Q : A → Type 0} {c r : Cursor} → Found p P t c r → ((a : A) → P a → Q a) → Found p Q t c r
   found-as x h = record { reads = reads-as (x .reads) h; moves = x .moves }
+
+  -- where the reader stops there is nothing to say of a value
+  pub found-none : {Q : A → Type 0} {c r : Cursor} → Found p P t c r → r .spelled ≡ false → Found p Q t c r
+  found-none {Q} {c} {r} x e = record { reads = go (x .reads); moves = x .moves }
+    where
+      go : {o : Parsed A} → Reads t P r o → Reads t Q r o
+      go (stopped g) = stopped g
+      go (taken g v) = clash e g
 
   -- where the reader has not stopped, what p finds there
   pub found-there : {c r : Cursor} → Found p P t c r → c .spelled ≡ true → Reads t P r (p (drop (c .at) t))
@@ -102,7 +110,7 @@ module _ {A : Type 0} {P : A → Type 0} {t : List ℕ} {p : List ℕ → Parsed
       go (stopped g) y = same (rw g at y)
       go (taken {a} g v) y = two v (rw g at y)
 
--- one thing after another, where the first, k, tells what the second is
+-- one thing after another, where the first, k, decides what the second is
 pub found-by : {A : Type 0} {B : A → Type 0} {p : List ℕ → Parsed A} {t : List ℕ} {c r s : Cursor} (q : (a : A) → List ℕ → Parsed (B a)) (Q : (a : A) → B a → Type 0) (k : A)
     → Found p (λ a. k ≡ a) t c r → Found (q k) (Q k) t r s
     → Found {A = (a : A) × B a} (λ w. and-then (p w) λ a w. and-then (q a w) λ b r. took (a, b) r) (λ u. (k ≡ u .0) × Q (u .0) (u .1)) t c s
@@ -164,7 +172,7 @@ put-then {ok = ok} {ok′ = ok′} {wire = wire} {wire′ = wire′} {c = c} {r 
     before : T (s .meant) → T (r .meant)
     before k = and-left (r .meant) (ok′ y) (subst T (q .meant) k)
 
--- with nothing written before it; with nothing written behind it; of the same value, seen another way
+-- with nothing written before it; with nothing written after it; of the same value, seen another way
 module _ {A : Type 0} {ok : A → Bool} {wire : A → List ℕ} {t b b′ : List ℕ} {c r s : Cursor} {a : A} where
   pub put-from : Keeps t c r → Put ok wire r b s b′ a → Put ok wire c b s b′ a
   put-from k h = record {
@@ -228,7 +236,7 @@ module _ {A : Type 0} {ok : A → Bool} {wire : A → List ℕ} {p : List ℕ �
   step-pair x y = found-as (found-pair x y) λ u h. put-then (h .0) (h .1)
 
 -- ---- octets written and judgements made where nothing is read
--- places for n octets of the message were held, unless they go past its limit
+-- places for n octets of the message were held, unless they go past its limit; then the place is as it was
 pub record Held (n : ℕ) (c r : Cursor) : Type 0 where
   pub at : r .at ≡ c .at
   pub spelled : r .spelled ≡ c .spelled
@@ -236,6 +244,7 @@ pub record Held (n : ℕ) (c r : Cursor) : Type 0 where
   pub meant : r .meant ≡ c .meant
   pub small : r .small ≡ (c .small && leb (c .to + n) 65535)
   pub to : T (r .small) → r .to ≡ c .to + n
+  pub place : r .to ≡ cond (leb (c .to + n) 65535) (c .to + n) (c .to)
 
 module _ {n : ℕ} {c r : Cursor} (k : c .to ≤ 65535) (at : r .at ≡ c .at) (spelled : r .spelled ≡ c .spelled) (meant : r .meant ≡ c .meant) where
   pub held-over : 65535 - c .to < n → r .to ≡ c .to → r .small ≡ false → Held n c r
@@ -246,6 +255,7 @@ module _ {n : ℕ} {c r : Cursor} (k : c .to ≤ 65535) (at : r .at ≡ c .at) (
     meant = meant;
     small = small ∙ rw (lt-leb (c .to + n) 65535 (omega arith)) (sym (and-false (c .small)));
     to = λ t. absurd (subst T small t);
+    place = rw (lt-leb (c .to + n) 65535 (omega arith)) to;
   }
 
   pub held : n ≤ 65535 - c .to → r .to ≡ c .to + n → r .small ≡ c .small → Held n c r
@@ -256,13 +266,14 @@ module _ {n : ℕ} {c r : Cursor} (k : c .to ≤ 65535) (at : r .at ≡ c .at) (
     meant = meant;
     small = small ∙ rw (le-leb (c .to + n) 65535 (omega arith)) (sym (and-true (c .small)));
     to = λ t. to;
+    place = rw (le-leb (c .to + n) 65535 (omega arith)) to;
   }
 
 -- what was held is within the limit
 pub held-room : {n : ℕ} {c r : Cursor} → Held n c r → not (r .small) ≡ false → c .to + n ≤ 65535
 held-room {n} {c} {r} h e = leb→le (c .to + n) 65535 (and-right (c .small) _ (subst T (h .small) (subst T (sym (not-false (r .small) e)) tt)))
 
--- these octets were written, unless they go past the limit
+-- these octets were written, unless the message is past its limit; then the buffer is as it was
 pub record Emits (xs : List ℕ) (c : Cursor) (b : List ℕ) (r : Cursor) (b′ : List ℕ) : Type 0 where
   pub at : r .at ≡ c .at
   pub spelled : r .spelled ≡ c .spelled
@@ -270,13 +281,33 @@ pub record Emits (xs : List ℕ) (c : Cursor) (b : List ℕ) (r : Cursor) (b′ 
   pub meant : r .meant ≡ c .meant
   pub small : r .small ≡ (c .small && leb (c .to + length xs) 65535)
   pub wrote : T (r .small) → Wrote b (c .to) xs b′ (r .to)
+  pub place : r .to ≡ cond (leb (c .to + length xs) 65535) (c .to + length xs) (c .to)
+  pub stays : r .small ≡ false → b′ ≡ b
 
 module _ {xs : List ℕ} {c r : Cursor} (h : Held (length xs) c r) where
   pub emits-none : (b : List ℕ) → not (r .small) ≡ true → Emits xs c b r b
-  emits-none b e = record { at = h .at; spelled = h .spelled; room = h .room; meant = h .meant; small = h .small; wrote = λ s. absurd (subst T (not-true (r .small) e) s) }
+  emits-none b e = record {
+    at = h .at;
+    spelled = h .spelled;
+    room = h .room;
+    meant = h .meant;
+    small = h .small;
+    wrote = λ s. absurd (subst T (not-true (r .small) e) s);
+    place = h .place;
+    stays = λ k. refl;
+  }
 
-  pub emits : {b b′ : List ℕ} {m : ℕ} → Wrote b (c .to) xs b′ m → Emits xs c b r b′
-  emits w = record { at = h .at; spelled = h .spelled; room = h .room; meant = h .meant; small = h .small; wrote = λ s. record { place = h .to s; text = w .text } }
+  pub emits : {b b′ : List ℕ} {m : ℕ} → not (r .small) ≡ false → Wrote b (c .to) xs b′ m → Emits xs c b r b′
+  emits e w = record {
+    at = h .at;
+    spelled = h .spelled;
+    room = h .room;
+    meant = h .meant;
+    small = h .small;
+    wrote = λ s. record { place = h .to s; text = w .text };
+    place = h .place;
+    stays = λ k. clash k (not-false (r .small) e);
+  }
 
 -- `meant` only if this holds too
 pub record Judged (ok : Bool) (c r : Cursor) : Type 0 where
@@ -331,7 +362,7 @@ module _ {A : Type 0} {wire : A → List ℕ} {c : Cursor} {b : List ℕ} {a : A
       earlier : T (s .meant) → T (r .meant)
       earlier y = and-left (r .meant) k (subst T (j .meant) y)
 
-  -- octets behind those of a value
+  -- octets after those of a value
   pub put-emit : {ok : A → Bool} {r s : Cursor} {b′ b″ xs : List ℕ} → Put ok wire c b r b′ a → Emits xs r b′ s b″ → Put ok (λ a. wire a ++ xs) c b s b″ a
   put-emit {ok} {r} {s} {b′} {b″} {xs} p e = put-as {ok = λ (u : A × Unit {0}). ok (u .0) && true} (sym (and-true (ok a))) refl (put-then p written)
     where

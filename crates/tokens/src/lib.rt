@@ -3,25 +3,25 @@ ghost use mathlib.Core.Path.{_≡_};
 ghost use mathlib.Core.Bool.{true, false, not, _&&_, _||_};
 ghost use Prim.Native.Nat.{_+_, _-_, _*_, _^_, _<_, _≤_};
 ghost use mathlib.Core.List.{[], _∷_};
-ghost use lib.ListN.{length, drop};
+ghost use lib.ListN.{length};
 ghost use Rattle.octets.specs.Lists.{octet?, word?, long?};
 ghost use Rattle.octets.specs.Fields.{two, four};
 ghost use Rattle.octets.specs.Codec.{tried};
-ghost use Rattle.octets.specs.Overlay.{Wrote};
 ghost use Rattle.options.specs.Options.{members};
 ghost use Rattle.edns.specs.Edns.{flags, rcodes};
-ghost use Rattle.strict.specs.Meaning.{ttl?, unsigned};
 ghost use Rattle.tokens.specs.Cursor.{Safe, Passed, Stopped, Came};
 ghost use Rattle.tokens.specs.Step.{Held, Emits, Judged};
 ghost use Rattle.tokens.specs.Place.{Byte};
 ghost use Rattle.tokens.specs.Items.{comma-of};
 ghost use Rattle.tokens.specs.Choice.{Further};
-ghost use Rattle.tokens.specs.Number.{capped, NumberRead, TillRead, PositiveRead, DigitOf};
-ghost use Rattle.tokens.specs.Signed.{Kept, SignedRead, Plus, Minus};
+ghost use Rattle.tokens.specs.Number.{capped, NumberRead, TillRead, PositiveRead, NoNumber, DigitOf};
+ghost use Rattle.tokens.specs.Signed.{SignedRead, Plus, Minus};
 ghost use Rattle.tokens.specs.Hex.{HexTest, HexAt, Quoted, HexRead};
-ghost use Rattle.tokens.specs.Rows.{RowRead, OrRow};
-ghost use Rattle.tokens.specs.Fields.{Done};
+ghost use Rattle.tokens.specs.Table.{tableOf, triedIn};
+ghost use Rattle.tokens.specs.Rows.{RowRead};
+ghost use Rattle.tokens.specs.Fields.{NumberPut, TtlPut};
 use octets::put_all;
+use octets::wide;
 
 // Where the reader is in a text. `spelled`: all before `at` is within the grammar; if not, nothing more is read, and `at` is the first octet at which no text
 // goes on. `meant`: a message can have the text so far, limits of size aside. `small`: the message so far is within its limit. `to`: where its next octet goes.
@@ -33,6 +33,7 @@ pub struct Cursor {
     pub small: bool,
 }
 
+// The reader comes to a place.
 pub fn came(c: Cursor, at: usize) -> Cursor
     ensures { λ r. ⌜ Came c at r ⌝ }
 {
@@ -45,6 +46,7 @@ pub fn came(c: Cursor, at: usize) -> Cursor
     }
 }
 
+// The reader stops at a place.
 pub fn stop(c: Cursor, at: usize) -> Cursor
     ensures { λ r. ⌜ Stopped c at r ⌝ }
 {
@@ -105,7 +107,7 @@ pub fn judge(c: Cursor, ok: bool) -> Cursor
     }
 }
 
-// Holds places for n octets of the message, unless they go past its limit.
+// Holds places for n octets of the message, unless they go past its limit. Then `to` stays.
 pub fn hold(c: Cursor, n: usize) -> Cursor
     requires { ⌜ c .to ≤ 65535 ⌝ }
     ensures { λ r. ⌜ Held n c r ⌝ }
@@ -129,7 +131,7 @@ pub fn hold(c: Cursor, n: usize) -> Cursor
     }
 }
 
-// Writes octets of the message, unless they go past its limit.
+// Writes octets of the message, unless they go past its limit. Then the buffer stays.
 pub fn emit(c: Cursor, octets: &[u8], out: &mut [u8]) -> Cursor
     requires { ⌜ c .to ≤ 65535 ⌝ }
     ensures { λ r. ⌜ Emits (now (octets .entry)) c (now (out .entry)) r (now (out .exit)) ⌝ }
@@ -165,12 +167,14 @@ pub fn octet_at(text: &[u8], at: usize) -> u8
     0
 }
 
+// Both of two tests.
 pub fn both(a: bool, b: bool) -> bool
     ensures { λ r. ⌜ r ≡ (a && b) ⌝ }
 {
     a && b
 }
 
+// One of two tests, or both.
 pub fn either(a: bool, b: bool) -> bool
     ensures { λ r. ⌜ r ≡ (a || b) ⌝ }
 {
@@ -185,7 +189,7 @@ pub struct Amount {
 
 // No number: the reader stops at `at`.
 fn none(c: Cursor, at: usize) -> Amount
-    ensures { λ r. ⌜ Stopped c at (r .cursor) ⌝ }
+    ensures { λ r. ⌜ NoNumber c at r ⌝ }
 {
     Amount {
         cursor: stop(c, at),
@@ -193,7 +197,7 @@ fn none(c: Cursor, at: usize) -> Amount
     }
 }
 
-// What a digit stands for; 10 if it is none.
+// The number of a digit; 10 if it is none.
 fn digit(x: u8) -> u64
     ensures { λ r. ⌜ DigitOf x r ⌝ }
 {
@@ -263,7 +267,7 @@ fn positive(text: &[u8], c: Cursor) -> Amount
     }
 }
 
-// A number: 0 alone, or one that is not 0. A digit behind the 0 is left.
+// A number: 0 alone, or one that is not 0. A digit after the 0 is left. On a stop the value is 0.
 pub fn number(text: &[u8], c: Cursor) -> Amount
     requires { ⌜ Safe (now text) c ⌝ }
     ensures { λ r. ⌜ NumberRead (now (text .entry)) c r ⌝ }
@@ -278,19 +282,26 @@ pub fn number(text: &[u8], c: Cursor) -> Amount
     positive(text, c)
 }
 
-// A number and the fixed octets behind it.
+// A number and the fixed octets after it. On a stop the value is 0.
 pub fn till(text: &[u8], c: Cursor, title: &[u8]) -> Amount
     requires { ⌜ Safe (now text) c ⌝ }
     ensures { λ r. ⌜ TillRead (now (title .entry)) (now (text .entry)) c r ⌝ }
 {
     let n = number(text, c);
+    let d = literal(text, n.cursor, title);
+    if !d.spelled {
+        return Amount {
+            cursor: d,
+            value: 0,
+        };
+    }
     Amount {
-        cursor: literal(text, n.cursor, title),
+        cursor: d,
         value: n.value,
     }
 }
 
-// A TTL that was read: whether it is within 32 bits with a sign, and if so its bits.
+// A TTL that was read: whether it is within 32 bits with a sign, and if so its bits, else 0.
 pub struct Ttl {
     pub cursor: Cursor,
     pub bits: u32,
@@ -317,7 +328,7 @@ fn plus(a: Amount) -> Ttl
     }
 }
 
-// A number behind a minus, in two's complement. It is not 0; of 0 nothing is said.
+// A number after a minus, in two's complement. 0 is no such number, and counts as a stop.
 fn minus(a: Amount) -> Ttl
     ensures { λ r. ⌜ Minus a r ⌝ }
 {
@@ -344,7 +355,7 @@ fn minus(a: Amount) -> Ttl
     }
 }
 
-// A number, or a minus and a number that is not 0.
+// A number, or a minus and a number that is not 0. On a stop it counts as 0.
 pub fn signed(text: &[u8], c: Cursor) -> Ttl
     requires { ⌜ Safe (now text) c ⌝ }
     ensures { λ r. ⌜ SignedRead (now (text .entry)) c r ⌝ }
@@ -356,7 +367,7 @@ pub fn signed(text: &[u8], c: Cursor) -> Ttl
     plus(number(text, c))
 }
 
-// Hexadecimal digits that were read, two for an octet: they stand from `from` to `end`.
+// Hexadecimal digits that were read, two for an octet: they are from `from` to `end`.
 pub struct Span {
     pub cursor: Cursor,
     pub from: usize,
@@ -382,7 +393,7 @@ fn is_hex(x: u8) -> bool
     false
 }
 
-// Whether such a digit stands at a place.
+// Whether such a digit is at a place.
 fn hex_at(text: &[u8], at: usize) -> bool
     ensures { λ r. ⌜ HexAt (now (text .entry)) at r ⌝ }
 {
@@ -400,7 +411,7 @@ fn quote(text: &[u8], c: Cursor, at: usize) -> Cursor
     literal(text, came(c, at), b"\"")
 }
 
-// Digits in pairs, and the quote behind them.
+// Digits in pairs, and the quote after them. On a stop, the pairs before it.
 pub fn hex(text: &[u8], c: Cursor) -> Span
     requires { ⌜ Safe (now text) c ⌝ }
     ensures { λ r. ⌜ HexRead (now (text .entry)) c r ⌝ }
@@ -435,88 +446,86 @@ pub fn hex(text: &[u8], c: Cursor) -> Span
     }
 }
 
-// A title of a table that was read, and its key.
+// A title of a table that was read, and its key. On a stop the key is 0.
 pub struct Row {
     pub cursor: Cursor,
     pub key: u32,
 }
 
-// No title: the reader stops where it is.
-fn no_row(c: Cursor) -> Row
-    ensures { λ r. ⌜ Stopped c (c .at) (r .cursor) ⌝ }
+// The title of one of a table's rows, tried in order. Where none is there, the reader stops at the furthest place that
+// a row reached. A table has for each row its key, the length of its title, and its title; it ends before a row that is
+// not whole.
+fn row_of(text: &[u8], c: Cursor, table: &[u8]) -> Row
+    requires { ⌜ Safe (now text) c ⌝ }
+    ensures { λ r. ⌜ RowRead (triedIn (now (table .entry))) (now (text .entry)) c r ⌝ }
 {
-    let at = c.at;
-    Row {
-        cursor: stop(c, at),
-        key: 0,
+    let start = c.at;
+    let mut far = stop(c, start);
+    let mut from = 0;
+    loop {
+        if table.len() - from < 2 {
+            return Row {
+                cursor: far,
+                key: 0,
+            };
+        }
+        let size = wide(table[from + 1]);
+        let title = from + 2;
+        if table.len() - title < size {
+            return Row {
+                cursor: far,
+                key: 0,
+            };
+        }
+        let next = title + size;
+        let d = literal(text, c, &table[title..next]);
+        if d.spelled {
+            return Row {
+                cursor: d,
+                key: wide(table[from]) as u32,
+            };
+        }
+        far = further(far, d.at);
+        from = next;
     }
 }
 
-// This title, or one of those of the rows behind it, which were read from the same place on. Where none stands there, the one that came furthest tells where.
-fn or_row(text: &[u8], c: Cursor, title: &[u8], key: u32, later: Row) -> Row
-    requires { ⌜ Safe (now text) c ⌝ }
-    ensures { λ r. ⌜ OrRow (now (title .entry)) key (now (text .entry)) c later r ⌝ }
-{
-    let d = literal(text, c, title);
-    if d.spelled {
-        return Row {
-            cursor: d,
-            key: key,
-        };
-    }
-    Row {
-        cursor: further(later.cursor, d.at),
-        key: later.key,
-    }
-}
+// FLAGS by the DO bit.
+const FLAGS: [u8; 12] = *b"\x00\x02[]\
+    \x01\x06[\"DO\"]";
 
 // FLAGS.
 pub fn flags(text: &[u8], c: Cursor) -> Row
     requires { ⌜ Safe (now text) c ⌝ }
     ensures { λ r. ⌜ RowRead (tried flags) (now (text .entry)) c r ⌝ }
 {
-    let r0 = no_row(c);
-    let r1 = or_row(text, c, b"[\"DO\"]", 1, r0);
-    or_row(text, c, b"[]", 0, r1)
+    row_of(text, c, &FLAGS)
 }
 
-// RCODE: the rows from 19 on.
-fn rcode_19(text: &[u8], c: Cursor) -> Row
-    requires { ⌜ Safe (now text) c ⌝ }
-    ensures { λ r. ⌜ RowRead (tried (drop 15 rcodes)) (now (text .entry)) c r ⌝ }
+// RCODE names, in the octets of a table.
+pub fn rcode_names() -> [u8; 184]
+    ensures { λ r. ⌜ r ≡ tableOf rcodes ⌝ }
 {
-    let r0 = no_row(c);
-    let r1 = or_row(text, c, b"BADCOOKIE", 23, r0);
-    let r2 = or_row(text, c, b"BADTRUNC", 22, r1);
-    let r3 = or_row(text, c, b"BADALG", 21, r2);
-    let r4 = or_row(text, c, b"BADNAME", 20, r3);
-    or_row(text, c, b"BADMODE", 19, r4)
-}
-
-// RCODE: the rows from 10 on.
-fn rcode_10(text: &[u8], c: Cursor) -> Row
-    requires { ⌜ Safe (now text) c ⌝ }
-    ensures { λ r. ⌜ RowRead (tried (drop 10 rcodes)) (now (text .entry)) c r ⌝ }
-{
-    let r0 = rcode_19(text, c);
-    let r1 = or_row(text, c, b"BADTIME", 18, r0);
-    let r2 = or_row(text, c, b"BADKEY", 17, r1);
-    let r3 = or_row(text, c, b"BADSIG", 16, r2);
-    let r4 = or_row(text, c, b"DSOTYPENI", 11, r3);
-    or_row(text, c, b"NotZone", 10, r4)
-}
-
-// RCODE: the rows from 5 on.
-fn rcode_5(text: &[u8], c: Cursor) -> Row
-    requires { ⌜ Safe (now text) c ⌝ }
-    ensures { λ r. ⌜ RowRead (tried (drop 5 rcodes)) (now (text .entry)) c r ⌝ }
-{
-    let r0 = rcode_10(text, c);
-    let r1 = or_row(text, c, b"NotAuth", 9, r0);
-    let r2 = or_row(text, c, b"NXRRSet", 8, r1);
-    let r3 = or_row(text, c, b"YXRRSet", 7, r2);
-    let r4 = or_row(text, c, b"YXDomain", 6, r3);
-    or_row(text, c, b"Refused", 5, r4)
+    *b"\x00\x07NoError\
+      \x01\x07FormErr\
+      \x02\x08ServFail\
+      \x03\x08NXDomain\
+      \x04\x06NotImp\
+      \x05\x07Refused\
+      \x06\x08YXDomain\
+      \x07\x07YXRRSet\
+      \x08\x07NXRRSet\
+      \x09\x07NotAuth\
+      \x0A\x07NotZone\
+      \x0B\x09DSOTYPENI\
+      \x10\x06BADSIG\
+      \x11\x06BADKEY\
+      \x12\x07BADTIME\
+      \x13\x07BADMODE\
+      \x14\x07BADNAME\
+      \x15\x06BADALG\
+      \x16\x08BADTRUNC\
+      \x17\x09BADCOOKIE"
 }
 
 // RCODE.
@@ -524,44 +533,34 @@ pub fn rcode(text: &[u8], c: Cursor) -> Row
     requires { ⌜ Safe (now text) c ⌝ }
     ensures { λ r. ⌜ RowRead (tried rcodes) (now (text .entry)) c r ⌝ }
 {
-    let r0 = rcode_5(text, c);
-    let r1 = or_row(text, c, b"NotImp", 4, r0);
-    let r2 = or_row(text, c, b"NXDomain", 3, r1);
-    let r3 = or_row(text, c, b"ServFail", 2, r2);
-    let r4 = or_row(text, c, b"FormErr", 1, r3);
-    or_row(text, c, b"NoError", 0, r4)
+    let table = rcode_names();
+    row_of(text, c, &table)
 }
 
-// An option's name: the rows from 10 on.
-fn option_10(text: &[u8], c: Cursor) -> Row
-    requires { ⌜ Safe (now text) c ⌝ }
-    ensures { λ r. ⌜ RowRead (tried (drop 5 members)) (now (text .entry)) c r ⌝ }
-{
-    let r0 = no_row(c);
-    let r1 = or_row(text, c, b"EDE", 15, r0);
-    let r2 = or_row(text, c, b"KEYTAG", 14, r1);
-    let r3 = or_row(text, c, b"PADDING", 12, r2);
-    let r4 = or_row(text, c, b"KEEPALIVE", 11, r3);
-    or_row(text, c, b"COOKIE", 10, r4)
-}
+// Option names by code.
+const OPTIONS: [u8; 70] = *b"\x03\x04NSID\
+    \x05\x03DAU\
+    \x06\x03DHU\
+    \x07\x03N3U\
+    \x09\x06EXPIRE\
+    \x0A\x06COOKIE\
+    \x0B\x09KEEPALIVE\
+    \x0C\x07PADDING\
+    \x0E\x06KEYTAG\
+    \x0F\x03EDE";
 
 // An option's name.
 pub fn option_name(text: &[u8], c: Cursor) -> Row
     requires { ⌜ Safe (now text) c ⌝ }
     ensures { λ r. ⌜ RowRead (tried members) (now (text .entry)) c r ⌝ }
 {
-    let r0 = option_10(text, c);
-    let r1 = or_row(text, c, b"EXPIRE", 9, r0);
-    let r2 = or_row(text, c, b"N3U", 7, r1);
-    let r3 = or_row(text, c, b"DHU", 6, r2);
-    let r4 = or_row(text, c, b"DAU", 5, r3);
-    or_row(text, c, b"NSID", 3, r4)
+    row_of(text, c, &OPTIONS)
 }
 
 // A number of one octet.
 pub fn put_octet(c: Cursor, value: u64, out: &mut [u8]) -> Cursor
     requires { ⌜ c .to ≤ 65535 ⌝ }
-    ensures { λ r. ⌜ Done (λ n. value ≡ capped n) octet? (λ n. n ∷ []) c (now (out .entry)) r (now (out .exit)) ⌝ }
+    ensures { λ r. ⌜ NumberPut value octet? (λ n. n ∷ []) c (now (out .entry)) r (now (out .exit)) ⌝ }
 {
     if value > 255 {
         return judge(c, false);
@@ -572,7 +571,7 @@ pub fn put_octet(c: Cursor, value: u64, out: &mut [u8]) -> Cursor
 // A number of two octets.
 pub fn put_word(c: Cursor, value: u64, out: &mut [u8]) -> Cursor
     requires { ⌜ c .to ≤ 65535 ⌝ }
-    ensures { λ r. ⌜ Done (λ n. value ≡ capped n) word? two c (now (out .entry)) r (now (out .exit)) ⌝ }
+    ensures { λ r. ⌜ NumberPut value word? two c (now (out .entry)) r (now (out .exit)) ⌝ }
 {
     if value > 65535 {
         return judge(c, false);
@@ -602,7 +601,7 @@ fn emit_four(c: Cursor, bits: u32, out: &mut [u8]) -> Cursor
 // A number of four octets.
 pub fn put_long(c: Cursor, value: u64, out: &mut [u8]) -> Cursor
     requires { ⌜ c .to ≤ 65535 ⌝ }
-    ensures { λ r. ⌜ Done (λ n. value ≡ capped n) long? four c (now (out .entry)) r (now (out .exit)) ⌝ }
+    ensures { λ r. ⌜ NumberPut value long? four c (now (out .entry)) r (now (out .exit)) ⌝ }
 {
     if value > 4294967295 {
         return judge(c, false);
@@ -613,7 +612,7 @@ pub fn put_long(c: Cursor, value: u64, out: &mut [u8]) -> Cursor
 // A TTL.
 pub fn put_ttl(c: Cursor, bits: u32, fits: bool, out: &mut [u8]) -> Cursor
     requires { ⌜ c .to ≤ 65535 ⌝ }
-    ensures { λ r. ⌜ Done (Kept fits bits) ttl? (λ s. four (unsigned s)) c (now (out .entry)) r (now (out .exit)) ⌝ }
+    ensures { λ r. ⌜ TtlPut fits bits c (now (out .entry)) r (now (out .exit)) ⌝ }
 {
     if !fits {
         return judge(c, false);

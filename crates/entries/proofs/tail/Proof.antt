@@ -34,7 +34,7 @@ same-length c = search needs
 returns : tie.Need-returns
 returns c =
     let m = c .before .before .before .before .before in
-    tail-read (m .before .before .before .before .before .before .before .before .signed .ensures) (m .before .before .before .before .before .before .put-ttl .ensures) (m .before .before .literal .ensures) (m .rdata .ensures) (c .before .literal2 .ensures) (c .shows-edns .ensures)
+    tail-read (m .before .before .before .before .before .before .before .before .signed .ensures) (m .before .before .before .before .before .before .put-ttl .ensures .done) (m .before .before .literal .ensures) (m .rdata .ensures) (c .before .literal2 .ensures) (c .shows-edns .ensures)
 
 pub tail-spec : {M : Type 1} → statement M
 tail-spec =

@@ -1,4 +1,4 @@
--- `tokens::digit` meets its contract: what a digit stands for, or 10.
+-- `tokens::digit` meets its contract: the number of a digit, or 10.
 -- Assumes nothing.
 use native.Mathlib.Omega.{arith}
 use borrow.Author.Needs.{needs}

@@ -1,35 +1,23 @@
--- `tokens::flags` meets its contract: the table of FLAGS.
+-- `tokens::flags` meets its contract: the octets of the code are computed to be those of the table of FLAGS.
 -- Assumes nothing.
+use mathlib.Core.Path.{refl}
 use borrow.Author.Needs.{needs}
-use Rattle.tokens.specs.Rows.{flags-read}
+use Rattle.octets.specs.Lists.{each}
+use Rattle.edns.specs.Edns.{flags}
+use Rattle.tokens.specs.Table.{tableOf}
+use Rattle.tokens.specs.Rows.{row-of}
 use Rattle.tokens.proofs.flags.Statement.{statement}
 use Rattle.tokens.proofs.flags.Tie as tie
 
-no-row-requires : tie.Need-no-row-requires
-no-row-requires c κs = search needs
+slice-aggregate-row-of : tie.Need-slice-aggregate-row-of
+slice-aggregate-row-of c = search needs
 
-slice-aggregate-or-row : tie.Need-slice-aggregate-or-row
-slice-aggregate-or-row c = search needs
-
-or-row-requires : tie.Need-or-row-requires
-or-row-requires c κs = search needs
-
-slice-aggregate-or-row-2 : tie.Need-slice-aggregate-or-row-2
-slice-aggregate-or-row-2 c = search needs
-
-or-row-requires-2 : tie.Need-or-row-requires-2
-or-row-requires-2 c κs = search needs
+row-of-requires : tie.Need-row-of-requires
+row-of-requires c κs = search needs
 
 returns : tie.Need-returns
-returns c = search (flags-read, needs)
+unfolding flags tableOf each
+returns c = row-of flags refl (c .row-of .ensures)
 
 pub flags-spec : {M : Type 1} → statement M
-flags-spec =
-    tie.close
-    (tie.spec
-    no-row-requires
-    slice-aggregate-or-row
-    or-row-requires
-    slice-aggregate-or-row-2
-    or-row-requires-2
-    returns)
+flags-spec = tie.close (tie.spec slice-aggregate-row-of row-of-requires returns)

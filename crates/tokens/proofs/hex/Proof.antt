@@ -1,4 +1,4 @@
--- `tokens::hex` meets its contract: digits in pairs, and the quote behind them.
+-- `tokens::hex` meets its contract: digits in pairs, and the quote after them.
 -- Assumes nothing.
 use Prim.Native.Nat.{_-_}
 use native.Mathlib.Omega.{arith}

@@ -1,61 +1,23 @@
--- `tokens::option_name` meets its contract: the first five rows, and so the whole table.
+-- `tokens::option_name` meets its contract: the octets of the code are computed to be those of the table of options.
 -- Assumes nothing.
+use mathlib.Core.Path.{refl}
 use borrow.Author.Needs.{needs}
-use Rattle.tokens.specs.Rows.{members-3}
+use Rattle.octets.specs.Lists.{each}
+use Rattle.options.specs.Options.{members, rows}
+use Rattle.tokens.specs.Table.{tableOf}
+use Rattle.tokens.specs.Rows.{row-of}
 use Rattle.tokens.proofs.option_name.Statement.{statement}
 use Rattle.tokens.proofs.option_name.Tie as tie
 
-option-10-requires : tie.Need-option-10-requires
-option-10-requires c κs = search needs
+slice-aggregate-row-of : tie.Need-slice-aggregate-row-of
+slice-aggregate-row-of c = search needs
 
-slice-aggregate-or-row : tie.Need-slice-aggregate-or-row
-slice-aggregate-or-row c = search needs
-
-or-row-requires : tie.Need-or-row-requires
-or-row-requires c κs = search needs
-
-slice-aggregate-or-row-2 : tie.Need-slice-aggregate-or-row-2
-slice-aggregate-or-row-2 c = search needs
-
-or-row-requires-2 : tie.Need-or-row-requires-2
-or-row-requires-2 c κs = search needs
-
-slice-aggregate-or-row-3 : tie.Need-slice-aggregate-or-row-3
-slice-aggregate-or-row-3 c = search needs
-
-or-row-requires-3 : tie.Need-or-row-requires-3
-or-row-requires-3 c κs = search needs
-
-slice-aggregate-or-row-4 : tie.Need-slice-aggregate-or-row-4
-slice-aggregate-or-row-4 c = search needs
-
-or-row-requires-4 : tie.Need-or-row-requires-4
-or-row-requires-4 c κs = search needs
-
-slice-aggregate-or-row-5 : tie.Need-slice-aggregate-or-row-5
-slice-aggregate-or-row-5 c = search needs
-
-or-row-requires-5 : tie.Need-or-row-requires-5
-or-row-requires-5 c κs = search needs
+row-of-requires : tie.Need-row-of-requires
+row-of-requires c κs = search needs
 
 returns : tie.Need-returns
-returns c =
-    let m = c .before .before .before .before .before .before in
-    members-3 (c .or-row5 .ensures) (c .before .before .or-row4 .ensures) (c .before .before .before .before .or-row3 .ensures) (m .or-row2 .ensures) (m .before .before .or-row .ensures) (m .before .before .before .before .option-10 .ensures)
+unfolding members rows tableOf each
+returns c = row-of members refl (c .row-of .ensures)
 
 pub option-name-spec : {M : Type 1} → statement M
-option-name-spec =
-    tie.close
-    (tie.spec
-    option-10-requires
-    slice-aggregate-or-row
-    or-row-requires
-    slice-aggregate-or-row-2
-    or-row-requires-2
-    slice-aggregate-or-row-3
-    or-row-requires-3
-    slice-aggregate-or-row-4
-    or-row-requires-4
-    slice-aggregate-or-row-5
-    or-row-requires-5
-    returns)
+option-name-spec = tie.close (tie.spec slice-aggregate-row-of row-of-requires returns)

@@ -1,5 +1,5 @@
 use native.Mathlib.Omega.{arith}
--- `tokens::positive` meets its contract: a digit from 1 to 9 and all the digits behind it.
+-- `tokens::positive` meets its contract: a digit from 1 to 9 and all the digits after it.
 -- Assumes nothing.
 use Prim.Native.Nat.{_-_}
 use borrow.Author.Needs.{needs}

@@ -1,61 +1,21 @@
--- `tokens::rcode` meets its contract: the first five rows, and so the whole table.
+-- `tokens::rcode` meets its contract: the table of RCODE.
 -- Assumes nothing.
 use borrow.Author.Needs.{needs}
-use Rattle.tokens.specs.Rows.{rcodes-0}
+use Rattle.tokens.specs.Rows.{row-of}
 use Rattle.tokens.proofs.rcode.Statement.{statement}
 use Rattle.tokens.proofs.rcode.Tie as tie
 
-rcode-5-requires : tie.Need-rcode-5-requires
-rcode-5-requires c κs = search needs
+rcode-names-requires : tie.Need-rcode-names-requires
+rcode-names-requires c κs = search needs
 
-slice-aggregate-or-row : tie.Need-slice-aggregate-or-row
-slice-aggregate-or-row c = search needs
+slice-aggregate-row-of : tie.Need-slice-aggregate-row-of
+slice-aggregate-row-of c = search needs
 
-or-row-requires : tie.Need-or-row-requires
-or-row-requires c κs = search needs
-
-slice-aggregate-or-row-2 : tie.Need-slice-aggregate-or-row-2
-slice-aggregate-or-row-2 c = search needs
-
-or-row-requires-2 : tie.Need-or-row-requires-2
-or-row-requires-2 c κs = search needs
-
-slice-aggregate-or-row-3 : tie.Need-slice-aggregate-or-row-3
-slice-aggregate-or-row-3 c = search needs
-
-or-row-requires-3 : tie.Need-or-row-requires-3
-or-row-requires-3 c κs = search needs
-
-slice-aggregate-or-row-4 : tie.Need-slice-aggregate-or-row-4
-slice-aggregate-or-row-4 c = search needs
-
-or-row-requires-4 : tie.Need-or-row-requires-4
-or-row-requires-4 c κs = search needs
-
-slice-aggregate-or-row-5 : tie.Need-slice-aggregate-or-row-5
-slice-aggregate-or-row-5 c = search needs
-
-or-row-requires-5 : tie.Need-or-row-requires-5
-or-row-requires-5 c κs = search needs
+row-of-requires : tie.Need-row-of-requires
+row-of-requires c κs = search needs
 
 returns : tie.Need-returns
-returns c =
-    let m = c .before .before .before .before .before .before in
-    rcodes-0 (c .or-row5 .ensures) (c .before .before .or-row4 .ensures) (c .before .before .before .before .or-row3 .ensures) (m .or-row2 .ensures) (m .before .before .or-row .ensures) (m .before .before .before .before .rcode-5 .ensures)
+returns c = search (row-of, needs)
 
 pub rcode-spec : {M : Type 1} → statement M
-rcode-spec =
-    tie.close
-    (tie.spec
-    rcode-5-requires
-    slice-aggregate-or-row
-    or-row-requires
-    slice-aggregate-or-row-2
-    or-row-requires-2
-    slice-aggregate-or-row-3
-    or-row-requires-3
-    slice-aggregate-or-row-4
-    or-row-requires-4
-    slice-aggregate-or-row-5
-    or-row-requires-5
-    returns)
+rcode-spec = tie.close (tie.spec rcode-names-requires slice-aggregate-row-of row-of-requires returns)

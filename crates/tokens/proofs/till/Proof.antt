@@ -1,5 +1,5 @@
 use borrow.Author.Needs.{needs}
-use Rattle.tokens.specs.Number.{till-read}
+use Rattle.tokens.specs.Number.{till-read, till-stop}
 use Rattle.tokens.proofs.till.Statement.{statement}
 use Rattle.tokens.proofs.till.Tie as tie
 
@@ -10,7 +10,10 @@ literal-requires : tie.Need-literal-requires
 literal-requires c κs = search needs
 
 returns : tie.Need-returns
-returns c = search (till-read, needs)
+returns c = search (till-stop, needs)
+
+returns-2 : tie.Need-returns-2
+returns-2 c = search (till-read, needs)
 
 pub till-spec : {M : Type 1} → statement M
-till-spec = tie.close (tie.spec number-requires literal-requires returns)
+till-spec = tie.close (tie.spec number-requires literal-requires returns returns-2)
