@@ -53,7 +53,7 @@ ordinaryText s form h =
 abbrev pub rcodeOf : List ℕ → ℕ
 rcodeOf s = getD s 3 0 % 16
 
--- RDATA as it stands
+-- RDATA as it is in the message
 abbrev pub rdataOf : List ℕ → Head → List ℕ
 rdataOf s h = part s (h .rdata) (h .rdata + h .rdlength - h .rdata)
 

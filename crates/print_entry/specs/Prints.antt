@@ -52,7 +52,8 @@ module _ {b b₁ : List ℕ} {to n₁ : ℕ} {t : List ℕ} (w : Wrote b to t b�
     prints-after = record { text = t ++ p .text; reads = ap (texts (λ u. t ++ u)) (p .reads); wrote = then w (p .wrote) }
 
     -- between two texts
-    pub prints-between : {v b₃ : List ℕ} {n₃ : ℕ} → Wrote b₂ n₂ v b₃ n₃ → Prints (texts (λ u. t ++ u ++ v) e) b to b₃ at n₃
+    pub prints-between : {v b₃ : List ℕ} {n₃ : ℕ} → Wrote b₂ n₂ v b₃ n₃
+        → Prints (texts (λ u. t ++ u ++ v) e) b to b₃ at n₃
     prints-between {v} q = record { text = t ++ p .text ++ v; reads = ap (texts (λ u. t ++ u ++ v)) (p .reads); wrote = then (then w (p .wrote)) q }
 
 -- ---- what is left to write
@@ -70,15 +71,18 @@ module _ {whole : Entry (List ℕ)} {b₀ b : List ℕ} {to next : ℕ} where
   rest-same q r = subst (λ (x : Entry (List ℕ)). Rest whole b₀ to x b next) q r
 
   -- a text of it is written
-  pub rest-text : {e : Entry (List ℕ)} {t b₁ : List ℕ} {n : ℕ} → Rest whole b₀ to (texts (λ u. t ++ u) e) b next → Wrote b next t b₁ n → Rest whole b₀ to e b₁ n
+  pub rest-text : {e : Entry (List ℕ)} {t b₁ : List ℕ} {n : ℕ} → Rest whole b₀ to (texts (λ u. t ++ u) e) b next
+      → Wrote b next t b₁ n → Rest whole b₀ to e b₁ n
   rest-text {e} {t} r w = record { readable = readable-value (λ u. t ++ u) e (r .readable); goes = λ b′ at n p. r .goes b′ at n (prints-after w p) }
 
   -- an entry of it is written
-  pub rest-then : {e : Entry (List ℕ)} (f : ℕ → Entry (List ℕ)) {b₁ : List ℕ} {at n : ℕ} → Rest whole b₀ to (and-then e f) b next → Prints e b next b₁ at n → Rest whole b₀ to (f at) b₁ n
+  pub rest-then : {e : Entry (List ℕ)} (f : ℕ → Entry (List ℕ)) {b₁ : List ℕ} {at n : ℕ}
+      → Rest whole b₀ to (and-then e f) b next → Prints e b next b₁ at n → Rest whole b₀ to (f at) b₁ n
   rest-then {e} f r p = rest-text (rest-same (ap (λ (x : Entry (List ℕ)). and-then x f) (p .reads)) r) (p .wrote)
 
   -- its last text is written
-  pub rest-end : {t b₁ : List ℕ} {at n : ℕ} → Rest whole b₀ to (entry t at) b next → Wrote b next t b₁ n → Prints whole b₀ to b₁ at n
+  pub rest-end : {t b₁ : List ℕ} {at n : ℕ} → Rest whole b₀ to (entry t at) b next → Wrote b next t b₁ n
+      → Prints whole b₀ to b₁ at n
   rest-end r w = r .goes _ _ _ (prints-text w)
 
 -- ---- bounds

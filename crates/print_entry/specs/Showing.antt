@@ -44,13 +44,16 @@ module _ (s form : List ℕ) (h : Head) where
   unfolding ordinaryText
   ordinary-rdata k = readable-value (λ t. fieldsText form (h .kind) (h .class) (h .ttl) ++ t ++ ascii "}") (rdataText s (h .kind) (h .rdata) (h .rdlength)) k
 
-  pub ordinary-prints : {b b₁ b₂ b₃ : List ℕ} {to n₁ n₂ n₃ next : ℕ} → Wrote b to (fieldsText form (h .kind) (h .class) (h .ttl)) b₁ n₁
-      → Prints (rdataText s (h .kind) (h .rdata) (h .rdlength)) b₁ n₁ b₂ next n₂ → Wrote b₂ n₂ (125 ∷ []) b₃ n₃ → Prints (ordinaryText s form h) b to b₃ next n₃
+  pub ordinary-prints : {b b₁ b₂ b₃ : List ℕ} {to n₁ n₂ n₃ next : ℕ}
+      → Wrote b to (fieldsText form (h .kind) (h .class) (h .ttl)) b₁ n₁
+      → Prints (rdataText s (h .kind) (h .rdata) (h .rdlength)) b₁ n₁ b₂ next n₂ → Wrote b₂ n₂ (125 ∷ []) b₃ n₃
+      → Prints (ordinaryText s form h) b to b₃ next n₃
   unfolding ordinaryText
   ordinary-prints p q v = prints-between p q v
 
 -- the texts of a record's parts
-record-parts : (r : Record) → Sized (r .name) → recordText (recordItem r) ≡ fieldsText (nameForm (r .name)) (r .type) (r .class) (r .ttl) ++ hexText (r .rdata) ++ ascii "}"
+record-parts : (r : Record) → Sized (r .name)
+    → recordText (recordItem r) ≡ fieldsText (nameForm (r .name)) (r .type) (r .class) (r .ttl) ++ hexText (r .rdata) ++ ascii "}"
 unfolding recordText recordItem fieldsText
 record-parts r h =
     ap (λ (t : List ℕ). t ++ ascii ",\"TTL\":" ++ signedText (signed (r .ttl)) ++ ascii ",\"RDATAHEX\":\"" ++ hexText (r .rdata) ++ ascii "}") (front-text (r .name) (r .type) (r .class) h)
@@ -60,7 +63,8 @@ ordinary-text : (s : List ℕ) (k : HeadOf) → Sized (k .name)
 unfolding ordinaryText rdataText
 ordinary-text s k h = go (rdataAt true s (k .type) (k .rdata) (k .rdlength))
   where
-    go : (w : layout.Laid) → texts (λ t. fieldsText (nameForm (k .name)) (k .type) (k .class) (k .ttl) ++ t ++ ascii "}") (hexed (k .rdata + k .rdlength) w)
+    go : (w : layout.Laid)
+        → texts (λ t. fieldsText (nameForm (k .name)) (k .type) (k .class) (k .ttl) ++ t ++ ascii "}") (hexed (k .rdata + k .rdlength) w)
         ≡ texts (λ (r : Record). recordText (recordItem r)) (filled (withRdata k) (k .rdata + k .rdlength) w)
     go (laid d) = ap (λ (t : List ℕ). entry t (k .rdata + k .rdlength)) (sym (record-parts (withRdata k d) h))
     go (misfit fault) = refl
@@ -70,7 +74,8 @@ ordinary-text s k h = go (rdataAt true s (k .type) (k .rdata) (k .rdlength))
 abbrev shown? : ℕ → Bool → Record → Bool
 shown? rcode lone r = lone && opt? r && showsEdns (none? (r .name)) (r .ttl) rcode (r .rdata)
 
-entry-text : (rcode : ℕ) (lone : Bool) (r : Record) → entryText rcode lone r ≡ cond (shown? rcode lone r) (elementText (r .class) (r .ttl) rcode (r .rdata)) (recordText (recordItem r))
+entry-text : (rcode : ℕ) (lone : Bool) (r : Record)
+    → entryText rcode lone r ≡ cond (shown? rcode lone r) (elementText (r .class) (r .ttl) rcode (r .rdata)) (recordText (recordItem r))
 unfolding entryText itemText item
 entry-text rcode lone r = go lone (opt? r) refl (ednsOf rcode r) refl
   where
@@ -105,11 +110,13 @@ module _ (s : List ℕ) (k : HeadOf) (lone : Bool) where
   size-same = omega arith
 
   -- what the code tests is what the definition tests
-  head-shows : (d : List ℕ) → rdataAt true s (k .type) (k .rdata) (k .rdlength) ≡ laid d → shows? s (headRead k) lone ≡ shown? (rcodeOf s) lone (withRdata k d)
+  head-shows : (d : List ℕ) → rdataAt true s (k .type) (k .rdata) (k .rdlength) ≡ laid d
+      → shows? s (headRead k) lone ≡ shown? (rcodeOf s) lone (withRdata k d)
   unfolding shows?
   head-shows d e = go lone (eqb (k .type) 41) refl
     where
-      go : (lone : Bool) (t : Bool) → eqb (k .type) 41 ≡ t → shows? s (headRead k) lone ≡ shown? (rcodeOf s) lone (withRdata k d)
+      go : (lone : Bool) (t : Bool) → eqb (k .type) 41 ≡ t
+          → shows? s (headRead k) lone ≡ shown? (rcodeOf s) lone (withRdata k d)
       go false t p = refl
       go true false p = rw p
       go true true p =
@@ -124,25 +131,28 @@ module _ (s : List ℕ) (k : HeadOf) (lone : Bool) where
   as-is (misfit fault) p q = refl
 
   -- where it shows as one, its text is the element's
-  as-element : (w : layout.Laid) → rdataAt true s (k .type) (k .rdata) (k .rdlength) ≡ w → w ≡ laid (rdataOf s (headRead k)) → shows? s (headRead k) lone ≡ true
+  as-element : (w : layout.Laid) → rdataAt true s (k .type) (k .rdata) (k .rdlength) ≡ w
+      → w ≡ laid (rdataOf s (headRead k)) → shows? s (headRead k) lone ≡ true
       → texts (entryText (rcodeOf s) lone) (filled (withRdata k) (k .rdata + k .rdlength) w) ≡ entry (elementText (k .class) (k .ttl) (rcodeOf s) (rdataOf s (headRead k))) (k .rdata + k .rdlength)
   as-element (laid d) p g q =
       ap (λ (t : List ℕ). entry t (k .rdata + k .rdlength))
       (entry-text (rcodeOf s) lone (withRdata k d) ∙ rw (← (head-shows d p), q) (ap (elementText (k .class) (k .ttl) (rcodeOf s)) (laid-octets g)))
   as-element (misfit fault) p g q = absurd (misfit≢laid g)
 
--- ---- what the test tells
+-- ---- what follows of the test
 both-true : (a b : Bool) → (a && b) ≡ true → (a ≡ true) × (b ≡ true)
 both-true true b e = (refl, e)
 both-true false b e = absurd (false≢true e)
 
-shows-root : (root : Bool) (ttl rcode : ℕ) (d : List ℕ) → showsEdns root ttl rcode d ≡ true → showsEdns true ttl rcode d ≡ true
+shows-root : (root : Bool) (ttl rcode : ℕ) (d : List ℕ) → showsEdns root ttl rcode d ≡ true
+    → showsEdns true ttl rcode d ≡ true
 unfolding showsEdns
 shows-root true ttl rcode d e = e
 shows-root false ttl rcode d e = absurd (false≢true e)
 
 -- the record is of TYPE 41, and shows as an element
-pub element-shows : (s : List ℕ) (h : Head) (lone : Bool) {t : Bool} {rcode : ℕ} → t ≡ shows? s h lone → t ≡ true → rcode ≡ rcodeOf s → showsEdns true (h .ttl) rcode (rdataOf s h) ≡ true
+pub element-shows : (s : List ℕ) (h : Head) (lone : Bool) {t : Bool} {rcode : ℕ} → t ≡ shows? s h lone → t ≡ true
+    → rcode ≡ rcodeOf s → showsEdns true (h .ttl) rcode (rdataOf s h) ≡ true
 unfolding shows?
 element-shows s h lone p q e = rw e (shows-root (eqb (h .size) 1) (h .ttl) (rcodeOf s) (rdataOf s h) (both-true (lone && eqb (h .kind) 41) _ (sym p ∙ q) .1))
 
@@ -152,7 +162,8 @@ element-kind s h lone e =
     let p = both-true (lone && eqb (h .kind) 41) _ e .0 in
     eqb-true (h .kind) 41 (both-true lone (eqb (h .kind) 41) p .1)
 
-element-rdata : (s : List ℕ) (k : HeadOf) → k .type ≡ 41 → rdataAt true s (k .type) (k .rdata) (k .rdlength) ≡ laid (rdataOf s (headRead k))
+element-rdata : (s : List ℕ) (k : HeadOf) → k .type ≡ 41
+    → rdataAt true s (k .type) (k .rdata) (k .rdlength) ≡ laid (rdataOf s (headRead k))
 element-rdata s k e =
     let z : k .rdata + k .rdlength - k .rdata ≡ k .rdlength = omega arith in
     ap (λ (n : ℕ). rdataAt true s n (k .rdata) (k .rdlength)) e ∙ opt-rdata s (k .rdata) (k .rdlength) ∙ ap (λ (n : ℕ). laid (part s (k .rdata) n)) (sym z)
@@ -168,7 +179,8 @@ unfolding shows?
 shows-other s h true e = rw (ne-eqb (h .kind) 41 e)
 shows-other s h false e = refl
 
-pub shows-lone : (s : List ℕ) (h : Head) (lone : Bool) {r : Bool} {rcode : ℕ} → not lone ≡ false → h .kind ≡ 41 → rcode ≡ rcodeOf s
+pub shows-lone : (s : List ℕ) (h : Head) (lone : Bool) {r : Bool} {rcode : ℕ} → not lone ≡ false → h .kind ≡ 41
+    → rcode ≡ rcodeOf s
     → r ≡ showsEdns (eqb (h .size) 1) (h .ttl) rcode (rdataOf s h) → r ≡ shows? s h lone
 unfolding shows?
 shows-lone s h true e k c p = rw (eq-eqb (h .kind) 41 k, ← c) p
@@ -192,7 +204,8 @@ module _ (s : List ℕ) (at : ℕ) (lone : Bool) {r : RecordRead} (e : r ≡ rec
       readable≢bad (readable-value (entryText (rcodeOf s) lone) (recordAt s at) h) (record-head s at ∙ ap (with-rdata s) u)
 
   -- the text of a record by what was read
-  record-same : {h : Head} → r .answer ≡ record′.Read h → recordTextAt lone s at ≡ shownText lone s (take (h .size - 0) (r .name)) h
+  record-same : {h : Head} → r .answer ≡ record′.Read h
+      → recordTextAt lone s at ≡ shownText lone s (take (h .size - 0) (r .name)) h
   unfolding shownText
   record-same {h} p = go (headed (headAt s at) e p)
     where
@@ -210,15 +223,19 @@ module _ (s : List ℕ) (at : ℕ) (lone : Bool) {r : RecordRead} (e : r ≡ rec
           shown false q = as-is s k lone _ refl q ∙ sym (ordinary-text s k (head-sized s at k next u)) ∙ rw q
 
   module _ {h : Head} (p : r .answer ≡ record′.Read h) where
-    pub record-readable : Readable (recordTextAt lone s at) → Readable (shownText lone s (take (h .size - 0) (r .name)) h)
+    pub record-readable : Readable (recordTextAt lone s at)
+        → Readable (shownText lone s (take (h .size - 0) (r .name)) h)
     record-readable k = subst (λ (w : Entry (List ℕ)). Readable w) (record-same p) k
 
-    pub record-prints : {b b′ : List ℕ} {to next n : ℕ} → Prints (shownText lone s (take (h .size - 0) (r .name)) h) b to b′ next n → Prints (recordTextAt lone s at) b to b′ next n
+    pub record-prints : {b b′ : List ℕ} {to next n : ℕ}
+        → Prints (shownText lone s (take (h .size - 0) (r .name)) h) b to b′ next n
+        → Prints (recordTextAt lone s at) b to b′ next n
     record-prints d = rw (record-same p) d
 
 -- by what the code's test answers
 module _ (s form : List ℕ) (h : Head) (lone : Bool) {t : Bool} (x : t ≡ shows? s h lone) where
-  pub shown-element : {rcode : ℕ} {b b′ : List ℕ} {to n : ℕ} → t ≡ true → rcode ≡ rcodeOf s → Wrote b to (elementText (h .class) (h .ttl) rcode (rdataOf s h)) b′ n
+  pub shown-element : {rcode : ℕ} {b b′ : List ℕ} {to n : ℕ} → t ≡ true → rcode ≡ rcodeOf s
+      → Wrote b to (elementText (h .class) (h .ttl) rcode (rdataOf s h)) b′ n
       → Prints (shownText lone s form h) b to b′ (h .rdata + h .rdlength) n
   unfolding shownText
   shown-element q c w = rw (← x, q) (prints-text (rw c at w))
@@ -227,7 +244,8 @@ module _ (s form : List ℕ) (h : Head) (lone : Bool) {t : Bool} (x : t ≡ show
   unfolding shownText
   shown-readable q k = rw (← x, q) at k
 
-  pub shown-ordinary : {b b′ : List ℕ} {to next n : ℕ} → t ≡ false → Prints (ordinaryText s form h) b to b′ next n → Prints (shownText lone s form h) b to b′ next n
+  pub shown-ordinary : {b b′ : List ℕ} {to next n : ℕ} → t ≡ false → Prints (ordinaryText s form h) b to b′ next n
+      → Prints (shownText lone s form h) b to b′ next n
   unfolding shownText
   shown-ordinary q p = rw (← x, q) p
 
@@ -238,7 +256,8 @@ module _ (s : List ℕ) (at : ℕ) {e : Element} where
     unfolding textAt
     question-of h = rw q at h
 
-    pub element-question : {b b′ : List ℕ} {to next n : ℕ} → Prints (questionTextAt s at) b to b′ next n → Prints (textAt e s at) b to b′ next n
+    pub element-question : {b b′ : List ℕ} {to next n : ℕ} → Prints (questionTextAt s at) b to b′ next n
+        → Prints (textAt e s at) b to b′ next n
     unfolding textAt
     element-question p = rw q p
 
@@ -247,6 +266,7 @@ module _ (s : List ℕ) (at : ℕ) {e : Element} where
     unfolding textAt
     record-of h = rw q at h
 
-    pub element-record : {b b′ : List ℕ} {to next n : ℕ} → Prints (recordTextAt lone s at) b to b′ next n → Prints (textAt e s at) b to b′ next n
+    pub element-record : {b b′ : List ℕ} {to next n : ℕ} → Prints (recordTextAt lone s at) b to b′ next n
+        → Prints (textAt e s at) b to b′ next n
     unfolding textAt
     element-record p = rw q p

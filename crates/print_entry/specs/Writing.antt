@@ -38,14 +38,18 @@ use Rattle.print_head.specs.Head.{numberText}
 use Rattle.print_entry.specs.Prints.{texts, Readable, readable-value, readable≢bad, Prints, prints-text, Rest, rest-all, rest-same, rest-text, rest-end}
 use Rattle.print_entry.specs.Elements.{startText, fieldsText, hexed, rdataText, piecesText, questionTextAt}
 
--- ---- the members in front
-pub wrote-start : (form : List ℕ) (type class : ℕ) {b b₁ b₂ b₃ b₄ : List ℕ} {at r₁ r₂ r₃ r₄ : ℕ} → Wrote b at (ascii "{\"NAME\":\"") b₁ r₁ → Wrote b₁ r₁ (formText form) b₂ r₂
-    → Wrote b₂ r₂ (numberText (ascii ",\"TYPE\":") type) b₃ r₃ → Wrote b₃ r₃ (numberText (ascii ",\"CLASS\":") class) b₄ r₄ → Wrote b at (startText form type class) b₄ r₄
+-- ---- the first members
+pub wrote-start : (form : List ℕ) (type class : ℕ) {b b₁ b₂ b₃ b₄ : List ℕ} {at r₁ r₂ r₃ r₄ : ℕ}
+    → Wrote b at (ascii "{\"NAME\":\"") b₁ r₁ → Wrote b₁ r₁ (formText form) b₂ r₂
+    → Wrote b₂ r₂ (numberText (ascii ",\"TYPE\":") type) b₃ r₃
+    → Wrote b₃ r₃ (numberText (ascii ",\"CLASS\":") class) b₄ r₄ → Wrote b at (startText form type class) b₄ r₄
 unfolding startText
 wrote-start form type class p q u v = then (then (then p q) u) v
 
-pub wrote-fields : (form : List ℕ) (type class ttl : ℕ) {b b₁ b₂ b₃ b₄ : List ℕ} {at r₁ r₂ r₃ r₄ : ℕ} → Wrote b at (startText form type class) b₁ r₁ → Wrote b₁ r₁ (ascii ",\"TTL\":") b₂ r₂
-    → Wrote b₂ r₂ (signedText (signed ttl)) b₃ r₃ → Wrote b₃ r₃ (ascii ",\"RDATAHEX\":\"") b₄ r₄ → Wrote b at (fieldsText form type class ttl) b₄ r₄
+pub wrote-fields : (form : List ℕ) (type class ttl : ℕ) {b b₁ b₂ b₃ b₄ : List ℕ} {at r₁ r₂ r₃ r₄ : ℕ}
+    → Wrote b at (startText form type class) b₁ r₁ → Wrote b₁ r₁ (ascii ",\"TTL\":") b₂ r₂
+    → Wrote b₂ r₂ (signedText (signed ttl)) b₃ r₃ → Wrote b₃ r₃ (ascii ",\"RDATAHEX\":\"") b₄ r₄
+    → Wrote b at (fieldsText form type class ttl) b₄ r₄
 unfolding fieldsText
 wrote-fields form type class ttl p q u v = then (then (then p q) u) v
 
@@ -80,7 +84,8 @@ begun-sized s widths at n next e = go (nameAt s message at) refl e
     go (faulty f) p q = absurd (faulty≢named q)
 
 -- so has what begins with one
-begun-entry : {A : Type 0} (nameIn : A → Name) (s widths : List ℕ) (at : ℕ) (f : Name → ℕ → Entry A) → ((n : Name) (i : ℕ) (a : A) (next : ℕ) → f n i ≡ entry a next → nameIn a ≡ n)
+begun-entry : {A : Type 0} (nameIn : A → Name) (s widths : List ℕ) (at : ℕ) (f : Name → ℕ → Entry A)
+    → ((n : Name) (i : ℕ) (a : A) (next : ℕ) → f n i ≡ entry a next → nameIn a ≡ n)
     → (a : A) (next : ℕ) → with-name (begunAt s at widths) f ≡ entry a next → Sized (nameIn a)
 begun-entry nameIn s widths at f same a next e = go (begunAt s at widths) refl e
   where
@@ -96,7 +101,8 @@ pub head-sized : (s : List ℕ) (at : ℕ) (h : HeadOf) (next : ℕ) → headAt 
 unfolding headAt
 head-sized s at h next e = begun-entry (λ (h : HeadOf). h .name) s (2 ∷ 2 ∷ 4 ∷ 2 ∷ []) at (headed s) same h next e
   where
-    room : (n : Name) (b : Bool) (fault : Fault) (k : HeadOf) (i : ℕ) (a : HeadOf) (j : ℕ) → k .name ≡ n → cond b (bad fault) (entry k i) ≡ entry a j → a .name ≡ n
+    room : (n : Name) (b : Bool) (fault : Fault) (k : HeadOf) (i : ℕ) (a : HeadOf) (j : ℕ) → k .name ≡ n
+        → cond b (bad fault) (entry k i) ≡ entry a j → a .name ≡ n
     room n true fault k i a j p q = absurd (bad≢entry q)
     room n false fault k i a j p q = sym (ap (λ (h : HeadOf). h .name) (entry-value q)) ∙ p
 
@@ -105,7 +111,8 @@ head-sized s at h next e = begun-entry (λ (h : HeadOf). h .name) s (2 ∷ 2 ∷
 
 -- ---- questions
 -- the texts that a question and a record begin with
-front : (t u v : List ℕ) → ascii "{\"NAME\":\"" ++ t ++ ascii ",\"TYPE\":" ++ u ++ ascii ",\"CLASS\":" ++ v ≡ ascii "{\"NAME\":\"" ++ t ++ (ascii ",\"TYPE\":" ++ u) ++ (ascii ",\"CLASS\":" ++ v)
+front : (t u v : List ℕ)
+    → ascii "{\"NAME\":\"" ++ t ++ ascii ",\"TYPE\":" ++ u ++ ascii ",\"CLASS\":" ++ v ≡ ascii "{\"NAME\":\"" ++ t ++ (ascii ",\"TYPE\":" ++ u) ++ (ascii ",\"CLASS\":" ++ v)
 front t u v = simp append-assoc
 
 pub front-text : (n : Name) (type class : ℕ) → Sized n
@@ -115,7 +122,8 @@ front-text n type class h =
     front (nameText n) (decimal type) (decimal class)
     ∙ ap (λ (t : List ℕ). ascii "{\"NAME\":\"" ++ t ++ (ascii ",\"TYPE\":" ++ decimal type) ++ (ascii ",\"CLASS\":" ++ decimal class)) (sym (sized-text n h))
 
-question-parts : (q : Question) → Sized (q .name) → questionText q ≡ startText (nameForm (q .name)) (q .type) (q .class) ++ ascii "}"
+question-parts : (q : Question) → Sized (q .name)
+    → questionText q ≡ startText (nameForm (q .name)) (q .type) (q .class) ++ ascii "}"
 unfolding questionText
 question-parts q h = ap (λ (t : List ℕ). t ++ ascii "}") (front-text (q .name) (q .type) (q .class) h)
 
@@ -126,12 +134,14 @@ module _ (s : List ℕ) (at : ℕ) {r : QuestionRead} (e : r ≡ questionRead (q
   question-faultless h p = readable≢bad (readable-value questionText (questionAt s at) h) (asked (questionAt s at) e p .1)
 
   pub question-prints : {a : Asked} {b b₁ b₂ : List ℕ} {to n₁ n₂ : ℕ} → r .answer ≡ question.Read a
-      → Wrote b to (startText (take (a .size - 0) (r .name)) (a .kind) (a .class)) b₁ n₁ → Wrote b₁ n₁ (125 ∷ []) b₂ n₂ → Prints (questionTextAt s at) b to b₂ (a .next) n₂
+      → Wrote b to (startText (take (a .size - 0) (r .name)) (a .kind) (a .class)) b₁ n₁ → Wrote b₁ n₁ (125 ∷ []) b₂ n₂
+      → Prints (questionTextAt s at) b to b₂ (a .next) n₂
   unfolding questionTextAt
   question-prints {a} {b} {b₁} {b₂} {to} {n₁} {n₂} p x y = go (asked (questionAt s at) e p) x
     where
       go : (z : (q : Question) × (next : ℕ) × (questionAt s at ≡ entry q next) × (a ≡ askedOf q next) × (r .name ≡ padded (nameForm (q .name))))
-          → Wrote b to (startText (take (a .size - 0) (r .name)) (a .kind) (a .class)) b₁ n₁ → Prints (texts questionText (questionAt s at)) b to b₂ (a .next) n₂
+          → Wrote b to (startText (take (a .size - 0) (r .name)) (a .kind) (a .class)) b₁ n₁
+          → Prints (texts questionText (questionAt s at)) b to b₂ (a .next) n₂
       go (q, next, u, v, l) =
           rw u (subst (λ (c : Asked). Wrote b to (startText (take (c .size - 0) (r .name)) (c .kind) (c .class)) b₁ n₁ → Prints (entry (questionText q) next) b to b₂ (c .next) n₂) (sym v)
           λ x. prints-text (rw (question-parts q (question-sized s at q next u)) (then (rw (form-part (nameForm (q .name)) (r .name) (length (nameForm (q .name))) refl l) at x) y)))
@@ -143,11 +153,12 @@ unfolding hexText each
 hex-append [] m = refl
 hex-append (x ∷ l) m = ap (λ (t : List ℕ). hexOctet x ++ t) (hex-append l m) ∙ sym (append-assoc (hexOctet x) (each hexOctet l) (hexText m))
 
-hexed-before : (end : ℕ) (l : List ℕ) (w : layout.Laid) → hexed end (before l w) ≡ texts (λ t. each hexOctet l ++ t) (hexed end w)
+hexed-before : (end : ℕ) (l : List ℕ) (w : layout.Laid)
+    → hexed end (before l w) ≡ texts (λ t. each hexOctet l ++ t) (hexed end w)
 hexed-before end l (laid d) = ap (λ (t : List ℕ). entry t end) (hex-append l d)
 hexed-before end l (misfit fault) = refl
 
--- a part of so many octets at most
+-- a part of at most m octets
 pub part-short : (n : ℕ) (l : List ℕ) (m : ℕ) → n ≤ m → length (take n l) ≤ m
 part-short n l m h = let e = length-take n l in omega arith
 
@@ -158,7 +169,8 @@ pub hex-short : (at n : ℕ) (l : List ℕ) {r : ℕ} → r ≡ at + 2 * length 
 hex-short at n l e = let k = length-take n l in omega arith
 
 -- all of it is left
-pub pieces-all : (s : List ℕ) (kind start size : ℕ) {b : List ℕ} {to : ℕ} → Readable (rdataText s kind start size) → Rest (rdataText s kind start size) b to (piecesText s kind start size 0 start) b to
+pub pieces-all : (s : List ℕ) (kind start size : ℕ) {b : List ℕ} {to : ℕ} → Readable (rdataText s kind start size)
+    → Rest (rdataText s kind start size) b to (piecesText s kind start size 0 start) b to
 unfolding rdataText piecesText
 pieces-all s kind start size h = rest-same (ap (hexed (start + size)) (rdata-pieces true s kind start size)) (rest-all h)
 
@@ -172,12 +184,14 @@ module _ (s : List ℕ) (kind start size at i : ℕ) {whole : Entry (List ℕ)} 
   after xs n q p = rest-text (rest-same (ap (hexed (start + size)) q ∙ hexed-before (start + size) xs (pieces true (drop (i + 1) (layoutIn kind size)) s start (start + size) n)) w) p
 
   -- octets as they are
-  pub pieces-part : {n : ℕ} {b₁ : List ℕ} {n₁ : ℕ} → r .step ≡ step.Part n → Wrote b next (each hexOctet (take (n - at) (drop at s))) b₁ n₁
+  pub pieces-part : {n : ℕ} {b₁ : List ℕ} {n₁ : ℕ} → r .step ≡ step.Part n
+      → Wrote b next (each hexOctet (take (n - at) (drop at s))) b₁ n₁
       → Rest whole b₀ to (piecesText s kind start size (i + 1) n) b₁ n₁
   pieces-part {n} q p = after (part s at (n - at)) n (pieces-next s (layoutIn kind size) start (start + size) at i (tells _ e q)) p
 
   -- a name
-  pub pieces-name : {long n : ℕ} {b₁ : List ℕ} {n₁ : ℕ} → r .step ≡ step.Name long n → Wrote b next (each hexOctet (take (long - 0) (r .octets))) b₁ n₁
+  pub pieces-name : {long n : ℕ} {b₁ : List ℕ} {n₁ : ℕ} → r .step ≡ step.Name long n
+      → Wrote b next (each hexOctet (take (long - 0) (r .octets))) b₁ n₁
       → Rest whole b₀ to (piecesText s kind start size (i + 1) n) b₁ n₁
   pieces-name {long} {n} {b₁} {n₁} q p =
       let (m, x, y, z) = tells _ e q in
@@ -185,7 +199,8 @@ module _ (s : List ℕ) (kind start size at i : ℕ) {whole : Entry (List ℕ)} 
       (subst (λ (xs : List ℕ). Wrote b next (each hexOctet xs) b₁ n₁) (form-part (nameForm m) (r .octets) long y z) p)
 
   -- the end
-  pub pieces-done : {b₁ : List ℕ} {n₁ : ℕ} → r .step ≡ step.Done → Wrote b next (34 ∷ []) b₁ n₁ → Prints whole b₀ to b₁ (start + size) n₁
+  pub pieces-done : {b₁ : List ℕ} {n₁ : ℕ} → r .step ≡ step.Done → Wrote b next (34 ∷ []) b₁ n₁
+      → Prints whole b₀ to b₁ (start + size) n₁
   unfolding piecesText hexText
   pieces-done q p = rest-end (rest-same (ap (hexed (start + size)) (pieces-next s (layoutIn kind size) start (start + size) at i (tells _ e q))) w) p
 

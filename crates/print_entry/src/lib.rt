@@ -28,8 +28,8 @@ pub struct Position {
     pub to: usize,
 }
 
-// An element of an array: a question; or a record, with whether one of TYPE 41 shows as an EDNS element, which is so where it is the only one
-// of the additional section.
+// An element of an array: a question; or a record, with whether its section is the additional one and has one TYPE 41 record,
+// which can then show as an EDNS element.
 pub enum Element {
     Question,
     Record(bool),

@@ -49,11 +49,13 @@ low-after [] x = refl
 low-after (y ∷ l) x = ap (λ m. y ∷ m) (low-after l x)
 
 -- ---- writing them
-pub wrote-number : (title : List ℕ) (n : ℕ) {b b₁ b₂ : List ℕ} {at r₁ r₂ : ℕ} → Wrote b at title b₁ r₁ → Wrote b₁ r₁ (decimal n) b₂ r₂ → Wrote b at (numberText title n) b₂ r₂
+pub wrote-number : (title : List ℕ) (n : ℕ) {b b₁ b₂ : List ℕ} {at r₁ r₂ : ℕ} → Wrote b at title b₁ r₁
+    → Wrote b₁ r₁ (decimal n) b₂ r₂ → Wrote b at (numberText title n) b₂ r₂
 unfolding numberText
 wrote-number title n p q = then p q
 
 -- a member after a text
-pub number-after : (title : List ℕ) {n m : ℕ} {xs b b₁ b₂ : List ℕ} {at r₁ r₂ : ℕ} → n ≡ m → Wrote b at xs b₁ r₁ → Wrote b₁ r₁ (numberText title n) b₂ r₂ → Wrote b at (xs ++ title ++ decimal m) b₂ r₂
+pub number-after : (title : List ℕ) {n m : ℕ} {xs b b₁ b₂ : List ℕ} {at r₁ r₂ : ℕ} → n ≡ m → Wrote b at xs b₁ r₁
+    → Wrote b₁ r₁ (numberText title n) b₂ r₂ → Wrote b at (xs ++ title ++ decimal m) b₂ r₂
 unfolding numberText
 number-after title {n} {m} {xs} e p q = rw (← e, append-assoc xs title (decimal n)) (then p q)

@@ -80,18 +80,21 @@ Placed p end n = (p .at ≤ end) × (p .to ≤ 4096 * p .at + 20 * n)
 pub comma-first : {first : Bool} {b : List ℕ} {at : ℕ} → first ≡ true → Wrote b at (comma first) b at
 comma-first {b = b} {at = at} e = rw e (nothing b at)
 
-pub comma-later : {first : Bool} {b b′ : List ℕ} {at r : ℕ} → first ≡ false → Wrote b at (44 ∷ []) b′ r → Wrote b at (comma first) b′ r
+pub comma-later : {first : Bool} {b b′ : List ℕ} {at r : ℕ} → first ≡ false → Wrote b at (44 ∷ []) b′ r
+    → Wrote b at (comma first) b′ r
 comma-later e w = rw e w
 
 module _ (e : Element) (s : List ℕ) (count at : ℕ) where
   -- after the bracket all elements are left
-  pub left-all : {b : List ℕ} {to : ℕ} → Readable (arrayText e s count at) → Rest (restText e s true count at) b to (restText e s (eqb count count) count at) b to
+  pub left-all : {b : List ℕ} {to : ℕ} → Readable (arrayText e s count at)
+      → Rest (restText e s true count at) b to (restText e s (eqb count count) count at) b to
   unfolding arrayText
   left-all h =
       rest-same (ap (λ (first : Bool). restText e s first count at) (sym (eq-eqb count count refl)))
       (rest-all (readable-value (λ t. (91 ∷ []) ++ t) (restText e s true count at) h))
 
-  pub array-prints : {b b₁ b₂ : List ℕ} {to n₁ n₂ next : ℕ} → Wrote b to (91 ∷ []) b₁ n₁ → Prints (restText e s true count at) b₁ n₁ b₂ next n₂ → Prints (arrayText e s count at) b to b₂ next n₂
+  pub array-prints : {b b₁ b₂ : List ℕ} {to n₁ n₂ next : ℕ} → Wrote b to (91 ∷ []) b₁ n₁
+      → Prints (restText e s true count at) b₁ n₁ b₂ next n₂ → Prints (arrayText e s count at) b to b₂ next n₂
   unfolding arrayText
   array-prints p d = prints-after p d
 
@@ -119,7 +122,8 @@ module _ (e : Element) (s : List ℕ) (count left from : ℕ) {whole : Entry (Li
         (readable-first _ (restText e s false (left - 1)) (rest-same (first-rest e s (eqb left count) left from h) r .readable))
 
     -- one less is left
-    pub left-less : {b₁ b₂ : List ℕ} {n₁ n₂ after : ℕ} → left ≤ count → Wrote b next (comma (eqb left count)) b₁ n₁ → Prints (textAt e s from) b₁ n₁ b₂ after n₂
+    pub left-less : {b₁ b₂ : List ℕ} {n₁ n₂ after : ℕ} → left ≤ count → Wrote b next (comma (eqb left count)) b₁ n₁
+        → Prints (textAt e s from) b₁ n₁ b₂ after n₂
         → Rest whole b₀ to (restText e s (eqb (left - 1) count) (left - 1) after) b₂ n₂
     left-less {after = after} k p d =
         let z : eqb (left - 1) count ≡ false = ne-eqb (left - 1) count (λ x. omega arith) in
@@ -132,7 +136,8 @@ module _ (s title : List ℕ) (e : Element) (at : ℕ) {n count : ℕ} (c : coun
   unfolding sectionText
   section-readable h = rw c (readable-value (λ t. title ++ t) (arrayText e s n at) h)
 
-  pub section-prints : {b b₁ b₂ : List ℕ} {to n₁ n₂ next : ℕ} → Wrote b to title b₁ n₁ → Prints (arrayText e s count at) b₁ n₁ b₂ next n₂ → Prints (sectionText title e s n at) b to b₂ next n₂
+  pub section-prints : {b b₁ b₂ : List ℕ} {to n₁ n₂ next : ℕ} → Wrote b to title b₁ n₁
+      → Prints (arrayText e s count at) b₁ n₁ b₂ next n₂ → Prints (sectionText title e s n at) b to b₂ next n₂
   unfolding sectionText
   section-prints p d = prints-after p (rw c at d)
 
@@ -166,5 +171,6 @@ module _ (lone : Bool) (s : List ℕ) {b b₁ : List ℕ} {n₁ : ℕ} (h : Read
         pub additional-readable : Readable (additionalText lone s i₄)
         additional-readable = readable-first _ (λ next. entry (ascii "}") next) (after-authority .readable)
 
-        pub whole-prints : {b₅ b₆ : List ℕ} {i₅ n₅ n₆ : ℕ} → Prints (additionalText lone s i₄) b₄ n₄ b₅ i₅ n₅ → Wrote b₅ n₅ (125 ∷ []) b₆ n₆ → Prints (wholeText lone s) b 0 b₆ i₅ n₆
+        pub whole-prints : {b₅ b₆ : List ℕ} {i₅ n₅ n₆ : ℕ} → Prints (additionalText lone s i₄) b₄ n₄ b₅ i₅ n₅
+            → Wrote b₅ n₅ (125 ∷ []) b₆ n₆ → Prints (wholeText lone s) b 0 b₆ i₅ n₆
         whole-prints d z = rest-end (rest-then (λ next. entry (ascii "}") next) after-authority d) z

@@ -29,7 +29,8 @@ unfoldable pub headAt : List ℕ → List ℕ
 headAt s = headText (headOf s)
 
 -- it is the head of every document with that header and those counts
-pub head-at : (s : List ℕ) (d : Document) → d .header ≡ headerOf s → d .qdcount ≡ twoAt s 4 → d .ancount ≡ twoAt s 6 → d .nscount ≡ twoAt s 8 → d .arcount ≡ twoAt s 10 → headText d ≡ headAt s
+pub head-at : (s : List ℕ) (d : Document) → d .header ≡ headerOf s → d .qdcount ≡ twoAt s 4 → d .ancount ≡ twoAt s 6
+    → d .nscount ≡ twoAt s 8 → d .arcount ≡ twoAt s 10 → headText d ≡ headAt s
 unfolding headText headAt
 head-at s d h q a n r = rw (h, q, a, n, r)
 
@@ -53,7 +54,8 @@ counts-after [] s = refl
 counts-after (y ∷ l) s = ap (λ m. y ∷ m) (counts-after l s)
 
 -- the head is ID with the three parts after it
-head-parts : (s : List ℕ) → headAt s ≡ withCounts (withLow (withHigh (ascii "{\"ID\":" ++ decimal (twoAt s 0)) (getD s 2 0)) (getD s 3 0)) s
+head-parts : (s : List ℕ)
+    → headAt s ≡ withCounts (withLow (withHigh (ascii "{\"ID\":" ++ decimal (twoAt s 0)) (getD s 2 0)) (getD s 3 0)) s
 unfolding headText headAt headerOf withHigh withLow withCounts
 head-parts s = refl
 

@@ -31,19 +31,22 @@ offset (stopped at fault) = at
 
 -- the entries of a section after another
 module _ {A : Type 0} (read : List ℕ → ℕ → Entry A) (s : List ℕ) where
-  from-entries : (n : ℕ) (w : Reached) (at : ℕ) → w ≡ reached at → sectionFrom read s n w .entries ≡ sectionAt read s n at .entries
+  from-entries : (n : ℕ) (w : Reached) (at : ℕ) → w ≡ reached at
+      → sectionFrom read s n w .entries ≡ sectionAt read s n at .entries
   unfolding sectionFrom
   from-entries n w at e = ap (λ (w : Reached). sectionFrom read s n w .entries) e
 
 -- ---- arrays of the entries that are read
 module _ {A : Type 0} (f : A → List ℕ) (read : List ℕ → ℕ → Entry A) (e : Element) (s : List ℕ) (same : (at : ℕ) → textAt e s at ≡ texts f (read s at)) where
   -- after the first
-  later-text : (n at i : ℕ) → sectionAt read s n at .end ≡ reached i → restText e s false n at ≡ entry (ended (λ b. 44 ∷ f b) 93 (sectionAt read s n at .entries)) i
+  later-text : (n at i : ℕ) → sectionAt read s n at .end ≡ reached i
+      → restText e s false n at ≡ entry (ended (λ b. 44 ∷ f b) 93 (sectionAt read s n at .entries)) i
   unfolding sectionAt restText
   later-text zero at i q = ap (λ (k : ℕ). entry (93 ∷ []) k) (ap offset q)
   later-text (suc n) at i q = go (read s at) refl (later-text n)
     where
-      go : (w : Entry A) → read s at ≡ w → ((j k : ℕ) → sectionAt read s n j .end ≡ reached k → restText e s false n j ≡ entry (ended (λ b. 44 ∷ f b) 93 (sectionAt read s n j .entries)) k)
+      go : (w : Entry A) → read s at ≡ w
+          → ((j k : ℕ) → sectionAt read s n j .end ≡ reached k → restText e s false n j ≡ entry (ended (λ b. 44 ∷ f b) 93 (sectionAt read s n j .entries)) k)
           → restText e s false (suc n) at ≡ entry (ended (λ b. 44 ∷ f b) 93 (sectionAt read s (suc n) at .entries)) i
       go (entry a next) p g =
           ap (λ (x : Entry (List ℕ)). and-then (texts (λ t. comma false ++ t) x) (restText e s false n)) (same at ∙ ap (texts f) p)
@@ -51,19 +54,22 @@ module _ {A : Type 0} (f : A → List ℕ) (read : List ℕ → ℕ → Entry A)
           ∙ ap (λ (x : Section A). entry (ended (λ b. 44 ∷ f b) 93 (x .entries)) i) (sym (section-step read s n at a next p))
       go (bad fault) p g = absurd (stopped≢reached (rw (section-stop read s n at fault p) at q))
 
-  array-text : (n at i : ℕ) → sectionAt read s n at .end ≡ reached i → arrayText e s n at ≡ entry (listed f (sectionAt read s n at .entries)) i
+  array-text : (n at i : ℕ) → sectionAt read s n at .end ≡ reached i
+      → arrayText e s n at ≡ entry (listed f (sectionAt read s n at .entries)) i
   unfolding sectionAt restText arrayText
   array-text zero at i q = ap (λ (k : ℕ). entry (91 ∷ 93 ∷ []) k) (ap offset q)
   array-text (suc n) at i q = go (read s at) refl
     where
-      go : (w : Entry A) → read s at ≡ w → arrayText e s (suc n) at ≡ entry (listed f (sectionAt read s (suc n) at .entries)) i
+      go : (w : Entry A) → read s at ≡ w
+          → arrayText e s (suc n) at ≡ entry (listed f (sectionAt read s (suc n) at .entries)) i
       go (entry a next) p =
           ap (λ (x : Entry (List ℕ)). texts (λ t. (91 ∷ []) ++ t) (and-then (texts (λ t. comma true ++ t) x) (restText e s false n))) (same at ∙ ap (texts f) p)
           ∙ ap (λ (x : Entry (List ℕ)). texts (λ t. (91 ∷ []) ++ t) (texts (λ u. f a ++ u) x)) (later-text n next i (rw (section-step read s n at a next p) at q))
           ∙ ap (λ (x : Section A). entry (listed f (x .entries)) i) (sym (section-step read s n at a next p))
       go (bad fault) p = absurd (stopped≢reached (rw (section-stop read s n at fault p) at q))
 
-  section-text : (title l : List ℕ) (n at i : ℕ) → sectionAt read s n at .end ≡ reached i → listed f (sectionAt read s n at .entries) ≡ l → sectionText title e s n at ≡ entry (title ++ l) i
+  section-text : (title l : List ℕ) (n at i : ℕ) → sectionAt read s n at .end ≡ reached i
+      → listed f (sectionAt read s n at .entries) ≡ l → sectionText title e s n at ≡ entry (title ++ l) i
   unfolding sectionText
   section-text title l n at i q p = ap (texts (λ t. title ++ t)) (array-text n at i q) ∙ ap (λ (m : List ℕ). entry (title ++ m) i) p
 
@@ -72,11 +78,13 @@ question-same : (s : List ℕ) (at : ℕ) → textAt element.Question s at ≡ t
 unfolding textAt questionTextAt
 question-same s at = refl
 
-entry-same : (lone : Bool) (s : List ℕ) (at : ℕ) → textAt (element.Record lone) s at ≡ texts (entryText (rcodeOf s) lone) (recordAt s at)
+entry-same : (lone : Bool) (s : List ℕ) (at : ℕ)
+    → textAt (element.Record lone) s at ≡ texts (entryText (rcodeOf s) lone) (recordAt s at)
 unfolding textAt recordTextAt
 entry-same lone s at = refl
 
-record-same : (s : List ℕ) (at : ℕ) → textAt (element.Record false) s at ≡ texts (λ (r : Record). recordText (recordItem r)) (recordAt s at)
+record-same : (s : List ℕ) (at : ℕ)
+    → textAt (element.Record false) s at ≡ texts (λ (r : Record). recordText (recordItem r)) (recordAt s at)
 unfolding textAt recordTextAt entryText itemText item
 record-same s at = refl
 
@@ -91,7 +99,8 @@ module _ {A B : Type 0} (f : B → List ℕ) (g : A → B) where
   listed-map (a ∷ l) = ap (λ (t : List ℕ). 91 ∷ (f (g a) ++ t)) (ended-map l)
 
 -- the elements of the additional section
-additional-text : (rcode : ℕ) (l : List Record) → listed itemText (map (item rcode) (additionalOf rcode l)) ≡ listed (entryText rcode (eqb (count opt? l) 1)) l
+additional-text : (rcode : ℕ) (l : List Record)
+    → listed itemText (map (item rcode) (additionalOf rcode l)) ≡ listed (entryText rcode (eqb (count opt? l) 1)) l
 unfolding entryText
 additional-text rcode l =
     ap (λ (m : List Additional). listed itemText (map (item rcode) m)) (additional-map rcode l)
@@ -102,11 +111,13 @@ additional-long : (rcode : ℕ) (l : List Record) → length (additionalOf rcode
 additional-long rcode l = ap length (additional-map rcode l) ∙ map-long (entryOf rcode (eqb (count opt? l) 1)) l
 
 -- ---- the whole
-joined : (h t₁ l₁ t₂ l₂ t₃ l₃ t₄ l₄ z : List ℕ) → h ++ (t₁ ++ l₁ ++ (t₂ ++ l₂ ++ (t₃ ++ l₃ ++ (t₄ ++ l₄ ++ z)))) ≡ h ++ t₁ ++ l₁ ++ t₂ ++ l₂ ++ t₃ ++ l₃ ++ t₄ ++ l₄ ++ z
+joined : (h t₁ l₁ t₂ l₂ t₃ l₃ t₄ l₄ z : List ℕ)
+    → h ++ (t₁ ++ l₁ ++ (t₂ ++ l₂ ++ (t₃ ++ l₃ ++ (t₄ ++ l₄ ++ z)))) ≡ h ++ t₁ ++ l₁ ++ t₂ ++ l₂ ++ t₃ ++ l₃ ++ t₄ ++ l₄ ++ z
 joined h t₁ l₁ t₂ l₂ t₃ l₃ t₄ l₄ z = simp append-assoc
 
 -- the text of a document by its parts
-document-parts : (s : List ℕ) (d : Document) → d .header ≡ headerOf s → d .qdcount ≡ twoAt s 4 → d .ancount ≡ twoAt s 6 → d .nscount ≡ twoAt s 8 → d .arcount ≡ twoAt s 10
+document-parts : (s : List ℕ) (d : Document) → d .header ≡ headerOf s → d .qdcount ≡ twoAt s 4 → d .ancount ≡ twoAt s 6
+    → d .nscount ≡ twoAt s 8 → d .arcount ≡ twoAt s 10
     → headAt s
     ++ (ascii ",\"questionRRs\":" ++ listed questionText (d .questions)
     ++ (ascii ",\"answerRRs\":" ++ listed recordText (d .answers)
@@ -125,7 +136,8 @@ document-parts s d h q a n r =
     ++ ascii "}") (sym (head-at s d h q a n r))
 
 -- a text, and then another
-on-text : {e : Entry (List ℕ)} (f : ℕ → Entry (List ℕ)) {t u : List ℕ} {i j : ℕ} → e ≡ entry t i → f i ≡ entry u j → and-then e f ≡ entry (t ++ u) j
+on-text : {e : Entry (List ℕ)} (f : ℕ → Entry (List ℕ)) {t u : List ℕ} {i j : ℕ} → e ≡ entry t i → f i ≡ entry u j
+    → and-then e f ≡ entry (t ++ u) j
 on-text f {t} p q = ap (λ (x : Entry (List ℕ)). and-then x f) p ∙ ap (texts (λ v. t ++ v)) q
 
 -- octets whose sections are read to their end

@@ -58,7 +58,8 @@ fn put_array(
     }
 }
 
-// Writes a section's title and array, without a fault, from where the section before it ended; `place` is the offset of its count.
+// Writes a section's title and array, without a fault, from where the section before it ended; `place` is the offset of
+// its count.
 fn put_section(
     s: &[u8],
     start: Position,

@@ -29,7 +29,8 @@ module _ {s : List ℕ} {lone : Bool} (a : Accepted s lone) where
   accepted-output = rw (a .decodes)
 
   -- its text is written where there is room
-  pub gives-text : {b b′ : List ℕ} {n : ℕ} → length (textOf s) ≤ length b → Wrote b 0 (textOf s) b′ n → Gives (toText s b) (Length n) b′
+  pub gives-text : {b b′ : List ℕ} {n : ℕ} → length (textOf s) ≤ length b → Wrote b 0 (textOf s) b′ n
+      → Gives (toText s b) (Length n) b′
   unfolding toText
   gives-text {b} {n = n} h w =
       let e : n ≡ length (textOf s) = omega (arith, w .place) in
@@ -41,7 +42,8 @@ module _ {s : List ℕ} {lone : Bool} (a : Accepted s lone) where
     unfolding toText
     measured-long h = rw (empty l z, accepted-output) (gives-none 10 b (textOf s) (omega (arith, w .place, rw (empty l z) at h)))
 
-    pub measured-text : {b′ : List ℕ} {r : ℕ} → n ≤ length (l ++ b) → Wrote (l ++ b) 0 (textOf s) b′ r → Gives (toText s b) (Length n) b′
+    pub measured-text : {b′ : List ℕ} {r : ℕ} → n ≤ length (l ++ b) → Wrote (l ++ b) 0 (textOf s) b′ r
+        → Gives (toText s b) (Length n) b′
     measured-text {b′} {r} h v =
         let e : n ≡ r = omega (arith, w .place, v .place) in
         rw e (gives-text (omega (arith, w .place, rw (empty l z) at h)) (rw (empty l z) at v))
@@ -69,7 +71,8 @@ module _ (s b l : List ℕ) (z : length l ≡ 0) {x : Scan} (u : Uncompressed s 
   convert-accepted q = let (m, e, c, f) = scanned (decode s) (u .answers) q in record { message = m; decodes = e; alone = ap (λ (n : ℕ). eqb n 1) c }
 
   -- how long the text can be at most
-  pub convert-bounded : {n : ℕ} → ((i : ℕ) → getD s i 0 < 256) → x .outcome ≡ Length n → (n ≤ 65535) × (length (textOf s) ≤ 10 * n + 400)
+  pub convert-bounded : {n : ℕ} → ((i : ℕ) → getD s i 0 < 256) → x .outcome ≡ Length n
+      → (n ≤ 65535) × (length (textOf s) ≤ 10 * n + 400)
   unfolding textOf
   convert-bounded {n} o q =
       let (m, e, c, f) = scanned (decode s) (u .answers) q in

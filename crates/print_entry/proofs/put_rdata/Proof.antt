@@ -86,7 +86,8 @@ part-put-hex-end-2 c = name-room _ (c .before .before .before .before .before .b
 
 put-hex-requires-2 : tie.Need-put-hex-requires-2 Inv-loop μ-loop
 put-hex-requires-2 c κs =
-    let m = c .before .before .before .before .before .before .before in
+    let d = c .before .before .before .before in
+    let m = d .before .before .before in
     let k = name-within _ (m .rdata-step .ensures .1) (c .before .before .before .before .step2 .given .1) in
     hex-room (m .before .loop .next) (c .before .before .before .before .step2 .given .0 .0 - 0) (m .rdata-step .result .octets) (2 ^ 40) (omega (arith, m .before .loop .inv, m .before .before .before .before .pre))
 

@@ -50,7 +50,8 @@ put-shown-requires c κs =
 
 add-t14 : tie.Need-add-t14
 add-t14 c =
-    let m = c .before .before .before .before .before .before .before .before in
+    let p = c .before .before .before in
+    let m = p .before .before .before .before .before in
     let q = m .before .before .before in
     let k = heads-within _ (q .before .before .before .args .at) (q .head-at .ensures .1) (m .answer .given .1) in search needs
 

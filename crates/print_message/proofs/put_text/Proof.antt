@@ -100,7 +100,8 @@ same-length c =
     let q = a .before .before .before .before .before in
     let h = q .before .before .before .before .before in
     let p = h .before .before .before .before .pre in
-    same-long (accepted-text p (whole-prints _ _ (accepted-readable p) (h .put-head .ensures .0) (q .put-section .ensures .0) (a .put-section2 .ensures .0) (u .put-section3 .ensures .0) (d .put-section4 .ensures .0) (c .before .before .put .ensures)))
+    same-long (accepted-text p (whole-prints _ _ (accepted-readable p) (h .put-head .ensures .0) (q .put-section .ensures .0) (a .put-section2 .ensures .0)
+    (u .put-section3 .ensures .0) (d .put-section4 .ensures .0) (c .before .before .put .ensures)))
 
 returns : tie.Need-returns
 returns c =
@@ -110,7 +111,8 @@ returns c =
     let q = a .before .before .before .before .before in
     let h = q .before .before .before .before .before in
     let p = h .before .before .before .before .pre in
-    accepted-text p (whole-prints _ _ (accepted-readable p) (h .put-head .ensures .0) (q .put-section .ensures .0) (a .put-section2 .ensures .0) (u .put-section3 .ensures .0) (d .put-section4 .ensures .0) (c .before .before .put .ensures))
+    accepted-text p (whole-prints _ _ (accepted-readable p) (h .put-head .ensures .0) (q .put-section .ensures .0) (a .put-section2 .ensures .0)
+    (u .put-section3 .ensures .0) (d .put-section4 .ensures .0) (c .before .before .put .ensures))
 
 pub put-text-spec : {M : Type 1} → statement M
 put-text-spec =
