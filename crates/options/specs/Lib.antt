@@ -1,6 +1,6 @@
 -- EDNS options: their table, the shapes of their values, their members.
 pub mod Options
 pub mod Boundaries
+pub mod Missed
 pub mod Every
-pub mod Entries
-pub mod Writing
+pub mod Shapes

@@ -1,0 +1,3 @@
+-- What the writers of EDNS options have written.
+pub mod Entries
+pub mod Writing
