@@ -1,3 +1,2 @@
 -- What the writers of EDNS options have written.
-pub mod Entries
 pub mod Writing

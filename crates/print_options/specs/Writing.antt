@@ -26,12 +26,6 @@ optionText code value = memberText (memberOf (record { code = code; value = valu
 pub at-code : (k : ℕ) {code : ℕ} (v : List ℕ) {b b′ : List ℕ} {at r : ℕ} → code ≡ k → Wrote b at (optionText k v) b′ r → Wrote b at (optionText code v) b′ r
 at-code k v e w = rw e w
 
--- octets in hexadecimal with the text before them: that text, the digits, the quote
-pub wrote-hex : (s : List ℕ) {head b b₁ b₂ b₃ : List ℕ} {at r₁ r₂ r₃ : ℕ} → Wrote b at head b₁ r₁ → Wrote b₁ r₁ (each hexOctet s) b₂ r₂ → Wrote b₂ r₂ (34 ∷ []) b₃ r₃
-    → Wrote b at (head ++ hexText s) b₃ r₃
-unfolding hexText
-wrote-hex s p q t = then p (rw (each-ended hexOctet 34 s) (then q t))
-
 -- the octets from a place on, as a part of the value
 rest-is : (k : ℕ) (v : List ℕ) → take (length v - k) (drop k v) ≡ drop k v
 rest-is k v = take-all (length v - k) (drop k v) (omega (arith, length-drop k v))
@@ -128,16 +122,6 @@ module _ (v : List ℕ) {b b′ : List ℕ} {at r : ℕ} where
   error-is f e p q s =
       let (long, text) = error-parts v f in
       rw (le-leb _ _ long, text, ← e) (then (then p q) (rw (rest-is 2 v) at s))
-
--- the end of EDE, without text and with it
-pub error-bare : (text : List ℕ) {b b′ : List ℕ} {at r : ℕ} → length text ≡ 0 → Wrote b at (ascii "}") b′ r → Wrote b at (errorTail (present text)) b′ r
-error-bare [] e w = w
-error-bare (x ∷ text) e w = absurd (omega arith)
-
-pub error-text : (text : List ℕ) {b b₁ b₂ b₃ : List ℕ} {at r₁ r₂ r₃ : ℕ} → (length text ≡ 0 → ⊥) → Wrote b at (ascii ",\"TEXT\":\"") b₁ r₁ → Wrote b₁ r₁ (stringText text) b₂ r₂ → Wrote b₂ r₂ (ascii "}") b₃ r₃
-    → Wrote b at (errorTail (present text)) b₃ r₃
-error-text [] h p q s = absurd (h refl)
-error-text (x ∷ text) h p q s = then (then p q) s
 
 -- ---- a value without the shape of its code
 not-shaped : (form : Form) (v : List ℕ) → present? (shape form v) ≡ false → shape form v ≡ none

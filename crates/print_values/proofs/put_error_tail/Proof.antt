@@ -1,9 +1,9 @@
--- `print_options::put_error_tail` meets its contract: no text, and text.
+-- `print_values::put_error_tail` meets its contract: no text, and text.
 -- Assumes nothing.
 use borrow.Author.Needs.{needs}
-use Rattle.print_options.specs.Writing.{error-bare, error-text}
-use Rattle.print_options.proofs.put_error_tail.Statement.{statement}
-use Rattle.print_options.proofs.put_error_tail.Tie as tie
+use Rattle.print_values.specs.Parts.{error-bare, error-text}
+use Rattle.print_values.proofs.put_error_tail.Statement.{statement}
+use Rattle.print_values.proofs.put_error_tail.Tie as tie
 
 put-requires : tie.Need-put-requires
 put-requires c κs = search needs

@@ -1,9 +1,9 @@
--- `print_options::put_entry` meets its contract: the mark and the number.
+-- `print_values::put_entry` meets its contract: the mark and the number.
 -- Assumes nothing.
 use borrow.Author.Needs.{needs}
-use Rattle.print_options.specs.Entries.{wrote-entry}
-use Rattle.print_options.proofs.put_entry.Statement.{statement}
-use Rattle.print_options.proofs.put_entry.Tie as tie
+use Rattle.print_values.specs.Entries.{wrote-entry}
+use Rattle.print_values.proofs.put_entry.Statement.{statement}
+use Rattle.print_values.proofs.put_entry.Tie as tie
 
 put-requires : tie.Need-put-requires
 put-requires c κs = search needs

@@ -1,9 +1,9 @@
--- `print_options::put_hex_text` meets its contract: the text before, the digits and the quote.
+-- `print_values::put_hex_text` meets its contract: the text before, the digits and the quote.
 -- Assumes nothing.
 use borrow.Author.Needs.{needs}
-use Rattle.print_options.specs.Writing.{wrote-hex}
-use Rattle.print_options.proofs.put_hex_text.Statement.{statement}
-use Rattle.print_options.proofs.put_hex_text.Tie as tie
+use Rattle.print_values.specs.Parts.{wrote-hex}
+use Rattle.print_values.proofs.put_hex_text.Statement.{statement}
+use Rattle.print_values.proofs.put_hex_text.Tie as tie
 
 put-all-requires : tie.Need-put-all-requires
 put-all-requires c κs = search needs

@@ -1,4 +1,4 @@
--- `print_options::put_octet_list` meets its contract: the first octet behind the bracket, then one octet a turn behind a comma.
+-- `print_values::put_octet_list` meets its contract: the first octet behind the bracket, then one octet a turn behind a comma.
 -- Assumes nothing.
 use borrow.Author.Needs.{needs}
 use mathlib.Core.Path.{_∙_, _≡_}
@@ -6,9 +6,9 @@ use Prim.Native.Nat.{_≤_, _+_, _*_, _-_}
 use native.Mathlib.Omega.{arith}
 use lib.ListN.{length, drop}
 use Rattle.octets.specs.Overlay.{same-long}
-use Rattle.print_options.specs.Entries.{Left, list-start, octet-none, octet-next, octet-last, entry-width}
-use Rattle.print_options.proofs.put_octet_list.Statement.{statement}
-use Rattle.print_options.proofs.put_octet_list.Tie as tie
+use Rattle.print_values.specs.Entries.{Left, list-start, octet-none, octet-next, octet-last, entry-width}
+use Rattle.print_values.proofs.put_octet_list.Statement.{statement}
+use Rattle.print_values.proofs.put_octet_list.Tie as tie
 
 abbrev Inv-loop : tie.InvT-loop
 Inv-loop out₀ at value to₀ i₀ out to i = (i ≤ length value) × (to ≤ at + 4 * i) × (length out ≡ length out₀) × Left (drop 1 value) (drop i value) out₀ to₀ out to
