@@ -8,8 +8,7 @@ use options::all_zero;
 use options::has_shape;
 use print_values::put_error_tail;
 use print_values::put_hex_text;
-use print_values::put_octet_list;
-use print_values::put_word_list;
+use print_values::put_list;
 ghost use mathlib.Core.Path.{_≡_};
 ghost use mathlib.Core.List.{_++_};
 ghost use Prim.Native.Nat.{_+_, _*_, _^_, _<_, _≤_};
@@ -49,7 +48,7 @@ fn put_octets(out: &mut [u8], at: usize, name: &[u8], value: &[u8]) -> usize
     ensures { λ r. ⌜ r ≤ at + 4 * length (now (value .entry)) + 64 ⌝ }
 {
     let next = put_all(out, at, name);
-    put_octet_list(out, next, value)
+    put_list(out, next, value, 1)
 }
 
 // EXPIRE: no octets, or four
@@ -112,7 +111,7 @@ fn put_keytag(out: &mut [u8], at: usize, value: &[u8]) -> usize
     ensures { λ r. ⌜ r ≤ at + 4 * length (now (value .entry)) + 64 ⌝ }
 {
     let next = put_all(out, at, b"\"KEYTAG\":");
-    put_word_list(out, next, value)
+    put_list(out, next, value, 2)
 }
 
 // EDE: two octets and text

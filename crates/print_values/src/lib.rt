@@ -1,4 +1,4 @@
-// Writers of the parts of option values: octets in hexadecimal, lists of numbers, the text of EDE. The definitions are in `options`.
+// Writers of the parts of option values: octets in hexadecimal, lists of numbers, the text of EDE.
 use octets::put;
 use octets::put_all;
 use octets::put_decimal;
@@ -14,7 +14,8 @@ ghost use Rattle.octets.specs.Lists.{listed};
 ghost use Rattle.octets.specs.Decimal.{decimal};
 ghost use Rattle.octets.specs.Hexadecimal.{hexText};
 ghost use Rattle.octets.specs.Overlay.{Wrote};
-ghost use Rattle.options.specs.Options.{words, present, errorTail};
+ghost use Rattle.options.specs.Options.{present, errorTail};
+ghost use Rattle.print_values.specs.Entries.{Width, numbers, numberAt};
 
 // Writes octets in hexadecimal: the text up to the quote before them, their digits and the quote after.
 pub fn put_hex_text(out: &mut [u8], at: usize, head: &[u8], src: &[u8]) -> usize
@@ -27,47 +28,33 @@ pub fn put_hex_text(out: &mut [u8], at: usize, head: &[u8], src: &[u8]) -> usize
     put(out, next, b'"')
 }
 
-// Writes a number of a list, and before it the bracket or the comma.
-fn put_entry(out: &mut [u8], at: usize, mark: u8, n: u32) -> usize
-    requires { ⌜ at + 1 < 2 ^ 39 ⌝ }
-    ensures { λ r. ⌜ Wrote (now (out .entry)) at (mark ∷ decimal n) (now (out .exit)) r ⌝ }
+// Writes the number at `i` of a list, of one or two octets, and before it the bracket or the comma.
+fn put_entry(out: &mut [u8], at: usize, mark: u8, value: &[u8], i: usize, width: usize) -> usize
+    requires { ⌜ (at + 1 < 2 ^ 39) × Width width × (i + width ≤ length (now value)) ⌝ }
+    ensures { λ r. ⌜ Wrote (now (out .entry)) at (mark ∷ decimal (numberAt width (now (value .entry)) i)) (now (out .exit)) r ⌝ }
+    ensures { λ r. ⌜ r ≤ at + 4 * width ⌝ }
 {
     let next = put(out, at, mark);
-    put_decimal(out, next, n)
+    if width == 2 {
+        return put_decimal(out, next, two_at(value, i));
+    }
+    put_decimal(out, next, wide(value[i]) as u32)
 }
 
-// Writes the octets as a list of numbers.
-pub fn put_octet_list(out: &mut [u8], at: usize, value: &[u8]) -> usize
-    requires { ⌜ (at < 2 ^ 38 + 32) × (length (now value) < 65536) ⌝ }
-    ensures { λ r. ⌜ Wrote (now (out .entry)) at (listed decimal (now (value .entry))) (now (out .exit)) r ⌝ }
+// Writes the octets as a list of numbers, of one or two octets each.
+pub fn put_list(out: &mut [u8], at: usize, value: &[u8], width: usize) -> usize
+    requires { ⌜ (at < 2 ^ 38 + 32) × (length (now value) < 65536) × Width width ⌝ }
+    ensures { λ r. ⌜ Wrote (now (out .entry)) at (listed decimal (numbers width (now (value .entry)))) (now (out .exit)) r ⌝ }
     ensures { λ r. ⌜ r ≤ at + 4 * length (now (value .entry)) + 2 ⌝ }
 {
-    if value.len() == 0 {
+    if value.len() < width {
         return put_all(out, at, b"[]");
     }
-    let mut to = put_entry(out, at, b'[', wide(value[0]) as u32);
-    let mut i = 1;
-    while i < value.len() {
-        to = put_entry(out, to, b',', wide(value[i]) as u32);
-        i += 1;
-    }
-    put(out, to, b']')
-}
-
-// Writes the octets, two to a number, as a list.
-pub fn put_word_list(out: &mut [u8], at: usize, value: &[u8]) -> usize
-    requires { ⌜ (at < 2 ^ 38 + 32) × (length (now value) < 65536) ⌝ }
-    ensures { λ r. ⌜ Wrote (now (out .entry)) at (listed decimal (words (now (value .entry)))) (now (out .exit)) r ⌝ }
-    ensures { λ r. ⌜ r ≤ at + 3 * length (now (value .entry)) + 2 ⌝ }
-{
-    if value.len() < 2 {
-        return put_all(out, at, b"[]");
-    }
-    let mut to = put_entry(out, at, b'[', two_at(value, 0));
-    let mut i = 2;
-    while i + 1 < value.len() {
-        to = put_entry(out, to, b',', two_at(value, i));
-        i += 2;
+    let mut to = put_entry(out, at, b'[', value, 0, width);
+    let mut i = width;
+    while i + width <= value.len() {
+        to = put_entry(out, to, b',', value, i, width);
+        i += width;
     }
     put(out, to, b']')
 }

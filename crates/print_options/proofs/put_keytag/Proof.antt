@@ -12,8 +12,8 @@ slice-aggregate-put-all c = search needs
 put-all-requires : tie.Need-put-all-requires
 put-all-requires c κs = search needs
 
-put-word-list-requires : tie.Need-put-word-list-requires
-put-word-list-requires c κs = search needs
+put-list-requires : tie.Need-put-list-requires
+put-list-requires c κs = search needs
 
 same-length : tie.Need-same-length
 same-length c = search needs
@@ -24,4 +24,4 @@ returns c = (keytag-is _ (search needs) (search (then, needs)), search needs)
 pub put-keytag-spec : {M : Type 1} → statement M
 put-keytag-spec =
     tie.close
-    (tie.spec slice-aggregate-put-all put-all-requires put-word-list-requires same-length returns)
+    (tie.spec slice-aggregate-put-all put-all-requires put-list-requires same-length returns)

@@ -8,8 +8,8 @@ use Rattle.print_options.proofs.put_octets.Tie as tie
 put-all-requires : tie.Need-put-all-requires
 put-all-requires c κs = search needs
 
-put-octet-list-requires : tie.Need-put-octet-list-requires
-put-octet-list-requires c κs = search needs
+put-list-requires : tie.Need-put-list-requires
+put-list-requires c κs = search needs
 
 same-length : tie.Need-same-length
 same-length c = search needs
@@ -22,6 +22,6 @@ put-octets-spec =
     tie.close
     (tie.spec
     put-all-requires
-    put-octet-list-requires
+    put-list-requires
     same-length
     returns)
