@@ -33,7 +33,8 @@ record Parts (t : List ℕ) (key : ℕ) (text rest : List ℕ) (at : ℕ) : Type
   after : drop (at + (2 + length text)) t ≡ rest
   room : at + (2 + length text) ≤ length t
 
-parts : (t : List ℕ) (key : ℕ) (text rest : List ℕ) (at : ℕ) → drop at t ≡ key ∷ length text ∷ (text ++ rest) → Parts t key text rest at
+parts : (t : List ℕ) (key : ℕ) (text rest : List ℕ) (at : ℕ) → drop at t ≡ key ∷ length text ∷ (text ++ rest)
+    → Parts t key text rest at
 parts t key text rest at e =
     let row = key ∷ length text ∷ text in
     let long : length row ≡ 2 + length text = omega arith in
@@ -74,9 +75,15 @@ module _ {rows : List (ℕ × String)} {n at : ℕ} (w : Row rows n at) {t : Lis
   unfolding each rowAt
   first h = go (w .rest) here (w .goes)
     where
-      go : (rest : List (ℕ × String)) → drop at t ≡ tableOctets rest → rowAt n rows ≡ at + rowAt n rest → First t rows n at
+      go : (rest : List (ℕ × String)) → drop at t ≡ tableOctets rest → rowAt n rows ≡ at + rowAt n rest
+          → First t rows n at
       go [] d g = absurd (omega (arith, long, length-drop at t, ap length d))
-      go (row ∷ later) d g = record { row = row; later = later; octets = parts t (row .0) (ascii (row .1)) (tableOctets later) at d; goes = g }
+      go (row ∷ later) d g = record {
+        row = row;
+        later = later;
+        octets = parts t (row .0) (ascii (row .1)) (tableOctets later) at d;
+        goes = g;
+      }
 
   -- after the last row
   pub row-end : length (tableOctets rows) ≤ at → at ≡ rowAt n rows
@@ -126,11 +133,14 @@ row-key n (row ∷ rows) = go (eqb (row .0) n) (ltb (rowAt n rows) (length (tabl
         → ltb (cond a 0 (length (rowOctets row) + rowAt n rows)) (length (rowOctets row ++ tableOctets rows)) ≡ cond a true (key? n rows)
     go true b p q = lt-ltb 0 (length (rowOctets row ++ tableOctets rows)) (omega arith)
     go false true p q =
-        lt-ltb (length (rowOctets row) + rowAt n rows) (length (rowOctets row ++ tableOctets rows)) (omega (arith, sum, ltb-true (rowAt n rows) (length (tableOctets rows)) p)) ∙ q
+        let h = ltb-true (rowAt n rows) (length (tableOctets rows)) p in
+        lt-ltb (length (rowOctets row) + rowAt n rows) (length (rowOctets row ++ tableOctets rows)) (omega (arith, sum)) ∙ q
     go false false p q =
-        le-ltb (length (rowOctets row) + rowAt n rows) (length (rowOctets row ++ tableOctets rows)) (omega (arith, sum, ltb-false (rowAt n rows) (length (tableOctets rows)) p)) ∙ q
+        let h = ltb-false (rowAt n rows) (length (tableOctets rows)) p in
+        le-ltb (length (rowOctets row) + rowAt n rows) (length (rowOctets row ++ tableOctets rows)) (omega (arith, sum)) ∙ q
 
-pub row-listed : (n : ℕ) (rows : List (ℕ × String)) {at : ℕ} → at ≡ rowAt n rows → ltb at (length (tableOctets rows)) ≡ key? n rows
+pub row-listed : (n : ℕ) (rows : List (ℕ × String)) {at : ℕ} → at ≡ rowAt n rows
+    → ltb at (length (tableOctets rows)) ≡ key? n rows
 row-listed n rows d = rw d (row-key n rows)
 
 -- the octets there are the key, the length of its text, and the text
@@ -138,7 +148,8 @@ record Found (t : List ℕ) (n : ℕ) (text : List ℕ) (at : ℕ) : Type 0 wher
   rest : List ℕ
   here : drop at t ≡ n ∷ length text ∷ (text ++ rest)
 
-found : (n : ℕ) (rows : List (ℕ × String)) → rowAt n rows < length (tableOctets rows) → Found (tableOctets rows) n (textOf n rows) (rowAt n rows)
+found : (n : ℕ) (rows : List (ℕ × String)) → rowAt n rows < length (tableOctets rows)
+    → Found (tableOctets rows) n (textOf n rows) (rowAt n rows)
 unfolding each rowAt textOf
 found n [] h = absurd (omega arith)
 found n (row ∷ rows) h = go (found n rows) (eqb (row .0) n) refl h
@@ -146,10 +157,14 @@ found n (row ∷ rows) h = go (found n rows) (eqb (row .0) n) refl h
     whole : List ℕ
     whole = rowOctets row ++ tableOctets rows
 
-    go : (rowAt n rows < length (tableOctets rows) → Found (tableOctets rows) n (textOf n rows) (rowAt n rows)) → (a : Bool) → eqb (row .0) n ≡ a
+    go : (rowAt n rows < length (tableOctets rows) → Found (tableOctets rows) n (textOf n rows) (rowAt n rows))
+        → (a : Bool) → eqb (row .0) n ≡ a
         → cond a 0 (length (rowOctets row) + rowAt n rows) < length whole
         → Found whole n (cond a (ascii (row .1)) (textOf n rows)) (cond a 0 (length (rowOctets row) + rowAt n rows))
-    go f true e h = record { rest = tableOctets rows; here = ap (λ k. k ∷ length (ascii (row .1)) ∷ (ascii (row .1) ++ tableOctets rows)) (eqb-true (row .0) n e) }
+    go f true e h = record {
+      rest = tableOctets rows;
+      here = ap (λ k. k ∷ length (ascii (row .1)) ∷ (ascii (row .1) ++ tableOctets rows)) (eqb-true (row .0) n e);
+    }
     go f false e h =
         let later = f (omega (arith, length-append (rowOctets row) (tableOctets rows))) in
         record {
@@ -164,12 +179,14 @@ unfolding key? textOf
 no-text n [] e = refl
 no-text n (row ∷ rows) e = go (no-text n rows) (eqb (row .0) n) e
   where
-    go : (key? n rows ≡ false → textOf n rows ≡ []) → (a : Bool) → cond a true (key? n rows) ≡ false → cond a (ascii (row .1)) (textOf n rows) ≡ []
+    go : (key? n rows ≡ false → textOf n rows ≡ []) → (a : Bool) → cond a true (key? n rows) ≡ false
+        → cond a (ascii (row .1)) (textOf n rows) ≡ []
     go f true e = let z : _≡_ {A = ℕ} 0 1 = cc in absurd (omega arith)
     go f false e = f e
 
 -- how long a text can be
-pub text-short : (k n : ℕ) (rows : List (ℕ × String)) → T (all (λ (row : ℕ × String). leb (length (ascii (row .1))) k) rows) → length (textOf n rows) ≤ k
+pub text-short : (k n : ℕ) (rows : List (ℕ × String)) → T (all (λ (row : ℕ × String). leb (length (ascii (row .1))) k) rows)
+    → length (textOf n rows) ≤ k
 unfolding textOf
 text-short k n [] t = omega arith
 text-short k n (row ∷ rows) t = go (eqb (row .0) n) (text-short k n rows (and-right (leb (length (ascii (row .1))) k) _ t))

@@ -1,4 +1,5 @@
-// Whether a record shows as an EDNS element, its RDATA being octets or hexadecimal digits as `hex` says. The definitions are in specs/.
+// Whether a record shows as an EDNS element. Its RDATA is octets or hexadecimal digits: `hex` says which.
+// The definitions are in specs/.
 use either::count;
 use either::two_at;
 use octets::wide;

@@ -1,4 +1,4 @@
--- Octets as they are, or as the hexadecimal digits that stand for them. Assumes nothing.
+-- Octets as they are, or as the hexadecimal digits of them. Assumes nothing.
 use mathlib.Core.Path.{_≡_, sym}
 use mathlib.Core.Bool.{Bool, true, false}
 use mathlib.Core.List.{List}
@@ -8,7 +8,7 @@ use lib.ListN.{length, getD}
 use Rattle.octets.specs.Lists.{paired}
 use Rattle.either.specs.Digits.{Hexes, paired-half}
 
--- the octets of `s`, or those that its digits stand for
+-- the octets that `s` is, or those whose digits it is
 abbrev pub octetsIn : Bool → List ℕ → List ℕ
 octetsIn true s = paired s
 octetsIn false s = s

@@ -15,7 +15,7 @@ pub rest-start : (p : ℕ → Bool) (s : List ℕ) (i : ℕ) → Rest p s (all p
 rest-start p s i = record { goes = refl }
 
 module _ {p : ℕ → Bool} {s : List ℕ} {v : Bool} {i : ℕ} (o : Rest p s v i) {size : ℕ} (z : size ≡ length s) where
-  -- behind the last
+  -- after the last
   pub rest-ends : size ≤ i → true ≡ v
   rest-ends h =
       let k : length s ≤ i = rw (← z) h in

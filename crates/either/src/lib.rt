@@ -1,4 +1,4 @@
-// Octets as they are, or as the hexadecimal digits that stand for them in a text: `hex` says which. The definitions are in specs/.
+// Octets as they are, or as the hexadecimal digits of them in a text: `hex` says which. The definitions are in specs/.
 use octets::wide;
 ghost use mathlib.Core.Path.{_≡_};
 ghost use Prim.Native.Nat.{_+_, _*_, _<_, _≤_};

@@ -85,7 +85,8 @@ abbrev pub Shaped : ℕ → List ℕ → Type 0
 Shaped code v = present? (shape (formOf code) v) ≡ true
 
 -- the test passed, and the code is that of a row
-pub shaped-at : (k : ℕ) {code : ℕ} (v : List ℕ) {r : Bool} → code ≡ k → r ≡ present? (shape (formOf code) v) → not r ≡ false → Shaped k v
+pub shaped-at : (k : ℕ) {code : ℕ} (v : List ℕ) {r : Bool} → code ≡ k → r ≡ present? (shape (formOf code) v)
+    → not r ≡ false → Shaped k v
 shaped-at k v {r} e q h = rw (← e) (sym q ∙ not-false r h)
 
 and-true : (a b : Bool) → a && b ≡ true → (a ≡ true) × (b ≡ true)

@@ -1,4 +1,5 @@
-// EDNS options: tests of their values, of octets or of hexadecimal digits as `hex` says. The definitions are in specs/.
+// EDNS options: tests of their values, which are octets or hexadecimal digits: `hex` says which.
+// The definitions are in specs/.
 use either::count;
 use either::octet;
 ghost use mathlib.Core.Path.{_≡_};

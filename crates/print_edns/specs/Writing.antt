@@ -22,17 +22,20 @@ use Rattle.edns.specs.Ways.{here, options-end, options-none, options-more}
 
 -- ---- FLAGS and RCODE
 -- the text of a key
-pub text-is : (k : ℕ) (rows : List (ℕ × String)) {n : ℕ} {b b′ : List ℕ} {at r : ℕ} → n ≡ k → Wrote b at (textOf k rows) b′ r → Wrote b at (textOf n rows) b′ r
+pub text-is : (k : ℕ) (rows : List (ℕ × String)) {n : ℕ} {b b′ : List ℕ} {at r : ℕ} → n ≡ k
+    → Wrote b at (textOf k rows) b′ r → Wrote b at (textOf n rows) b′ r
 text-is k rows e w = rw e w
 
 -- the name of an RCODE by its row: there is none, or the octets of the table are written
-module _ (n : ℕ) {t : List ℕ} (e : t ≡ tableOctets rcodes) {row : ℕ} (d : row ≡ rowAt n rcodes) {b : List ℕ} {at : ℕ} where
-  pub rcode-none : length (tableOctets rcodes) ≤ row → Wrote b at (textOf n rcodes) b at
-  rcode-none h = rw (text-none n rcodes e d h) (nothing b at)
+module _
+    (n : ℕ) {t : List ℕ} (e : t ≡ tableOctets rcodes) {row : ℕ} (d : row ≡ rowAt n rcodes) {b : List ℕ} {at : ℕ}
+  where
+    pub rcode-none : length (tableOctets rcodes) ≤ row → Wrote b at (textOf n rcodes) b at
+    rcode-none h = rw (text-none n rcodes e d h) (nothing b at)
 
-  pub rcode-is : row < length (tableOctets rcodes) → {size : ℕ} → size ≡ getD t (row + 1) 0 → {b′ : List ℕ} {r : ℕ}
-      → Wrote b at (take (row + 2 + size - (row + 2)) (drop (row + 2) t)) b′ r → Wrote b at (textOf n rcodes) b′ r
-  rcode-is h z w = rw (text-row n rcodes e d h z) at w
+    pub rcode-is : row < length (tableOctets rcodes) → {size : ℕ} → size ≡ getD t (row + 1) 0 → {b′ : List ℕ} {r : ℕ}
+        → Wrote b at (take (row + 2 + size - (row + 2)) (drop (row + 2) t)) b′ r → Wrote b at (textOf n rcodes) b′ r
+    rcode-is h z w = rw (text-row n rcodes e d h z) at w
 
 -- every name has at most 9 octets
 pub rcode-short : (n : ℕ) {b b′ : List ℕ} {at r : ℕ} → Wrote b at (textOf n rcodes) b′ r → r ≤ at + 9
@@ -45,11 +48,11 @@ abbrev membersText : List EdnsOption → List ℕ
 membersText l = each (λ m. 44 ∷ memberText m) (map memberOf l)
 
 -- what divides after an option, and the text of both
-behind : (a : EdnsOption) (o : Option (List EdnsOption)) → T (present? (prepend a o))
+later : (a : EdnsOption) (o : Option (List EdnsOption)) → T (present? (prepend a o))
     → T (present? o) × (membersText (listOf (prepend a o)) ≡ (44 ∷ memberText (memberOf a)) ++ membersText (listOf o))
 unfolding each
-behind a none t = absurd t
-behind a (some l) t = (tt, refl)
+later a none t = absurd t
+later a (some l) t = (tt, refl)
 
 -- The options from `from` on are still to be written, and they divide what is left: written from `to` on, they make the whole text.
 pub record Left (s b : List ℕ) (at : ℕ) (out : List ℕ) (to from : ℕ) : Type 0 where
@@ -91,7 +94,7 @@ module _ {s b : List ℕ} {at : ℕ} {out : List ℕ} {to from : ℕ} (f : Left 
     left-more {code} {size} d e {out₁} {out₂} {r₁} {r₂} p q =
         let after = drop (from + 4 + twoAt s (from + 2)) s in
         let more : optionsOf (drop from s) ≡ prepend (here s from) (optionsOf after) = options-more s from left-room in
-        let (t, text) = behind (here s from) (optionsOf after) (subst (λ o. T (present? o)) more (f .divides)) in
+        let (t, text) = later (here s from) (optionsOf after) (subst (λ o. T (present? o)) more (f .divides)) in
         let long : from + 4 + size - (from + 4) ≡ size = omega arith in
         let member : Wrote out to (44 ∷ memberText (memberOf (here s from))) out₂ r₂ = then p (rw (long, d, e) at q) in
         rw e record {

@@ -1,4 +1,4 @@
--- The text of a member for each row of the table, as its writer puts it together: given the shape, and not. Assumes nothing.
+-- The text of a member for each row of the table, as its writer puts it together. Assumes nothing.
 use mathlib.Core.Path.{_≡_, refl, sym, _∙_}
 use mathlib.Core.Bool.{Bool, true, false, not}
 use mathlib.Core.Option.{Option, none, some}
@@ -77,7 +77,8 @@ module _ (v : List ℕ) {b b′ : List ℕ} {at r : ℕ} where
   unfolding lookup textOf rows members formOf shape valueText memberOf memberText
   expire-none e w = rw (eq-eqb _ _ e) w
 
-  pub expire-is : {n : ℕ} {b₁ : List ℕ} {r₁ : ℕ} → Shaped 9 v → (length v ≡ 0 → ⊥) → n ≡ fourAt v 0 → Wrote b at (ascii "\"EXPIRE\":") b₁ r₁ → Wrote b₁ r₁ (decimal n) b′ r → Wrote b at (optionText 9 v) b′ r
+  pub expire-is : {n : ℕ} {b₁ : List ℕ} {r₁ : ℕ} → Shaped 9 v → (length v ≡ 0 → ⊥) → n ≡ fourAt v 0
+      → Wrote b at (ascii "\"EXPIRE\":") b₁ r₁ → Wrote b₁ r₁ (decimal n) b′ r → Wrote b at (optionText 9 v) b′ r
   unfolding lookup textOf rows members formOf shape valueText memberOf memberText
   expire-is s h f p q = rw (expire-four v s h, ← f) (then p q)
 
@@ -86,8 +87,10 @@ module _ (v : List ℕ) {b b′ : List ℕ} {at r : ℕ} where
   unfolding lookup textOf rows members formOf shape valueText memberOf memberText
   cookie-client e p q = rw e (then p q)
 
-  pub cookie-both : {b₁ b₂ : List ℕ} {r₁ r₂ : ℕ} → Shaped 10 v → (length v ≡ 8 → ⊥) → Wrote b at (ascii "\"COOKIE\":[\"" ++ hexText (take 8 v)) b₁ r₁
-      → Wrote b₁ r₁ (ascii ",\"" ++ hexText (take (length v - 8) (drop 8 v))) b₂ r₂ → Wrote b₂ r₂ (ascii "]") b′ r → Wrote b at (optionText 10 v) b′ r
+  pub cookie-both : {b₁ b₂ : List ℕ} {r₁ r₂ : ℕ} → Shaped 10 v → (length v ≡ 8 → ⊥)
+      → Wrote b at (ascii "\"COOKIE\":[\"" ++ hexText (take 8 v)) b₁ r₁
+      → Wrote b₁ r₁ (ascii ",\"" ++ hexText (take (length v - 8) (drop 8 v))) b₂ r₂ → Wrote b₂ r₂ (ascii "]") b′ r
+      → Wrote b at (optionText 10 v) b′ r
   unfolding lookup textOf rows members formOf shape valueText memberOf memberText
   cookie-both f e p q s =
       let (h, k) = cookie-sizes v f e in
@@ -95,17 +98,20 @@ module _ (v : List ℕ) {b b′ : List ℕ} {at r : ℕ} where
       (then (then p (rw (rest-is 8 v) at q)) s)
 
   -- KEEPALIVE
-  pub keepalive-is : {n : ℕ} {b₁ : List ℕ} {r₁ : ℕ} → Shaped 11 v → n ≡ twoAt v 0 → Wrote b at (ascii "\"KEEPALIVE\":") b₁ r₁ → Wrote b₁ r₁ (decimal n) b′ r → Wrote b at (optionText 11 v) b′ r
+  pub keepalive-is : {n : ℕ} {b₁ : List ℕ} {r₁ : ℕ} → Shaped 11 v → n ≡ twoAt v 0
+      → Wrote b at (ascii "\"KEEPALIVE\":") b₁ r₁ → Wrote b₁ r₁ (decimal n) b′ r → Wrote b at (optionText 11 v) b′ r
   unfolding lookup textOf rows members formOf shape valueText memberOf memberText
   keepalive-is s f p q = rw (keepalive-two v s, ← f) (then p q)
 
   -- PADDING
-  pub padding-zero : {t : Bool} {b₁ b₂ : List ℕ} {r₁ r₂ : ℕ} → t ≡ true → t ≡ all zero? v → Wrote b at (ascii "\"PADDING\":{\"LENGTH\":") b₁ r₁ → Wrote b₁ r₁ (decimal (length v)) b₂ r₂ → Wrote b₂ r₂ (ascii "}") b′ r
+  pub padding-zero : {t : Bool} {b₁ b₂ : List ℕ} {r₁ r₂ : ℕ} → t ≡ true → t ≡ all zero? v
+      → Wrote b at (ascii "\"PADDING\":{\"LENGTH\":") b₁ r₁ → Wrote b₁ r₁ (decimal (length v)) b₂ r₂ → Wrote b₂ r₂ (ascii "}") b′ r
       → Wrote b at (optionText 12 v) b′ r
   unfolding lookup textOf rows members formOf shape valueText memberOf memberText
   padding-zero e f p q s = rw (← f, e) (then (then p q) s)
 
-  pub padding-is : {t : Bool} {b₁ b₂ b₃ : List ℕ} {r₁ r₂ r₃ : ℕ} → t ≡ false → t ≡ all zero? v → Wrote b at (ascii "\"PADDING\":{\"LENGTH\":") b₁ r₁ → Wrote b₁ r₁ (decimal (length v)) b₂ r₂
+  pub padding-is : {t : Bool} {b₁ b₂ b₃ : List ℕ} {r₁ r₂ r₃ : ℕ} → t ≡ false → t ≡ all zero? v
+      → Wrote b at (ascii "\"PADDING\":{\"LENGTH\":") b₁ r₁ → Wrote b₁ r₁ (decimal (length v)) b₂ r₂
       → Wrote b₂ r₂ (ascii ",\"HEX\":\"" ++ hexText v) b₃ r₃ → Wrote b₃ r₃ (ascii "}") b′ r → Wrote b at (optionText 12 v) b′ r
   unfolding lookup textOf rows members formOf shape valueText memberOf memberText
   padding-is e f p q s u = rw (← f, e) (then (then p q) (then s u))
@@ -116,8 +122,10 @@ module _ (v : List ℕ) {b b′ : List ℕ} {at r : ℕ} where
   keytag-is s w = rw (keytag-even v s) w
 
   -- EDE
-  pub error-is : {n : ℕ} {b₁ b₂ : List ℕ} {r₁ r₂ : ℕ} → Shaped 15 v → n ≡ twoAt v 0 → Wrote b at (ascii "\"EDE\":{\"CODE\":") b₁ r₁
-      → Wrote b₁ r₁ (decimal n) b₂ r₂ → Wrote b₂ r₂ (errorTail (present (take (length v - 2) (drop 2 v)))) b′ r → Wrote b at (optionText 15 v) b′ r
+  pub error-is : {n : ℕ} {b₁ b₂ : List ℕ} {r₁ r₂ : ℕ} → Shaped 15 v → n ≡ twoAt v 0
+      → Wrote b at (ascii "\"EDE\":{\"CODE\":") b₁ r₁
+      → Wrote b₁ r₁ (decimal n) b₂ r₂ → Wrote b₂ r₂ (errorTail (present (take (length v - 2) (drop 2 v)))) b′ r
+      → Wrote b at (optionText 15 v) b′ r
   unfolding lookup textOf rows members formOf shape valueText memberOf memberText
   error-is f e p q s =
       let (long, text) = error-parts v f in
@@ -131,7 +139,8 @@ not-shaped form v e = go (shape form v) e
     go none e = refl
     go (some a) e = let z : _≡_ {A = ℕ} 0 1 = cc in absurd (omega arith)
 
-pub unshaped-is : (code : ℕ) (v : List ℕ) {t : Bool} {b b′ : List ℕ} {at r : ℕ} → not t ≡ true → t ≡ present? (shape (formOf code) v)
+pub unshaped-is : (code : ℕ) (v : List ℕ) {t : Bool} {b b′ : List ℕ} {at r : ℕ} → not t ≡ true
+    → t ≡ present? (shape (formOf code) v)
     → Wrote b at (memberText (other code v)) b′ r → Wrote b at (optionText code v) b′ r
 unfolding memberOf
 unshaped-is code v {t} e f w = rw (not-shaped (formOf code) v (sym f ∙ not-true t e)) w

@@ -5,7 +5,7 @@ use mathlib.Core.List.{List, [], _∷_}
 use Prim.Native.Nat.{ℕ, _+_, _*_, _≤_, _<_}
 use native.Mathlib.Nat.{zero-add}
 use native.Mathlib.Omega.{arith}
-use borrow.Author.Tests.{eqb-true, eqb-false, eq-eqb, ne-eqb}
+use borrow.Author.Tests.{eqb-true, eqb-false, ne-eqb}
 use lib.Dec.{eqb}
 use lib.ListN.{length, getD, drop, length-drop, drop-of-length-le}
 use Rattle.octets.specs.Lists.{ascii, ended, listed}
@@ -49,7 +49,8 @@ module _ {w : ℕ} (k : Width w) (s : List ℕ) (i : ℕ) where
   number-here : i + w ≤ length s → numbers w (drop i s) ≡ numberAt w s i ∷ numbers w (drop (i + w) s)
   number-here h = go (eqb w 2) refl
     where
-      go : (b : Bool) → eqb w 2 ≡ b → cond b (words (drop i s)) (drop i s) ≡ cond b (twoAt s i) (getD s i 0) ∷ cond b (words (drop (i + w) s)) (drop (i + w) s)
+      go : (b : Bool) → eqb w 2 ≡ b
+          → cond b (words (drop i s)) (drop i s) ≡ cond b (twoAt s i) (getD s i 0) ∷ cond b (words (drop (i + w) s)) (drop (i + w) s)
       go true e = let q = eqb-true w 2 e in rw q (word-here s i (omega arith))
       go false e = let q = one e in rw q (drop-one s i (omega arith))
 
@@ -64,19 +65,25 @@ module _ {w : ℕ} (k : Width w) (s : List ℕ) (i : ℕ) where
           drop-of-length-le s past
 
 -- ---- an entry: the mark and the number, of two octets or one, and how long it can be
-module _ {w m : ℕ} (s : List ℕ) (i : ℕ) {n : ℕ} {b b₁ b₂ : List ℕ} {at r₁ r₂ : ℕ} (p : Wrote b at (m ∷ []) b₁ r₁) (q : Wrote b₁ r₁ (decimal n) b₂ r₂) where
-  pub two-entry : w ≡ 2 → n ≡ twoAt s i → Wrote b at (m ∷ decimal (numberAt w s i)) b₂ r₂
-  two-entry e d = rw (e, ← d) (then p q)
+module _
+    {w m : ℕ} (s : List ℕ) (i : ℕ) {n : ℕ} {b b₁ b₂ : List ℕ} {at r₁ r₂ : ℕ}
+    (p : Wrote b at (m ∷ []) b₁ r₁) (q : Wrote b₁ r₁ (decimal n) b₂ r₂)
+  where
+    pub two-entry : w ≡ 2 → n ≡ twoAt s i → Wrote b at (m ∷ decimal (numberAt w s i)) b₂ r₂
+    two-entry e d = rw (e, ← d) (then p q)
 
-  pub one-entry : (w ≡ 2 → ⊥) → n ≡ getD s i 0 → Wrote b at (m ∷ decimal (numberAt w s i)) b₂ r₂
-  one-entry e d = rw (ne-eqb w 2 e, ← d) (then p q)
+    pub one-entry : (w ≡ 2 → ⊥) → n ≡ getD s i 0 → Wrote b at (m ∷ decimal (numberAt w s i)) b₂ r₂
+    one-entry e d = rw (ne-eqb w 2 e, ← d) (then p q)
 
-module _ {m n : ℕ} {b b₁ b₂ : List ℕ} {at r₁ r₂ : ℕ} (p : Wrote b at (m ∷ []) b₁ r₁) (q : Wrote b₁ r₁ (decimal n) b₂ r₂) where
-  pub two-short : n < 65536 → r₂ ≤ at + 6
-  two-short h = omega (arith, p .place, q .place, decimal-short 4 n (omega arith))
+module _
+    {w m n : ℕ} {b b₁ b₂ : List ℕ} {at r₁ r₂ : ℕ}
+    (p : Wrote b at (m ∷ []) b₁ r₁) (q : Wrote b₁ r₁ (decimal n) b₂ r₂)
+  where
+    pub two-short : w ≡ 2 → n < 65536 → r₂ ≤ at + 4 * w
+    two-short e h = omega (arith, p .place, q .place, decimal-short 4 n (omega arith))
 
-  pub one-short : n < 256 → r₂ ≤ at + 4
-  one-short h = omega (arith, p .place, q .place, decimal-short 2 n (omega arith))
+    pub one-short : Width w → n < 256 → r₂ ≤ at + 4 * w
+    one-short k h = omega (arith, p .place, q .place, k .low, decimal-short 2 n (omega arith))
 
 -- ---- a loop over entries
 -- the entries after the first, and the bracket
@@ -93,7 +100,8 @@ list-start l b at = record { goes = λ b′ r w. w }
 
 module _ {w : ℕ} (k : Width w) (s : List ℕ) where
   -- there is no number
-  pub list-none : {b b′ : List ℕ} {at r : ℕ} → length s < w → Wrote b at (ascii "[]") b′ r → Wrote b at (listed decimal (numbers w s)) b′ r
+  pub list-none : {b b′ : List ℕ} {at r : ℕ} → length s < w → Wrote b at (ascii "[]") b′ r
+      → Wrote b at (listed decimal (numbers w s)) b′ r
   list-none h v = rw (no-number k s 0 (omega arith)) v
 
   module _ (i : ℕ) {b₀ b b₁ : List ℕ} {at to r : ℕ} (o : Left (numbers w (drop w s)) (numbers w (drop i s)) b₀ at b to) where

@@ -1,4 +1,4 @@
--- `print_options::put_member` meets its contract: no shape, one way for each row of the table, and one for every other code.
+-- `print_options::put_member` meets its contract: no shape, one way for each row of the table, one for other codes.
 -- Assumes nothing.
 use Rattle.options.specs.Options.{rows}
 use Rattle.options.specs.Shapes.{shaped-at}
