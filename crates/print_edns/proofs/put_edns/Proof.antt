@@ -36,15 +36,16 @@ same-length : tie.Need-same-length
 same-length c = search needs
 
 returns : tie.Need-returns
-returns c = (
-  wrote-element _ _ _ _
-      (c .before .before .before .before .before .before .before .before .before .before .before .before .before .before .before .before .before .before .before .before .put-head .ensures .0)
-      (c .before .before .before .before .before .before .before .before .before .before .before .before .before .before .before .put-all .ensures)
-      (c .before .before .before .before .before .before .before .before .before .before .before .put-decimal .ensures .0)
-      (c .before .before .before .before .before .before .before .put-options .ensures .0)
-      (c .before .before .put-all2 .ensures),
-  search needs,
-)
+returns c =
+    let tail = c .before .before in
+    let options = tail .before .before .before .before .before in
+    let size = options .before .before .before .before in
+    let title = size .before .before .before .before in
+    let head = title .before .before .before .before .before in (
+      wrote-element _ _ _ _ (head .put-head .ensures .0) (title .put-all .ensures) (size .put-decimal .ensures .0)
+          (options .put-options .ensures .0) (tail .put-all2 .ensures),
+      search needs,
+    )
 
 pub put-edns-spec : {M : Type 1} → statement M
 put-edns-spec =

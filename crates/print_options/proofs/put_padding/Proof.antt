@@ -27,10 +27,7 @@ same-length : tie.Need-same-length
 same-length c = search needs
 
 returns : tie.Need-returns
-returns c =
-    let d = c .before .before .before .before in
-    let e = d .before .before .before .before in
-    (padding-zero _ (d .if1 .taken) (d .before .all-zero .ensures) (e .before .before .before .before .put-all .ensures) (e .put-decimal .ensures .0) (c .before .before .put .ensures), search needs)
+returns c = (search (padding-zero, needs), search needs)
 
 slice-aggregate-put-hex-text : tie.Need-slice-aggregate-put-hex-text
 slice-aggregate-put-hex-text c = search needs
@@ -45,13 +42,7 @@ same-length-2 : tie.Need-same-length-2
 same-length-2 c = search needs
 
 returns-2 : tie.Need-returns-2
-returns-2 c =
-    let d = c .before .before .before .before .before .before in
-    let e = d .before .before .before in
-    let f = e .before .before .before .before in (
-      padding-is _ (e .if1 .left) (e .before .all-zero .ensures) (f .before .before .before .before .put-all .ensures) (f .put-decimal .ensures .0) (d .put-hex-text .ensures .0) (c .before .before .put2 .ensures),
-      search needs,
-    )
+returns-2 c = (search (padding-is, needs), search needs)
 
 pub put-padding-spec : {M : Type 1} → statement M
 put-padding-spec =
