@@ -1,6 +1,4 @@
--- Octets in hexadecimal where they stand in a text: what they are, and the code's tests of them.
+-- RDATA in hexadecimal where it stands in a text: the code's tests of it.
 pub mod Digits
-pub mod Every
-pub mod Shapes
 pub mod Skipping
 pub mod Fitting

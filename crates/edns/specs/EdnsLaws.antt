@@ -57,7 +57,7 @@ pub options-back : (l : List EdnsOption) → All (λ o. (o .code < 65536) × (le
 unfolding optionsOf
 options-back l h = divided-back (suc (length (each optionForm l))) l (omega arith) h
 
--- what is divided: nothing, or an option's octets and what is divided behind them
+-- what is divided: nothing, or an option's octets and what is divided after them
 data Divides (n : ℕ) (l : List ℕ) : List EdnsOption → Type 0 where
   ends : l ≡ [] → Divides n l []
   goes : {options : List EdnsOption} → 4 + twoAt l 2 ≤ length l → divided n (drop (4 + twoAt l 2) l) ≡ some options
@@ -98,7 +98,7 @@ two-there s at o h =
     drop-one s at (omega arith) ∙ ap (λ t. a ∷ t) (drop-one s (at + 1) h ∙ ap (λ i. b ∷ drop i s) next)
     ∙ ap₂ (λ x y. x ∷ y ∷ drop (at + 2) s) (sym high) (sym low)
 
--- the octets of the first option, and those behind it
+-- the octets of the first option, and those after it
 option-there : (l : List ℕ) → Octets l → 4 + twoAt l 2 ≤ length l
     → optionForm (record { code = twoAt l 0; value = take (twoAt l 2) (drop 4 l) }) ++ drop (4 + twoAt l 2) l ≡ l
 unfolding optionForm

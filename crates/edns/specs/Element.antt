@@ -1,5 +1,5 @@
 -- What the code promises of a TYPE 41 record: whether it shows as an EDNS element, and the element's text, by the fields that decide them.
--- Both are what ednsOf tells of the record. Assumes nothing.
+-- Both are what ednsOf says of the record. Assumes nothing.
 use mathlib.Core.Path.{_≡_, refl, sym, _∙_, ap}
 use mathlib.Core.Bool.{Bool, true, false, _&&_, _||_, cond, and-false}
 use mathlib.Core.Option.{Option, none, some}
@@ -57,7 +57,7 @@ unfoldable pub headText : ℕ → ℕ → List ℕ
 headText bit rcode =
     ascii "{\"EDNS\":{\"Version\":" ++ decimal 0 ++ ascii ",\"FLAGS\":" ++ textOf bit flags ++ ascii ",\"RCODE\":\"" ++ textOf rcode rcodes
 
--- ---- what ednsOf tells
+-- ---- what ednsOf says
 present-cond : {A : Type 0} (b : Bool) (a : A) → present? (cond b (some a) none) ≡ b
 present-cond true a = refl
 present-cond false a = refl

@@ -3,5 +3,4 @@ pub mod Edns
 pub mod EdnsLaws
 pub mod Element
 pub mod Ways
-pub mod Rcodes
-pub mod Writing
+pub mod Table

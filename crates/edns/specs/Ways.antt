@@ -3,7 +3,7 @@ use mathlib.Core.Path.{_≡_, refl, sym, _∙_, ap}
 use mathlib.Core.Bool.{Bool, true, false, not, _&&_, _||_, cond}
 use mathlib.Core.Option.{Option, none, some}
 use mathlib.Core.List.{List, [], _∷_}
-use Prim.Native.Nat.{ℕ, zero, suc, _+_, _*_, _/_, _%_, _<_, _≤_}
+use Prim.Native.Nat.{ℕ, zero, suc, _+_, _-_, _*_, _/_, _%_, _<_, _≤_}
 use native.Mathlib.Nat.{add-zero}
 use native.Mathlib.Numerals.{add-one}
 use native.Mathlib.Omega.{arith}
@@ -117,7 +117,7 @@ rise-all none = refl
 rise-all (some []) = refl
 rise-all (some (o ∷ l)) = rw (leb·zero (o .code))
 
--- an option, and those behind it
+-- an option, and those after it
 rise-low : (least : ℕ) (a : EdnsOption) (o : Option (List EdnsOption)) → a .code < least → rise? least (prepend a o) ≡ false
 rise-low least a none h = refl
 rise-low least a (some l) h = rw (lt-leb least (a .code) h)
@@ -133,33 +133,37 @@ pub rises-start : (s : List ℕ) → From s (optionsRise s) 0 0
 unfolding optionsRise
 rises-start s = record { goes = rise-all (optionsOf s) }
 
-module _ {s : List ℕ} {v : Bool} {least at : ℕ} (f : From s v least at) where
-  -- behind the last
-  pub rises-end : length s ≤ at → true ≡ v
+module _ {s : List ℕ} {v : Bool} {least at : ℕ} (f : From s v least at) {size : ℕ} (z : size ≡ length s) where
+  -- after the last
+  pub rises-end : size ≤ at → true ≡ v
   unfolding rising?
-  rises-end h = sym (f .goes ∙ ap (rise? least) (options-end s at h))
+  rises-end h = sym (f .goes ∙ ap (rise? least) (options-end s at (omega arith)))
 
-  module _ (h : at < length s) where
+  module _ (h : at < size) where
     -- no room for code and length
-    pub rises-cut : length s < at + 4 → false ≡ v
-    rises-cut k = sym (f .goes ∙ ap (rise? least) (options-none s at h (omega arith)))
+    pub rises-cut : size - at < 4 → false ≡ v
+    rises-cut k = sym (f .goes ∙ ap (rise? least) (options-none s at (omega arith) (omega arith)))
 
-    module _ {size : ℕ} (e : size ≡ twoAt s (at + 2)) where
+    -- n is the length of the value
+    module _ {n : ℕ} (e : n ≡ twoAt s (at + 2)) where
       -- no room for the value
-      pub rises-short : length s < at + 4 + size → false ≡ v
-      rises-short k = sym (f .goes ∙ ap (rise? least) (options-none s at h (rw (← e) k)))
+      pub rises-short : size - at < 4 + n → false ≡ v
+      rises-short k = sym (f .goes ∙ ap (rise? least) (options-none s at (omega arith) (rw (← e) (omega arith))))
 
-      module _ {code : ℕ} (d : code ≡ twoAt s at) (k : at + 4 + size ≤ length s) where
-        more : v ≡ rise? least (prepend (here s at) (optionsOf (drop (at + 4 + size) s)))
-        more = f .goes ∙ ap (rise? least) (options-more s at (rw (← e) k)) ∙ rw (← e)
+      module _ {code : ℕ} (d : code ≡ twoAt s at) (k : 4 + n ≤ size - at) where
+        next : at + 4 + n ≡ at + (4 + n)
+        next = omega arith
+
+        more : v ≡ rise? least (prepend (here s at) (optionsOf (drop (at + (4 + n)) s)))
+        more = f .goes ∙ ap (rise? least) (options-more s at (rw (← e) (omega arith))) ∙ rw (← e, next)
 
         -- a code that is not above the last
         pub rises-low : code < least → false ≡ v
-        rises-low i = sym (more ∙ rise-low least (here s at) (optionsOf (drop (at + 4 + size) s)) (rw (← d) i))
+        rises-low i = sym (more ∙ rise-low least (here s at) (optionsOf (drop (at + (4 + n)) s)) (rw (← d) i))
 
         -- a code above the last
-        pub rises-more : least ≤ code → From s v (code + 1) (at + 4 + size)
-        rises-more i = record { goes = more ∙ rise-next least (here s at) (optionsOf (drop (at + 4 + size) s)) (rw (← d) i) ∙ rw (← d) }
+        pub rises-more : least ≤ code → From s v (code + 1) (at + (4 + n))
+        rises-more i = record { goes = more ∙ rise-next least (here s at) (optionsOf (drop (at + (4 + n)) s)) (rw (← d) i) ∙ rw (← d) }
 
 -- ---- the tests of an element, in order
 module _ (root : Bool) (ttl rcode : ℕ) where

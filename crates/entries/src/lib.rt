@@ -10,7 +10,7 @@ ghost use Rattle.entries.specs.Reading.{WordRead, kindOf, RdataRead, Sho
 ghost use Rattle.entries.specs.Items.{ItemRead};
 ghost use Rattle.entries.specs.Sections.{AskedRead, TitledRead, OneRead, NextRead, InsideRead, SectionRead, limited, bit};
 use digits::fits_layout;
-use digits::is_edns;
+use edns::is_edns;
 use labels::name;
 use members::edns;
 use members::put_hex;
@@ -104,7 +104,7 @@ fn shows_edns(text: &[u8], span: Span, kind: u64, root: bool, bits: u32, rcode: 
     }
     let from = span.from;
     let end = span.end;
-    is_edns(root, bits, rcode, &text[from..end])
+    is_edns(root, bits, rcode, &text[from..end], true)
 }
 
 // TTL and RDATA, and the end of a record.

@@ -33,7 +33,7 @@ use Rattle.tokens.specs.Number.{capped, NumberRead}
 use Rattle.tokens.specs.Hex.{HexRun, HexRead}
 use Rattle.tokens.specs.Fields.{Done, done-past, done-held, found-done}
 use Rattle.labels.specs.String.{StringRead}
-use Rattle.digits.specs.Digits.{Hexes, hexes, paired-hexes}
+use Rattle.either.specs.Digits.{Hexes, hexes, paired-hexes}
 use Rattle.tokens.specs.Place.{Byte}
 use Rattle.tokens.specs.Items.{comma-of, part-of, item-of, Items, items-start, items-end, items-stop, items-far, items-more}
 

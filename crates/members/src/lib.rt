@@ -16,13 +16,13 @@ ghost use Rattle.tokens.specs.Hex.{HexRun};
 ghost use Rattle.members.specs.Values.{Digits, sizeOf, numeral?, numeralForm, numeralsParse, ValueStep, part?, next-part, CookieStep, cookieParse, Zeros, PaddingFits, PaddingHex, PaddingEnd, ErrorText, errorEnd};
 ghost use Rattle.members.specs.Options.{NameRead, Fronted, KnownStep, OtherFits, codeOf, OtherHex, OtherRead, MemberRead, RisingRead, OptionsStep, membersParse};
 ghost use Rattle.members.specs.Element.{RcodeRead, fits?, OptFronted, EdnsStep};
-use digits::all_zero;
-use digits::has_shape;
 use digits::put_octets;
 use labels::string;
 use octets::put;
 use octets::put_four;
 use octets::put_two;
+use options::all_zero;
+use options::has_shape;
 use tokens::Cursor;
 use tokens::Row;
 use tokens::Span;
@@ -264,7 +264,7 @@ fn padding_fits(text: &[u8], h: Span, n: u64) -> bool
     }
     let from = h.from;
     let end = h.end;
-    !all_zero(&text[from..end])
+    !all_zero(&text[from..end], true)
 }
 
 fn padding_hex(text: &[u8], c: Cursor, n: u64, out: &mut [u8]) -> Cursor
@@ -406,7 +406,7 @@ fn other_fits(text: &[u8], h: Span, n: u64) -> bool
     }
     let from = h.from;
     let end = h.end;
-    let shaped = has_shape(n as u32, &text[from..end]);
+    let shaped = has_shape(n as u32, &text[from..end], true);
     !shaped
 }
 

@@ -2,5 +2,4 @@
 pub mod Options
 pub mod Boundaries
 pub mod Every
-pub mod Entries
-pub mod Writing
+pub mod Shapes

@@ -1,32 +1,25 @@
-// EDNS options and their members. The definitions are in specs/.
-use octets::four_at;
-use octets::put;
-use octets::put_all;
-use octets::put_decimal;
-use octets::put_hex;
-use octets::two_at;
-use octets::wide;
-use spelling::put_string;
+// EDNS options: tests of their values, which are octets or hexadecimal digits: `hex` says which.
+// The definitions are in specs/.
+use either::count;
+use either::octet;
 ghost use mathlib.Core.Path.{_≡_};
-ghost use mathlib.Core.List.{[], _∷_, _++_};
-ghost use Prim.Native.Nat.{_+_, _*_, _^_, _<_, _≤_};
-ghost use lib.ListN.{length};
-ghost use Rattle.octets.specs.Lists.{all, listed};
-ghost use Rattle.octets.specs.Decimal.{decimal};
-ghost use Rattle.octets.specs.Hexadecimal.{hexText};
-ghost use Rattle.octets.specs.Overlay.{Wrote};
+ghost use lib.ListN.{drop};
+ghost use Rattle.octets.specs.Lists.{present?, all};
+ghost use Rattle.either.specs.Either.{octetsIn, Spelled};
 ghost use Rattle.spelling.specs.Spelling.{printable?};
-ghost use Rattle.options.specs.Options.{zero?, words, present, errorTail, other, memberOf, memberText};
-ghost use Rattle.options.specs.Writing.{optionText};
+ghost use Rattle.options.specs.Options.{zero?, formOf, shape};
+ghost use Rattle.options.specs.Shapes.{expirySize, cookieSize, errorShape};
 
-// ---- tests of every octet
 // Every octet is zero.
-fn all_zero(s: &[u8]) -> bool
-    ensures { λ r. ⌜ r ≡ all zero? (now (s .entry)) ⌝ }
+pub fn all_zero(s: &[u8], hex: bool) -> bool
+    requires { ⌜ Spelled hex (now s) ⌝ }
+    ensures { λ r. ⌜ r ≡ all zero? (octetsIn hex (now (s .entry))) ⌝ }
 {
+    let size = count(s, hex);
     let mut i = 0;
-    while i < s.len() {
-        if s[i] != 0 {
+    while i < size {
+        let x = octet(s, hex, i);
+        if x != 0 {
             return false;
         }
         i += 1;
@@ -34,13 +27,15 @@ fn all_zero(s: &[u8]) -> bool
     true
 }
 
-// Every octet is 0x20 to 0x7E.
-fn all_printable(s: &[u8]) -> bool
-    ensures { λ r. ⌜ r ≡ all printable? (now (s .entry)) ⌝ }
+// Every octet after the first two is 0x20 to 0x7E.
+fn is_text(s: &[u8], hex: bool) -> bool
+    requires { ⌜ Spelled hex (now s) ⌝ }
+    ensures { λ r. ⌜ r ≡ all printable? (drop 2 (octetsIn hex (now (s .entry)))) ⌝ }
 {
-    let mut i = 0;
-    while i < s.len() {
-        let x = s[i];
+    let size = count(s, hex);
+    let mut i = 2;
+    while i < size {
+        let x = octet(s, hex, i);
         if x < 32 {
             return false;
         }
@@ -52,221 +47,57 @@ fn all_printable(s: &[u8]) -> bool
     true
 }
 
-// ---- parts of values
-// Writes octets in hexadecimal: the text up to the quote before them, their digits and the quote behind.
-fn put_hex_text(out: &mut [u8], at: usize, head: &[u8], src: &[u8]) -> usize
-    requires { ⌜ (at < 2 ^ 39) × (length (now head) < 32) × (length (now src) < 65536) ⌝ }
-    ensures { λ r. ⌜ Wrote (now (out .entry)) at (now (head .entry) ++ hexText (now (src .entry))) (now (out .exit)) r ⌝ }
-    ensures { λ r. ⌜ r ≡ at + length (now (head .entry)) + 2 * length (now (src .entry)) + 1 ⌝ }
+// EXPIRE: no octets, or four.
+fn is_expiry(size: usize) -> bool
+    ensures { λ r. ⌜ r ≡ expirySize size ⌝ }
 {
-    let mut next = put_all(out, at, head);
-    next = put_hex(out, next, src);
-    put(out, next, b'"')
+    if size == 0 {
+        return true;
+    }
+    size == 4
 }
 
-// Writes a number of a list, and before it the bracket or the comma.
-fn put_entry(out: &mut [u8], at: usize, mark: u8, n: u32) -> usize
-    requires { ⌜ at + 1 < 2 ^ 39 ⌝ }
-    ensures { λ r. ⌜ Wrote (now (out .entry)) at (mark ∷ decimal n) (now (out .exit)) r ⌝ }
+// COOKIE: 8 octets, or 16 to 40.
+fn is_cookie(size: usize) -> bool
+    ensures { λ r. ⌜ r ≡ cookieSize size ⌝ }
 {
-    let next = put(out, at, mark);
-    put_decimal(out, next, n)
+    if size == 8 {
+        return true;
+    }
+    if size < 16 {
+        return false;
+    }
+    size <= 40
 }
 
-// Writes the octets as a list of numbers.
-fn put_octet_list(out: &mut [u8], at: usize, value: &[u8]) -> usize
-    requires { ⌜ (at < 2 ^ 38 + 32) × (length (now value) < 65536) ⌝ }
-    ensures { λ r. ⌜ Wrote (now (out .entry)) at (listed decimal (now (value .entry))) (now (out .exit)) r ⌝ }
-    ensures { λ r. ⌜ r ≤ at + 4 * length (now (value .entry)) + 2 ⌝ }
+// EDE: two octets and text.
+fn is_error(s: &[u8], hex: bool) -> bool
+    requires { ⌜ Spelled hex (now s) ⌝ }
+    ensures { λ r. ⌜ r ≡ errorShape (octetsIn hex (now (s .entry))) ⌝ }
 {
-    if value.len() == 0 {
-        return put_all(out, at, b"[]");
+    if count(s, hex) < 2 {
+        return false;
     }
-    let mut to = put_entry(out, at, b'[', wide(value[0]) as u32);
-    let mut i = 1;
-    while i < value.len() {
-        to = put_entry(out, to, b',', wide(value[i]) as u32);
-        i += 1;
-    }
-    put(out, to, b']')
+    is_text(s, hex)
 }
 
-// Writes the octets, two to a number, as a list.
-fn put_word_list(out: &mut [u8], at: usize, value: &[u8]) -> usize
-    requires { ⌜ (at < 2 ^ 38 + 32) × (length (now value) < 65536) ⌝ }
-    ensures { λ r. ⌜ Wrote (now (out .entry)) at (listed decimal (words (now (value .entry)))) (now (out .exit)) r ⌝ }
-    ensures { λ r. ⌜ r ≤ at + 3 * length (now (value .entry)) + 2 ⌝ }
+// Whether the value of an option has the shape that the table gives to its code.
+pub fn has_shape(code: u32, s: &[u8], hex: bool) -> bool
+    requires { ⌜ Spelled hex (now s) ⌝ }
+    ensures { λ r. ⌜ r ≡ present? (shape (formOf code) (octetsIn hex (now (s .entry)))) ⌝ }
 {
-    if value.len() < 2 {
-        return put_all(out, at, b"[]");
-    }
-    let mut to = put_entry(out, at, b'[', two_at(value, 0));
-    let mut i = 2;
-    while i + 1 < value.len() {
-        to = put_entry(out, to, b',', two_at(value, i));
-        i += 2;
-    }
-    put(out, to, b']')
-}
-
-// ---- a member for each row of the table
-// Writes the member of an option without a row, or whose value does not have the row's shape.
-fn put_other(out: &mut [u8], at: usize, code: u32, value: &[u8]) -> usize
-    requires { ⌜ (at < 2 ^ 38) × (length (now value) < 65536) ⌝ }
-    ensures { λ r. ⌜ Wrote (now (out .entry)) at (memberText (other code (now (value .entry)))) (now (out .exit)) r ⌝ }
-    ensures { λ r. ⌜ r ≤ at + 2 * length (now (value .entry)) + 18 ⌝ }
-{
-    let mut next = put_all(out, at, b"\"OPT");
-    next = put_decimal(out, next, code);
-    put_hex_text(out, next, b"\":\"", value)
-}
-
-// NSID
-fn put_nsid(out: &mut [u8], at: usize, value: &[u8]) -> usize
-    requires { ⌜ (at < 2 ^ 38) × (length (now value) < 65536) ⌝ }
-    ensures { λ r. ⌜ Wrote (now (out .entry)) at (optionText 3 (now (value .entry))) (now (out .exit)) r ⌝ }
-    ensures { λ r. ⌜ r ≤ at + 4 * length (now (value .entry)) + 64 ⌝ }
-{
-    let next = put_hex_text(out, at, b"\"NSID\":{\"HEX\":\"", value);
-    put(out, next, b'}')
-}
-
-// DAU, DHU, N3U, by the member's name
-fn put_octets(out: &mut [u8], at: usize, name: &[u8], value: &[u8]) -> usize
-    requires { ⌜ (at < 2 ^ 38) × (length (now name) < 32) × (length (now value) < 65536) ⌝ }
-    ensures { λ r. ⌜ Wrote (now (out .entry)) at (now (name .entry) ++ listed decimal (now (value .entry))) (now (out .exit)) r ⌝ }
-    ensures { λ r. ⌜ r ≤ at + 4 * length (now (value .entry)) + 64 ⌝ }
-{
-    let next = put_all(out, at, name);
-    put_octet_list(out, next, value)
-}
-
-// EXPIRE: no octets, or four
-fn put_expire(out: &mut [u8], at: usize, value: &[u8]) -> usize
-    requires { ⌜ (at < 2 ^ 38) × (length (now value) < 65536) ⌝ }
-    ensures { λ r. ⌜ Wrote (now (out .entry)) at (optionText 9 (now (value .entry))) (now (out .exit)) r ⌝ }
-    ensures { λ r. ⌜ r ≤ at + 4 * length (now (value .entry)) + 64 ⌝ }
-{
-    if value.len() == 0 {
-        return put_all(out, at, b"\"EXPIRE\":\"NONE\"");
-    }
-    if value.len() != 4 {
-        return put_other(out, at, 9, value);
-    }
-    let next = put_all(out, at, b"\"EXPIRE\":");
-    put_decimal(out, next, four_at(value, 0))
-}
-
-// COOKIE: 8 octets, or 16 to 40
-fn put_cookie(out: &mut [u8], at: usize, value: &[u8]) -> usize
-    requires { ⌜ (at < 2 ^ 38) × (length (now value) < 65536) ⌝ }
-    ensures { λ r. ⌜ Wrote (now (out .entry)) at (optionText 10 (now (value .entry))) (now (out .exit)) r ⌝ }
-    ensures { λ r. ⌜ r ≤ at + 4 * length (now (value .entry)) + 64 ⌝ }
-{
-    if value.len() == 8 {
-        let next = put_hex_text(out, at, b"\"COOKIE\":[\"", value);
-        return put(out, next, b']');
-    }
-    if value.len() < 16 {
-        return put_other(out, at, 10, value);
-    }
-    if value.len() > 40 {
-        return put_other(out, at, 10, value);
-    }
-    let mut next = put_hex_text(out, at, b"\"COOKIE\":[\"", &value[0..8]);
-    next = put_hex_text(out, next, b",\"", &value[8..value.len()]);
-    put(out, next, b']')
-}
-
-// KEEPALIVE: two octets
-fn put_keepalive(out: &mut [u8], at: usize, value: &[u8]) -> usize
-    requires { ⌜ (at < 2 ^ 38) × (length (now value) < 65536) ⌝ }
-    ensures { λ r. ⌜ Wrote (now (out .entry)) at (optionText 11 (now (value .entry))) (now (out .exit)) r ⌝ }
-    ensures { λ r. ⌜ r ≤ at + 4 * length (now (value .entry)) + 64 ⌝ }
-{
-    if value.len() != 2 {
-        return put_other(out, at, 11, value);
-    }
-    let next = put_all(out, at, b"\"KEEPALIVE\":");
-    put_decimal(out, next, two_at(value, 0))
-}
-
-// PADDING: the octets are written unless all are zero
-fn put_padding(out: &mut [u8], at: usize, value: &[u8]) -> usize
-    requires { ⌜ (at < 2 ^ 38) × (length (now value) < 65536) ⌝ }
-    ensures { λ r. ⌜ Wrote (now (out .entry)) at (optionText 12 (now (value .entry))) (now (out .exit)) r ⌝ }
-    ensures { λ r. ⌜ r ≤ at + 4 * length (now (value .entry)) + 64 ⌝ }
-{
-    let mut next = put_all(out, at, b"\"PADDING\":{\"LENGTH\":");
-    next = put_decimal(out, next, value.len() as u32);
-    if all_zero(value) {
-        return put(out, next, b'}');
-    }
-    next = put_hex_text(out, next, b",\"HEX\":\"", value);
-    put(out, next, b'}')
-}
-
-// KEYTAG: an even number of octets
-fn put_keytag(out: &mut [u8], at: usize, value: &[u8]) -> usize
-    requires { ⌜ (at < 2 ^ 38) × (length (now value) < 65536) ⌝ }
-    ensures { λ r. ⌜ Wrote (now (out .entry)) at (optionText 14 (now (value .entry))) (now (out .exit)) r ⌝ }
-    ensures { λ r. ⌜ r ≤ at + 4 * length (now (value .entry)) + 64 ⌝ }
-{
-    if value.len() % 2 != 0 {
-        return put_other(out, at, 14, value);
-    }
-    let next = put_all(out, at, b"\"KEYTAG\":");
-    put_word_list(out, next, value)
-}
-
-// The end of EDE: its text, unless there is none
-fn put_error_tail(out: &mut [u8], at: usize, text: &[u8]) -> usize
-    requires { ⌜ (at < 2 ^ 39) × (length (now text) < 65536) ⌝ }
-    ensures { λ r. ⌜ Wrote (now (out .entry)) at (errorTail (present (now (text .entry)))) (now (out .exit)) r ⌝ }
-    ensures { λ r. ⌜ r ≤ at + 2 * length (now (text .entry)) + 11 ⌝ }
-{
-    if text.len() == 0 {
-        return put(out, at, b'}');
-    }
-    let mut next = put_all(out, at, b",\"TEXT\":\"");
-    next = put_string(out, next, text);
-    put(out, next, b'}')
-}
-
-// EDE: two octets and text
-fn put_error(out: &mut [u8], at: usize, value: &[u8]) -> usize
-    requires { ⌜ (at < 2 ^ 38) × (length (now value) < 65536) ⌝ }
-    ensures { λ r. ⌜ Wrote (now (out .entry)) at (optionText 15 (now (value .entry))) (now (out .exit)) r ⌝ }
-    ensures { λ r. ⌜ r ≤ at + 4 * length (now (value .entry)) + 64 ⌝ }
-{
-    if value.len() < 2 {
-        return put_other(out, at, 15, value);
-    }
-    if !all_printable(&value[2..value.len()]) {
-        return put_other(out, at, 15, value);
-    }
-    let mut next = put_all(out, at, b"\"EDE\":{\"CODE\":");
-    next = put_decimal(out, next, two_at(value, 0));
-    put_error_tail(out, next, &value[2..value.len()])
-}
-
-// Writes the member of an option.
-pub fn put_member(out: &mut [u8], at: usize, code: u32, value: &[u8]) -> usize
-    requires { ⌜ (at < 2 ^ 38) × (length (now value) < 65536) ⌝ }
-    ensures { λ r. ⌜ Wrote (now (out .entry)) at (memberText (memberOf (record { code = code; value = now (value .entry) }))) (now (out .exit)) r ⌝ }
-    ensures { λ r. ⌜ r ≤ at + 4 * length (now (value .entry)) + 64 ⌝ }
-{
+    let size = count(s, hex);
     match code {
-        3 => put_nsid(out, at, value),
-        5 => put_octets(out, at, b"\"DAU\":", value),
-        6 => put_octets(out, at, b"\"DHU\":", value),
-        7 => put_octets(out, at, b"\"N3U\":", value),
-        9 => put_expire(out, at, value),
-        10 => put_cookie(out, at, value),
-        11 => put_keepalive(out, at, value),
-        12 => put_padding(out, at, value),
-        14 => put_keytag(out, at, value),
-        15 => put_error(out, at, value),
-        _ => put_other(out, at, code, value),
+        3 => true,
+        5 => true,
+        6 => true,
+        7 => true,
+        9 => is_expiry(size),
+        10 => is_cookie(size),
+        11 => size == 2,
+        12 => true,
+        14 => size % 2 == 0,
+        15 => is_error(s, hex),
+        _ => false,
     }
 }

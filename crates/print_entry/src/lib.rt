@@ -6,7 +6,7 @@ ghost use Rattle.octets.specs.Overlay.{Wrote};
 ghost use Rattle.print_entry.specs.Prints.{Readable, Prints, Within};
 ghost use Rattle.print_entry.specs.Elements.{startText, fieldsText, rdataText, ordinaryText, rcodeOf, shows?, shownText, questionTextAt, recordTextAt, textAt};
 use edns::is_edns;
-use edns::put_edns;
+use print_edns::put_edns;
 use octets::put;
 use octets::put_all;
 use octets::put_hex;
@@ -129,7 +129,7 @@ fn is_element(s: &[u8], head: Head, lone: bool) -> bool
     let rcode = rcode_of(s);
     let start = head.rdata;
     let end = start + head.rdlength;
-    is_edns(head.size == 1, head.ttl, rcode, &s[start..end])
+    is_edns(head.size == 1, head.ttl, rcode, &s[start..end], false)
 }
 
 // Writes the question at an offset, which has no fault.

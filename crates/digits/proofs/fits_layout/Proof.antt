@@ -16,8 +16,8 @@ Inv-loop kind hex size i₀ at₀ i at = (at ≤ size) × Fits (paired hex) kind
 abbrev μ-loop : tie.MeasureT-loop
 μ-loop kind hex size i₀ at₀ i at = 3 - i
 
-size-of-requires : tie.Need-size-of-requires Inv-loop μ-loop
-size-of-requires c κs = search needs
+count-requires : tie.Need-count-requires Inv-loop μ-loop
+count-requires c κs = search needs
 
 loop-holds : tie.Need-loop-holds Inv-loop μ-loop
 loop-holds c = (search needs, fits-start _ _ (search needs))
@@ -101,7 +101,7 @@ loop-again-2 c =
     let r = c .before .before .before .skip-name .ensures in
     let n = c .before .next .given .1 in
     let k = name-ends _ _ r n in
-    (omega (arith, k, e .before .before .size-of .ensures .0), fits-name (e .before .loop .inv .1) (e .piece-of .ensures) (d .enum-told2 .given .1) r n)
+    (omega (arith, k, e .before .before .count .ensures .0), fits-name (e .before .loop .inv .1) (e .piece-of .ensures) (d .enum-told2 .given .1) r n)
 
 pub fits-layout-spec : {M : Type 1} → statement M
 fits-layout-spec =
@@ -109,7 +109,7 @@ fits-layout-spec =
     (tie.spec
     Inv-loop
     μ-loop
-    size-of-requires
+    count-requires
     loop-holds
     piece-of-requires
     enum-told

@@ -16,8 +16,8 @@ Inv-loop out₀ at hex size end to₀ i₀ out to i = (i ≤ size) × (to ≡ at
 abbrev μ-loop : tie.MeasureT-loop
 μ-loop out₀ at hex size end to₀ i₀ out to i = size - i
 
-size-of-requires : tie.Need-size-of-requires Inv-loop μ-loop
-size-of-requires c κs = search needs
+count-requires : tie.Need-count-requires Inv-loop μ-loop
+count-requires c κs = search needs
 
 add-end : tie.Need-add-end Inv-loop μ-loop
 add-end c = search needs
@@ -28,8 +28,8 @@ returns c = search (octets-past, needs)
 loop-holds : tie.Need-loop-holds Inv-loop μ-loop
 loop-holds c = (search needs, search needs, nothing _ _)
 
-octet-at-requires : tie.Need-octet-at-requires Inv-loop μ-loop
-octet-at-requires c κs = search needs
+octet-requires : tie.Need-octet-requires Inv-loop μ-loop
+octet-requires c κs = search needs
 
 put-requires : tie.Need-put-requires Inv-loop μ-loop
 put-requires c κs = search needs
@@ -45,7 +45,7 @@ loop-again c =
     let d = c .before .before .before .before .before .before in
     let e = d .before .before in
     let s = paired (e .before .before .before .args .hex .now) in
-    (search needs, search needs, octets-step s (e .size-of .ensures .0) (c .before .before .before .before .before .loop-test .taken) (c .before .before .before .octet-at .ensures) (d .loop .inv .2) (c .before .before .put .ensures))
+    (search needs, search needs, octets-step s (e .count .ensures .0) (c .before .before .before .before .before .loop-test .taken) (c .before .before .before .octet .ensures) (d .loop .inv .2) (c .before .before .put .ensures))
 
 same-length : tie.Need-same-length Inv-loop μ-loop
 same-length c = same-long (c .before .loop .inv .2)
@@ -59,11 +59,11 @@ put-octets-spec =
     (tie.spec
     Inv-loop
     μ-loop
-    size-of-requires
+    count-requires
     add-end
     returns
     loop-holds
-    octet-at-requires
+    octet-requires
     put-requires
     add-i
     loop-less

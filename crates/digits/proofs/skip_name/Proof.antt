@@ -13,8 +13,8 @@ Inv-loop hex at size place₀ total₀ place total = (total ≤ 254) × From (pa
 abbrev μ-loop : tie.MeasureT-loop
 μ-loop hex at size place₀ total₀ place total = 255 - total
 
-size-of-requires : tie.Need-size-of-requires Inv-loop μ-loop
-size-of-requires c κs = search needs
+count-requires : tie.Need-count-requires Inv-loop μ-loop
+count-requires c κs = search needs
 
 loop-holds : tie.Need-loop-holds Inv-loop μ-loop
 loop-holds c = (search needs, from-start _ _)
@@ -22,8 +22,8 @@ loop-holds c = (search needs, from-start _ _)
 returns : tie.Need-returns Inv-loop μ-loop
 returns c = search (skip-past, needs)
 
-octet-at-requires : tie.Need-octet-at-requires Inv-loop μ-loop
-octet-at-requires c κs = search needs
+octet-requires : tie.Need-octet-requires Inv-loop μ-loop
+octet-requires c κs = search needs
 
 wide-requires : tie.Need-wide-requires Inv-loop μ-loop
 wide-requires c κs = search needs
@@ -67,10 +67,10 @@ skip-name-spec =
     (tie.spec
     Inv-loop
     μ-loop
-    size-of-requires
+    count-requires
     loop-holds
     returns
-    octet-at-requires
+    octet-requires
     wide-requires
     add-t11
     returns-2

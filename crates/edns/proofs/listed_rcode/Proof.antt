@@ -1,18 +1,21 @@
--- `edns::listed_rcode` meets its contract: the two ranges.
+-- `edns::listed_rcode` meets its contract: the table has the row.
 -- Assumes nothing.
-use Rattle.edns.specs.Rcodes.{listed-low, listed-gap, listed-high}
+use Rattle.octets.specs.Lists.{each}
+use Rattle.edns.specs.Edns.{rcodes}
+use Rattle.edns.specs.Table.{row-listed}
 use borrow.Author.Needs.{needs}
 use Rattle.edns.proofs.listed_rcode.Statement.{statement}
 use Rattle.edns.proofs.listed_rcode.Tie as tie
 
+rcode-row-requires : tie.Need-rcode-row-requires
+rcode-row-requires c κs = search needs
+
+rcode-names-requires : tie.Need-rcode-names-requires
+rcode-names-requires c κs = search needs
+
 returns : tie.Need-returns
-returns c = search (listed-low, needs)
-
-returns-2 : tie.Need-returns-2
-returns-2 c = search (listed-gap, needs)
-
-returns-3 : tie.Need-returns-3
-returns-3 c = search (listed-high, needs)
+unfolding each rcodes
+returns c = search (row-listed, needs)
 
 pub listed-rcode-spec : {M : Type 1} → statement M
-listed-rcode-spec = tie.close (tie.spec returns returns-2 returns-3)
+listed-rcode-spec = tie.close (tie.spec rcode-row-requires rcode-names-requires returns)

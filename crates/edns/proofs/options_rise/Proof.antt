@@ -1,7 +1,7 @@
 -- `edns::options_rise` meets its contract: what is read from `at` on gives the whole answer.
 -- Assumes nothing.
 use Prim.Native.Nat.{_≤_, _-_}
-use lib.ListN.{length}
+use Rattle.either.specs.Either.{octetsIn}
 use Rattle.edns.specs.Element.{optionsRise}
 use Rattle.edns.specs.Ways.{From, rises-start, rises-cut, rises-short, rises-low, rises-more, rises-end}
 use borrow.Author.Needs.{needs}
@@ -9,16 +9,19 @@ use Rattle.edns.proofs.options_rise.Statement.{statement}
 use Rattle.edns.proofs.options_rise.Tie as tie
 
 abbrev Inv-loop : tie.InvT-loop
-Inv-loop rdata least₀ at₀ least at = (at ≤ length rdata) × (least ≤ 65536) × From rdata (optionsRise rdata) least at
+Inv-loop s hex size least₀ at₀ least at = (at ≤ size) × (least ≤ 65536) × From (octetsIn hex s) (optionsRise (octetsIn hex s)) least at
 
 abbrev μ-loop : tie.MeasureT-loop
-μ-loop rdata least₀ at₀ least at = length rdata - at
+μ-loop s hex size least₀ at₀ least at = size - at
+
+count-requires : tie.Need-count-requires Inv-loop μ-loop
+count-requires c κs = search needs
 
 loop-holds : tie.Need-loop-holds Inv-loop μ-loop
 loop-holds c = (search needs, search needs, rises-start _)
 
-add-if1 : tie.Need-add-if1 Inv-loop μ-loop
-add-if1 c = search needs
+sub-left : tie.Need-sub-left Inv-loop μ-loop
+sub-left c = search needs
 
 returns : tie.Need-returns Inv-loop μ-loop
 returns c = search (rises-cut, needs)
@@ -32,14 +35,11 @@ add-two-at c = search needs
 two-at-requires-2 : tie.Need-two-at-requires-2 Inv-loop μ-loop
 two-at-requires-2 c κs = search needs
 
-cast-size : tie.Need-cast-size Inv-loop μ-loop
-cast-size c = search needs
+cast-length : tie.Need-cast-length Inv-loop μ-loop
+cast-length c = search needs
 
-add-end : tie.Need-add-end Inv-loop μ-loop
-add-end c = search needs
-
-add-end-2 : tie.Need-add-end-2 Inv-loop μ-loop
-add-end-2 c = search needs
+add-length : tie.Need-add-length Inv-loop μ-loop
+add-length c = search needs
 
 returns-2 : tie.Need-returns-2 Inv-loop μ-loop
 returns-2 c = search (rises-short, needs)
@@ -49,6 +49,9 @@ returns-3 c = search (rises-low, needs)
 
 add-least : tie.Need-add-least Inv-loop μ-loop
 add-least c = search needs
+
+add-at : tie.Need-add-at Inv-loop μ-loop
+add-at c = search needs
 
 loop-less : tie.Need-loop-less Inv-loop μ-loop
 loop-less c = search needs
@@ -65,18 +68,19 @@ options-rise-spec =
     (tie.spec
     Inv-loop
     μ-loop
+    count-requires
     loop-holds
-    add-if1
+    sub-left
     returns
     two-at-requires
     add-two-at
     two-at-requires-2
-    cast-size
-    add-end
-    add-end-2
+    cast-length
+    add-length
     returns-2
     returns-3
     add-least
+    add-at
     loop-less
     loop-again
     returns-4)

@@ -4,7 +4,7 @@ use mathlib.Core.Path.{refl}
 use borrow.Author.Needs.{needs}
 use Rattle.octets.specs.Lists.{lookup}
 use Rattle.options.specs.Options.{rows, formOf}
-use Rattle.options.specs.Writing.{no-row}
+use Rattle.options.specs.Shapes.{no-row}
 use Rattle.members.specs.Values.{at-form, no-form, word-value}
 use Rattle.members.proofs.value.Statement.{statement}
 use Rattle.members.proofs.value.Tie as tie
@@ -113,7 +113,8 @@ unfolding lookup rows formOf
 returns-10 c = search (at-form, needs)
 
 returns-11 : tie.Need-returns-11
-returns-11 c = let h = c .before .match .rest in no-form (c .before .before .before .before .args .code) (no-row _ (h .0 .0 .0 .0 .0 .0 .0 .0 .0 .1) (h .0 .0 .0 .0 .0 .0 .0 .0 .1) (h .0 .0 .0 .0 .0 .0 .0 .1) (h .0 .0 .0 .0 .0 .0 .1) (h .0 .0 .0 .0 .0 .1) (h .0 .0 .0 .0 .1) (h .0 .0 .0 .1) (h .0 .0 .1) (h .0 .1) (h .1)) (search needs) (c .stop .ensures)
+unfolding rows
+returns-11 c = no-form (c .before .before .before .before .args .code) (no-row _ (c .before .match .rest)) (search needs) (c .stop .ensures)
 
 pub value-spec : {M : Type 1} → statement M
 value-spec =

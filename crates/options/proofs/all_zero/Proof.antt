@@ -1,27 +1,32 @@
 -- `options::all_zero` meets its contract: as long as no octet differs from zero, those from `i` on decide.
 -- Assumes nothing.
-use borrow.Author.Needs.{needs}
 use Prim.Native.Nat.{_-_}
-use lib.ListN.{length}
-use Rattle.options.specs.Every.{Open, open-start, open-next, open-fails, open-ends, zero-is, zero-not}
+use Rattle.octets.specs.Lists.{all}
+use Rattle.either.specs.Either.{octetsIn}
 use Rattle.options.specs.Options.{zero?}
+use Rattle.options.specs.Every.{zero-is, zero-not}
+use Rattle.either.specs.Every.{Rest, rest-start, rest-next, rest-fails, rest-ends}
+use borrow.Author.Needs.{needs}
 use Rattle.options.proofs.all_zero.Statement.{statement}
 use Rattle.options.proofs.all_zero.Tie as tie
 
 abbrev Inv-loop : tie.InvT-loop
-Inv-loop s i₀ i = Open zero? s i
+Inv-loop s hex size i₀ i = Rest zero? (octetsIn hex s) (all zero? (octetsIn hex s)) i
 
 abbrev μ-loop : tie.MeasureT-loop
-μ-loop s i₀ i = length s - i
+μ-loop s hex size i₀ i = size - i
+
+count-requires : tie.Need-count-requires Inv-loop μ-loop
+count-requires c κs = search needs
 
 loop-holds : tie.Need-loop-holds Inv-loop μ-loop
-loop-holds c = open-start _ _
+loop-holds c = rest-start _ _ _
 
-shared-slice-read-if1 : tie.Need-shared-slice-read-if1 Inv-loop μ-loop
-shared-slice-read-if1 c = search needs
+octet-requires : tie.Need-octet-requires Inv-loop μ-loop
+octet-requires c κs = search needs
 
 returns : tie.Need-returns Inv-loop μ-loop
-returns c = search (open-fails, zero-not, needs)
+returns c = search (rest-fails, zero-not, needs)
 
 add-i : tie.Need-add-i Inv-loop μ-loop
 add-i c = search needs
@@ -30,10 +35,10 @@ loop-less : tie.Need-loop-less Inv-loop μ-loop
 loop-less c = search needs
 
 loop-again : tie.Need-loop-again Inv-loop μ-loop
-loop-again c = search (open-next, zero-is, needs)
+loop-again c = search (rest-next, zero-is, needs)
 
 returns-2 : tie.Need-returns-2 Inv-loop μ-loop
-returns-2 c = search (open-ends, needs)
+returns-2 c = search (rest-ends, needs)
 
 pub all-zero-spec : {M : Type 1} → statement M
 all-zero-spec =
@@ -41,8 +46,9 @@ all-zero-spec =
     (tie.spec
     Inv-loop
     μ-loop
+    count-requires
     loop-holds
-    shared-slice-read-if1
+    octet-requires
     returns
     add-i
     loop-less

@@ -1,0 +1,17 @@
+-- `options::is_cookie` meets its contract: 8, fewer than 16, others.
+-- Assumes nothing.
+use borrow.Author.Tests.{eq-eqb, ne-eqb, le-leb, lt-leb}
+use Rattle.options.proofs.is_cookie.Statement.{statement}
+use Rattle.options.proofs.is_cookie.Tie as tie
+
+returns : tie.Need-returns
+returns c = rw (eq-eqb _ _ (c .if1 .taken))
+
+returns-2 : tie.Need-returns-2
+returns-2 c = rw (ne-eqb _ _ (c .before .if1 .left), lt-leb _ _ (c .if2 .taken))
+
+returns-3 : tie.Need-returns-3
+returns-3 c = rw (ne-eqb _ _ (c .before .if1 .left), le-leb _ _ (c .if2 .left))
+
+pub is-cookie-spec : {M : Type 1} → statement M
+is-cookie-spec = tie.close (tie.spec returns returns-2 returns-3)

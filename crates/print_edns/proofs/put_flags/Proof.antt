@@ -1,0 +1,48 @@
+-- `print_edns::put_flags` meets its contract: a text for each bit.
+-- Assumes nothing.
+use native.Mathlib.Omega.{arith}
+use Rattle.octets.specs.Lists.{textOf}
+use Rattle.edns.specs.Edns.{flags}
+use Rattle.print_edns.specs.Writing.{text-is}
+use borrow.Author.Needs.{needs}
+use Rattle.print_edns.proofs.put_flags.Statement.{statement}
+use Rattle.print_edns.proofs.put_flags.Tie as tie
+
+slice-aggregate-put-all : tie.Need-slice-aggregate-put-all
+slice-aggregate-put-all c = search needs
+
+put-all-requires : tie.Need-put-all-requires
+put-all-requires c κs = search needs
+
+same-length : tie.Need-same-length
+same-length c = search needs
+
+returns : tie.Need-returns
+unfolding textOf flags
+returns c = (text-is 0 flags (c .before .before .before .before .before .if1 .taken) (c .before .before .put-all .ensures), search needs)
+
+slice-aggregate-put-all-2 : tie.Need-slice-aggregate-put-all-2
+slice-aggregate-put-all-2 c = search needs
+
+put-all-requires-2 : tie.Need-put-all-requires-2
+put-all-requires-2 c κs = search needs
+
+same-length-2 : tie.Need-same-length-2
+same-length-2 c = search needs
+
+returns-2 : tie.Need-returns-2
+unfolding textOf flags
+returns-2 c = (text-is 1 flags {n = c .before .before .before .before .before .before .before .args .bit} (omega arith) (c .before .before .put-all2 .ensures), search needs)
+
+pub put-flags-spec : {M : Type 1} → statement M
+put-flags-spec =
+    tie.close
+    (tie.spec
+    slice-aggregate-put-all
+    put-all-requires
+    same-length
+    returns
+    slice-aggregate-put-all-2
+    put-all-requires-2
+    same-length-2
+    returns-2)

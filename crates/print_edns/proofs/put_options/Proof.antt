@@ -1,0 +1,91 @@
+-- `print_edns::put_options` meets its contract: what is left to write, written from `to` on, makes the whole text.
+-- Assumes nothing.
+use Prim.Native.Nat.{_+_, _*_, _-_, _≤_}
+use native.Mathlib.Omega.{arith}
+use lib.ListN.{length}
+use Rattle.octets.specs.Overlay.{same-long}
+use Rattle.print_edns.specs.Writing.{Left, left-start, left-room, left-more, left-end}
+use borrow.Author.Needs.{needs}
+use Rattle.print_edns.proofs.put_options.Statement.{statement}
+use Rattle.print_edns.proofs.put_options.Tie as tie
+
+abbrev Inv-loop : tie.InvT-loop
+Inv-loop out₀ at rdata to₀ from₀ out to from = (from ≤ length rdata) × (to ≤ at + 64 * from) × Left rdata out₀ at out to from
+
+abbrev μ-loop : tie.MeasureT-loop
+μ-loop out₀ at rdata to₀ from₀ out to from = length rdata - from
+
+loop-holds : tie.Need-loop-holds Inv-loop μ-loop
+loop-holds c = (search needs, search needs, left-start _ _ _ (search needs))
+
+two-at-requires : tie.Need-two-at-requires Inv-loop μ-loop
+two-at-requires c κs = omega (arith, left-room (c .before .loop .inv .2) (c .loop-test .taken))
+
+add-two-at : tie.Need-add-two-at Inv-loop μ-loop
+add-two-at c = search needs
+
+two-at-requires-2 : tie.Need-two-at-requires-2 Inv-loop μ-loop
+two-at-requires-2 c κs = omega (arith, left-room (c .before .before .loop .inv .2) (c .before .loop-test .taken))
+
+cast-size : tie.Need-cast-size Inv-loop μ-loop
+cast-size c = search needs
+
+add-start : tie.Need-add-start Inv-loop μ-loop
+add-start c = search needs
+
+add-end : tie.Need-add-end Inv-loop μ-loop
+add-end c = search needs
+
+put-requires : tie.Need-put-requires Inv-loop μ-loop
+put-requires c κs = search needs
+
+sub-put-member : tie.Need-sub-put-member Inv-loop μ-loop
+sub-put-member c = search needs
+
+part-put-member-start : tie.Need-part-put-member-start Inv-loop μ-loop
+part-put-member-start c = search needs
+
+part-put-member-end : tie.Need-part-put-member-end Inv-loop μ-loop
+part-put-member-end c = omega (arith, left-room (c .before .before .before .before .before .before .before .before .loop .inv .2) (c .before .before .before .before .before .before .before .loop-test .taken))
+
+put-member-requires : tie.Need-put-member-requires Inv-loop μ-loop
+put-member-requires c κs = search needs
+
+loop-less : tie.Need-loop-less Inv-loop μ-loop
+loop-less c =
+    let m = c .before .before .before .before .before .before .before .before .before .before .before in
+    omega (arith, left-room (m .before .loop .inv .2) (m .loop-test .taken))
+
+loop-again : tie.Need-loop-again Inv-loop μ-loop
+loop-again c =
+    let m = c .before .before .before .before .before .before .before .before .before .before .before in
+    (omega (arith, left-room (m .before .loop .inv .2) (m .loop-test .taken)), omega (arith, left-room (m .before .loop .inv .2) (m .loop-test .taken)), search (left-more, needs))
+
+same-length : tie.Need-same-length Inv-loop μ-loop
+same-length c = same-long (left-end (c .before .loop .inv .2) (c .loop-test .left))
+
+returns : tie.Need-returns Inv-loop μ-loop
+returns c = (left-end (c .before .loop .inv .2) (c .loop-test .left), search needs)
+
+pub put-options-spec : {M : Type 1} → statement M
+put-options-spec =
+    tie.close
+    (tie.spec
+    Inv-loop
+    μ-loop
+    loop-holds
+    two-at-requires
+    add-two-at
+    two-at-requires-2
+    cast-size
+    add-start
+    add-end
+    put-requires
+    sub-put-member
+    part-put-member-start
+    part-put-member-end
+    put-member-requires
+    loop-less
+    loop-again
+    same-length
+    returns)

@@ -1,0 +1,2 @@
+-- What the writers of the EDNS element have written.
+pub mod Writing

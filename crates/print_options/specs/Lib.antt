@@ -1,0 +1,2 @@
+-- What the writers of EDNS options have written.
+pub mod Writing

@@ -1,0 +1,3 @@
+-- What the writers of the parts of option values have written.
+pub mod Parts
+pub mod Entries
