@@ -1,0 +1,67 @@
+-- `line_answers::put_message` meets its contract, by the converter's answer. Assumes nothing.
+use borrow.Author.Needs.{needs}
+use native.Mathlib.Omega.{arith}
+use Rattle.line_answers.specs.Answering.{text-answer, text-within, refused-answer, place-below}
+use Rattle.line_answers.proofs.put_message.Statement.{statement}
+use Rattle.line_answers.proofs.put_message.Tie as tie
+
+sub-convert : tie.Need-sub-convert
+sub-convert c = search needs
+
+part-convert-start : tie.Need-part-convert-start
+part-convert-start c = search needs
+
+part-convert-end : tie.Need-part-convert-end
+part-convert-end c = search needs
+
+convert-requires : tie.Need-convert-requires
+convert-requires c κs = search needs
+
+enum-known-size : tie.Need-enum-known-size
+enum-known-size c = search needs
+
+enum-known-number : tie.Need-enum-known-number
+enum-known-number c = search needs
+
+cast-put-refusal : tie.Need-cast-put-refusal
+cast-put-refusal c =
+    let m = c .before .before .before .before .before .before .before .before .before .before in
+    omega (arith, place-below _ (m .args .text .now) (m .pre .2) (c .before .before .before .before .before .before .convert .ensures .promise) (c .before .before .number .given .1) (m .pre .0) (m .pre .1))
+
+put-refusal-requires : tie.Need-put-refusal-requires
+put-refusal-requires c κs = search needs
+
+same-length : tie.Need-same-length
+same-length c = search needs
+
+returns : tie.Need-returns
+returns c = (
+  text-answer _ _ (c .before .before .before .before .before .before .before .before .before .pre .2) (c .before .before .before .before .before .convert .ensures .promise) (c .before .size .given .1),
+  text-within _ (c .before .before .before .before .before .before .before .before .before .args .text .now) (c .before .before .before .before .before .before .before .before .before .pre .2) (c .before .before .before .before .before .convert .ensures .promise) (c .before .size .given .1),
+)
+
+same-length-2 : tie.Need-same-length-2
+same-length-2 c = search needs
+
+returns-2 : tie.Need-returns-2
+returns-2 c = (
+  refused-answer _ _ (c .before .before .before .before .before .before .before .before .before .before .before .before .before .pre .2) (c .before .before .before .before .before .before .before .before .before .convert .ensures .promise) (c .before .before .before .before .before .number .given .1) (c .before .before .put-refusal .ensures .0),
+  search needs,
+)
+
+pub put-message-spec : {M : Type 1} → statement M
+put-message-spec =
+    tie.close
+    (tie.spec
+    sub-convert
+    part-convert-start
+    part-convert-end
+    convert-requires
+    enum-known-size
+    enum-known-number
+    cast-put-refusal
+    put-refusal-requires
+    same-length
+    returns
+    same-length-2
+    returns-2)
