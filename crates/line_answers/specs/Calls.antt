@@ -10,7 +10,7 @@ use lib.Seq.{take-append-seam}
 use Rattle.octets.specs.Answer.{Output, output, refused, Answer, success, refusal, Left, overwritten, delivered}
 use Rattle.octets.specs.Calls.{answerOf, Gives}
 use Rattle.octets.specs.declared.Outcome.{Outcome}
-use Rattle.lines.specs.Lines.{refusalLine, shown}
+use Rattle.line_answers.specs.Answers.{refusalLine, shown}
 
 module _ (spelled : List ℕ → List ℕ) where
   -- of what is shown, and of the buffer before and after

@@ -1,4 +1,4 @@
--- The place that a refusal names lies within the message; of a text it is 0. Assumes nothing.
+-- The place of a refusal is within the message; of a text it is 0. Assumes nothing.
 use mathlib.Core.Path.{_≡_, refl, sym, ap, _∙_, subst}
 use mathlib.Core.Bool.{Bool, true, false, cond}
 use mathlib.Core.Option.{Option, none, some}
@@ -30,7 +30,7 @@ use Rattle.strict.specs.Meaning.{meaning}
 use Rattle.strict.specs.Parser.{parse}
 use Rattle.strict.specs.Reading.{meant, parsed, reading, toWire}
 
--- reading came to an offset, or to a faulty entry's, within so many octets
+-- reading ended at an offset, or at a faulty entry, within `size` octets
 abbrev Inside : ℕ → Reached → Type 0
 Inside size (reached at) = at ≤ size
 Inside size (stopped at fault) = at ≤ size
@@ -56,7 +56,7 @@ sections-inside s o h =
     let records = from-inside recordAt s (λ at a next e. record-read s at a next o e .2) in
     records (twoAt s 10) _ (records (twoAt s 8) _ (records (twoAt s 6) _ (section-inside questionAt s (λ at a next e. question-read s at a next o e .2) (twoAt s 4) 12 h)))
 
--- a refusal's place within so many octets
+-- a refusal's place is within `size` octets
 abbrev Placed : ℕ → Decoded → Type 0
 Placed size (accepted m) = Unit {0}
 Placed size (refused k p) = p ≤ size
@@ -81,7 +81,7 @@ decode-placed s o =
     at-first n (ltb 65535 n) 2 _ λ a. at-first n (ltb n 12) 1 _ λ b. at-first n (eqb (zOf s) 1) 3 _ λ c.
     ended-placed n _ (sectionsOf s .additional .end) (sections-inside s o (ltb-false n 12 b)) (at-first n (ltb 65535 (length (form (messageOf s)))) 9 (accepted (messageOf s)) λ d. tt)
 
--- the same of an output, and of a call's outcome
+-- the same for an output and for a call's outcome
 abbrev At : ℕ → Output → Type 0
 At size (output l) = Unit {0}
 At size (answer.refused k p) = p ≤ size

@@ -1,11 +1,8 @@
 -- The answer to a line of `towire`, by the ways through the code. Assumes nothing.
 use mathlib.Core.Path.{_≡_, sym, ap}
-use mathlib.Core.Bool.{cond}
 use mathlib.Core.List.{List}
-use Prim.Native.Nat.{ℕ, _-_, _≤_, _<_}
+use Prim.Native.Nat.{ℕ, _-_, _≤_}
 use native.Mathlib.Omega.{arith}
-use borrow.Author.Tests.{lt-ltb, le-ltb}
-use lib.Dec.{ltb}
 use lib.ListN.{length, take}
 use Rattle.octets.specs.Overlay.{Wrote}
 use Rattle.octets.specs.Answer.{Answer, success}
@@ -13,8 +10,8 @@ use Rattle.octets.specs.Calls.{answerOf, Gives}
 use Rattle.octets.specs.declared.Outcome.{Outcome}
 use Rattle.octets.specs.declared.Outcome.the-variants.{Length, Refused}
 use Rattle.strict.specs.Reading.{reading, toWire}
-use Rattle.lines.specs.Lines.{refusalLine, shown, asHex, wireLine}
-use Rattle.lines.specs.Calls.{Told, told, told-by, callLine, told-line}
+use Rattle.line_answers.specs.Answers.{refusalLine, shown, asHex}
+use Rattle.line_answers.specs.Calls.{Told, told, told-by, callLine, told-line}
 
 -- ---- the reader's answer
 -- what `towire` prints for a text is what a call reports and leaves, whatever its buffer of that length held
@@ -41,28 +38,3 @@ module _ (s m : List ℕ) {m′ : List ℕ} {a : Outcome} (k : length m ≡ 4096
   -- or the refusal
   pub refused-answer : {number place : ℕ} → a ≡ Refused number place → {b b′ : List ℕ} {r : ℕ} → Wrote b 0 (refusalLine number place) b′ r → Wrote b 0 (shown asHex 4096 23 (reading s)) b′ r
   refused-answer e w = rw (told-here (ap answerOf e) .0) w
-
--- what is left in the message buffer
-unfoldable pub wireLeft : List ℕ → List ℕ → List ℕ
-wireLeft s m = cond (ltb 65536 (length s)) m (toWire s m .buffer)
-
-module _ (s : List ℕ) where
-  -- a line that is too long
-  module _ (h : 65536 < length s) where
-    pub long-answer : {b b′ : List ℕ} {r : ℕ} → Wrote b 0 (refusalLine 31 0) b′ r → Wrote b 0 (wireLine s) b′ r
-    unfolding wireLine
-    long-answer w = rw (lt-ltb 65536 (length s) h) w
-
-    pub long-left : (m : List ℕ) → m ≡ wireLeft s m
-    unfolding wireLeft
-    long-left m = rw (lt-ltb 65536 (length s) h)
-
-  -- any other
-  module _ (h : length s ≤ 65536) where
-    pub read-answer : {b b′ : List ℕ} {r : ℕ} → Wrote b 0 (shown asHex 4096 23 (reading s)) b′ r → Wrote b 0 (wireLine s) b′ r
-    unfolding wireLine
-    read-answer w = rw (le-ltb 65536 (length s) h) w
-
-    pub read-left : (m : List ℕ) {m′ : List ℕ} → m′ ≡ toWire s m .buffer → m′ ≡ wireLeft s m
-    unfolding wireLeft
-    read-left m e = rw (le-ltb 65536 (length s) h) e

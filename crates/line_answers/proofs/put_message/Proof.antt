@@ -25,8 +25,10 @@ enum-known-number c = search needs
 
 cast-put-refusal : tie.Need-cast-put-refusal
 cast-put-refusal c =
-    let m = c .before .before .before .before .before .before .before .before .before .before in
-    omega (arith, place-below _ (m .args .text .now) (m .pre .2) (c .before .before .before .before .before .before .convert .ensures .promise) (c .before .before .number .given .1) (m .pre .0) (m .pre .1))
+    let number = c .before .before in
+    let call = number .before .before .before .before in
+    let start = call .before .before .before .before in
+    omega (arith, place-below _ (start .args .text .now) (start .pre .2) (call .convert .ensures .promise) (number .number .given .1) (start .pre .0) (start .pre .1))
 
 put-refusal-requires : tie.Need-put-refusal-requires
 put-refusal-requires c κs = search needs
@@ -35,19 +37,22 @@ same-length : tie.Need-same-length
 same-length c = search needs
 
 returns : tie.Need-returns
-returns c = (
-  text-answer _ _ (c .before .before .before .before .before .before .before .before .before .pre .2) (c .before .before .before .before .before .convert .ensures .promise) (c .before .size .given .1),
-  text-within _ (c .before .before .before .before .before .before .before .before .before .args .text .now) (c .before .before .before .before .before .before .before .before .before .pre .2) (c .before .before .before .before .before .convert .ensures .promise) (c .before .size .given .1),
-)
+returns c =
+    let size = c .before in
+    let call = size .before .before .before .before in
+    let start = call .before .before .before .before in
+    let gives = call .convert .ensures .promise in
+    (text-answer _ _ (start .pre .2) gives (size .size .given .1), text-within _ (start .args .text .now) (start .pre .2) gives (size .size .given .1))
 
 same-length-2 : tie.Need-same-length-2
 same-length-2 c = search needs
 
 returns-2 : tie.Need-returns-2
-returns-2 c = (
-  refused-answer _ _ (c .before .before .before .before .before .before .before .before .before .before .before .before .before .pre .2) (c .before .before .before .before .before .before .before .before .before .convert .ensures .promise) (c .before .before .before .before .before .number .given .1) (c .before .before .put-refusal .ensures .0),
-  search needs,
-)
+returns-2 c =
+    let number = c .before .before .before .before .before in
+    let call = number .before .before .before .before in
+    let start = call .before .before .before .before in
+    (refused-answer _ _ (start .pre .2) (call .convert .ensures .promise) (number .number .given .1) (c .before .before .put-refusal .ensures .0), search needs)
 
 pub put-message-spec : {M : Type 1} → statement M
 put-message-spec =

@@ -1,7 +1,7 @@
 -- `line_answers::put_refusal` meets its contract: four parts. Assumes nothing.
 use borrow.Author.Needs.{needs}
 use Rattle.octets.specs.Overlay.{then}
-use Rattle.line_answers.specs.Lines.{refusalLine}
+use Rattle.line_answers.specs.Answers.{refusalLine}
 use Rattle.line_answers.proofs.put_refusal.Statement.{statement}
 use Rattle.line_answers.proofs.put_refusal.Tie as tie
 
@@ -28,16 +28,12 @@ same-length c = search needs
 
 returns : tie.Need-returns
 unfolding refusalLine
-returns c = (
-  then
-      (then
-      (then
-      (c .before .before .before .before .before .before .before .before .before .before .before .before .before .before .before .put-all .ensures)
-      (c .before .before .before .before .before .before .before .before .before .before .before .put-decimal .ensures .0))
-      (c .before .before .before .before .before .before .put-all2 .ensures))
-      (c .before .before .put-decimal2 .ensures .0),
-  search needs,
-)
+returns c =
+    let middle = c .before .before .before .before .before .before in
+    let first = middle .before .before .before .before .before in
+    let start = first .before .before .before .before in
+    let all = then (then (then (start .put-all .ensures) (first .put-decimal .ensures .0)) (middle .put-all2 .ensures)) (c .before .before .put-decimal2 .ensures .0) in
+    (all, search needs)
 
 pub put-refusal-spec : {M : Type 1} → statement M
 put-refusal-spec =

@@ -20,19 +20,24 @@ part-put-hex-start c = search needs
 
 part-put-hex-end : tie.Need-part-put-hex-end
 part-put-hex-end c =
-    let m = c .before .before .before .before .before .before .before in
-    omega (arith, message-within _ _ (m .before .before .before .before .before .pre .0) (m .read .ensures) (c .before .before .before .n .given .1))
+    let n = c .before .before .before in
+    let call = n .before .before .before .before in
+    omega (arith, message-within _ _ (call .before .before .before .before .before .pre .0) (call .read .ensures) (n .n .given .1))
 
 put-hex-requires : tie.Need-put-hex-requires
 put-hex-requires c κs =
-    let m = c .before .before .before .before .before .before .before .before in
-    omega (arith, message-within _ _ (m .before .before .before .before .before .pre .0) (m .read .ensures) (c .before .before .before .before .n .given .1))
+    let n = c .before .before .before .before in
+    let call = n .before .before .before .before in
+    omega (arith, message-within _ _ (call .before .before .before .before .before .pre .0) (call .read .ensures) (n .n .given .1))
 
 enum-known-number : tie.Need-enum-known-number
 enum-known-number c = search needs
 
 cast-put-refusal : tie.Need-cast-put-refusal
-cast-put-refusal c = omega (arith, place-first _ _ (c .before .before .before .before .before .before .read .ensures) (c .before .before .number .given .1))
+cast-put-refusal c =
+    let number = c .before .before in
+    let call = number .before .before .before .before in
+    omega (arith, place-first _ _ (call .read .ensures) (number .number .given .1))
 
 put-refusal-requires : tie.Need-put-refusal-requires
 put-refusal-requires c κs = search needs
@@ -45,10 +50,12 @@ same-length-2 c = search needs
 
 returns : tie.Need-returns
 returns c =
-    let k = c .before .before .before .before .before .before .before .before .before .before .before .before .before .before .before .before .pre .0 in
-    let p = c .before .before .before .before .before .before .before .before .before .before .before .read .ensures in
-    let e = c .before .before .before .before .before .before .before .n .given .1 in
-    (message-answer _ _ k p e (c .before .before .put-hex .ensures .0), (omega (arith, message-within _ _ k p e), p .leaves))
+    let n = c .before .before .before .before .before .before .before in
+    let call = n .before .before .before .before in
+    let room = call .before .before .before .before .before .pre .0 in
+    let gives = call .read .ensures in
+    let told = n .n .given .1 in
+    (message-answer _ _ room gives told (c .before .before .put-hex .ensures .0), (omega (arith, message-within _ _ room gives told), gives .leaves))
 
 same-length-3 : tie.Need-same-length-3
 same-length-3 c = search needs
@@ -58,9 +65,11 @@ same-length-4 c = search needs
 
 returns-2 : tie.Need-returns-2
 returns-2 c =
-    let m = c .before .before .before .before .before in
-    let p = m .before .before .before .before .read .ensures in
-    (refused-answer _ _ (m .before .before .before .before .before .before .before .before .before .pre .0) p (m .number .given .1) (c .before .before .put-refusal .ensures .0), (search needs, p .leaves))
+    let number = c .before .before .before .before .before in
+    let call = number .before .before .before .before in
+    let room = call .before .before .before .before .before .pre .0 in
+    let gives = call .read .ensures in
+    (refused-answer _ _ room gives (number .number .given .1) (c .before .before .put-refusal .ensures .0), (search needs, gives .leaves))
 
 pub put-wire-spec : {M : Type 1} → statement M
 put-wire-spec =

@@ -1,7 +1,7 @@
 -- `line_answers::text_line` meets its contract: the answer, and the end of the line. Assumes nothing.
 use borrow.Author.Needs.{needs}
 use Rattle.octets.specs.Overlay.{then}
-use Rattle.line_answers.specs.Lines.{printed}
+use Rattle.line_answers.specs.Answers.{printed}
 use Rattle.line_answers.proofs.text_line.Statement.{statement}
 use Rattle.line_answers.proofs.text_line.Tie as tie
 
@@ -19,10 +19,9 @@ same-length-2 c = search needs
 
 returns : tie.Need-returns
 unfolding printed
-returns c = (
-  then (c .before .before .before .before .before .before .before .before .put-answer .ensures .0) (c .before .before .put .ensures),
-  (search needs, c .before .before .before .before .before .before .before .before .put-answer .ensures .1 .1),
-)
+returns c =
+    let answer = c .before .before .before .before .before .before .before .before .put-answer .ensures in
+    (then (answer .0) (c .before .before .put .ensures), (search needs, answer .1 .1))
 
 pub text-line-spec : {M : Type 1} → statement M
 text-line-spec =

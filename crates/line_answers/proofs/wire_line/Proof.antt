@@ -1,7 +1,7 @@
 -- `line_answers::wire_line` meets its contract: the answer, and the end of the line. Assumes nothing.
 use borrow.Author.Needs.{needs}
 use Rattle.octets.specs.Overlay.{then}
-use Rattle.line_answers.specs.Lines.{printed}
+use Rattle.line_answers.specs.Answers.{printed}
 use Rattle.line_answers.proofs.wire_line.Statement.{statement}
 use Rattle.line_answers.proofs.wire_line.Tie as tie
 
@@ -20,8 +20,8 @@ same-length-2 c = search needs
 returns : tie.Need-returns
 unfolding printed
 returns c =
-    let m = c .before .before .before .before .before .before .before .before in
-    (then (m .put-reading .ensures .0) (c .before .before .put .ensures), (search needs, m .put-reading .ensures .1 .1))
+    let answer = c .before .before .before .before .before .before .before .before .put-reading .ensures in
+    (then (answer .0) (c .before .before .put .ensures), (search needs, answer .1 .1))
 
 pub wire-line-spec : {M : Type 1} → statement M
 wire-line-spec =
