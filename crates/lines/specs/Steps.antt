@@ -7,7 +7,7 @@ use native.Mathlib.Numerals.{add-one}
 use native.Mathlib.Omega.{arith}
 use borrow.Author.Tests.{eq-eqb, ne-eqb, lt-ltb, le-ltb, ltb-true, ltb-false}
 use lib.Dec.{eqb, ltb}
-use lib.ListN.{length, getD, take, drop, set, length-append, drop-of-length-le}
+use lib.ListN.{length, getD, take, drop, set, length-append, length-take, drop-of-length-le}
 use lib.Seq.{set-out, take-all, take-nil, take-take, take-append-seam, take-suc-set, length-take-le, drop-cons}
 use Rattle.octets.specs.Overlay.{Wrote, nothing}
 use Rattle.line_answers.specs.Answers.{printed}
@@ -91,11 +91,11 @@ pub record Fed (most : ℕ) (start input line : List ℕ) (used i : ℕ) : Type 
 pub fed-start : (most : ℕ) (line : List ℕ) (used : ℕ) (input : List ℕ) → Fed most (take used line) input line used 0
 fed-start most line used input = record { same = refl }
 
-module _ {most : ℕ} {start input line : List ℕ} {used i : ℕ} (p : Fed most start input line used i) (n : length line ≡ most) (k : used ≤ most) where
-  pub fed-step : {line′ : List ℕ} {used′ : ℕ} → i < length input → Kept line used (getD input i 0) line′ used′
+module _ {most : ℕ} {start input line : List ℕ} {used i : ℕ} (p : Fed most start input line used i) (k : used ≤ most) where
+  pub fed-step : {line′ : List ℕ} {used′ : ℕ} → length line ≡ most → i < length input → Kept line used (getD input i 0) line′ used′
       → Fed most start input line′ used′ (i + 1)
   unfolding soFar
-  fed-step h w =
+  fed-step n h w =
       let l = lineAfter (take used line) (getD input i 0) in
       let rest = drop (i + 1) input in
       let d : drop i input ≡ getD input i 0 ∷ rest = rw add-one (drop-cons input i 0 h) in
@@ -106,5 +106,5 @@ module _ {most : ℕ} {start input line : List ℕ} {used i : ℕ} (p : Fed most
   pub fed-end : length input ≤ i → take used line ≡ take most (soFar start input)
   unfolding soFar
   fed-end h =
-      let l : length (take used line) ≡ used = length-take-le used line (omega arith) in
-      sym (take-all most (take used line) (omega arith)) ∙ (rw (drop-of-length-le input h) at (p .same))
+      let l : length (take used line) ≤ most = omega (arith, length-take used line) in
+      sym (take-all most (take used line) l) ∙ (rw (drop-of-length-le input h) at (p .same))

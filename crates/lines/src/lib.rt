@@ -31,8 +31,8 @@ fn answer_line(program: Program, line: &[u8], message: &mut [u8], text: &mut [u8
 
 // How many octets of the line are kept, and how many octets of `text` are to be printed.
 pub struct StepResult {
-    used: usize,
-    size: usize,
+    pub used: usize,
+    pub size: usize,
 }
 
 // Takes one octet of the input: a newline answers the line and empties it, any other octet joins the line while there is room.
