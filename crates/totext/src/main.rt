@@ -6,6 +6,11 @@ ghost use mathlib.Core.Path.{_≡_};
 ghost use Prim.Native.Nat.{_≤_};
 ghost use lib.ListN.{length, take};
 ghost use Rattle.lines.specs.Reading.{soFar};
+ghost use Rattle.lines.specs.Programs.{keptOf};
+ghost use Rattle.lines.specs.declared.Program.the-variants.{ToText};
+
+// One octet more than the longest line: a line that is too long fills the buffer.
+const KEPT: usize = 8193;
 
 // Prints the first `size` octets of a text.
 fn print(text: &[u8], size: usize)
@@ -18,15 +23,15 @@ fn print(text: &[u8], size: usize)
 
 // Takes the octets of a part of the input, and prints each answer at once.
 fn feed(
-    line: &mut [u8; 8193],
+    line: &mut [u8; KEPT],
     used: usize,
     input: &[u8],
     message: &mut [u8; 4096],
     text: &mut [u8; 65537],
 ) -> usize
-    requires { ⌜ used ≤ 8193 ⌝ }
-    ensures { λ r. ⌜ take r (now (line .exit)) ≡ take 8193 (soFar (take used (now (line .entry))) (now (input .entry))) ⌝ }
-    ensures { λ r. ⌜ r ≤ 8193 ⌝ }
+    requires { ⌜ used ≤ keptOf ToText ⌝ }
+    ensures { λ r. ⌜ take r (now (line .exit)) ≡ take (keptOf ToText) (soFar (take used (now (line .entry))) (now (input .entry))) ⌝ }
+    ensures { λ r. ⌜ r ≤ keptOf ToText ⌝ }
 {
     let mut kept = used;
     let mut i = 0;
@@ -40,20 +45,20 @@ fn feed(
 }
 
 // Reads to the end of the input, or to a read that fails. Proved loops need a bound: this one ends after 2^64 - 1 reads.
-fn read_all(line: &mut [u8; 8193], message: &mut [u8; 4096], text: &mut [u8; 65537]) -> usize
-    ensures { λ r. ⌜ r ≤ 8193 ⌝ }
+fn read_all(line: &mut [u8; KEPT], message: &mut [u8; 4096], text: &mut [u8; 65537]) -> usize
+    ensures { λ r. ⌜ r ≤ keptOf ToText ⌝ }
 {
     let mut buffer = io::large_buffer();
-    let chunk: &mut [u8] = &mut buffer;
+    let input: &mut [u8] = &mut buffer;
     let mut used = 0;
     let mut turns = u64::MAX;
     while turns > 0 {
-        let got = libc::read(STDIN_FILENO, chunk);
+        let got = libc::read(STDIN_FILENO, input);
         if got <= 0 {
             return used;
         }
-        let n = io::count(got, chunk);
-        used = feed(line, used, &chunk[0..n], message, text);
+        let n = io::count(got, input);
+        used = feed(line, used, &input[0..n], message, text);
         turns -= 1;
     }
     used
@@ -61,7 +66,7 @@ fn read_all(line: &mut [u8; 8193], message: &mut [u8; 4096], text: &mut [u8; 655
 
 // Answers the lines of the input; a last line without its newline counts if it isn't empty.
 fn main() {
-    let mut line = [0; 8193];
+    let mut line = [0; KEPT];
     let mut message = io::buffer();
     let mut text = [0; 65537];
     let used = read_all(&mut line, &mut message, &mut text);

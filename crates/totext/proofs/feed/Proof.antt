@@ -2,13 +2,15 @@
 use borrow.Author.Needs.{needs}
 use Prim.Native.Nat.{_-_, _≤_}
 use lib.ListN.{length, take}
+use Rattle.lines.specs.Programs.{keptOf}
+use Rattle.lines.specs.declared.Program.the-variants.{ToText}
 use Rattle.lines.specs.Steps.{Fed, fed-start, fed-step, fed-end}
 use Rattle.totext.proofs.feed.Statement.{statement}
 use Rattle.totext.proofs.feed.Tie as tie
 
 abbrev Inv-loop : tie.InvT-loop
 Inv-loop line₀ used input message₀ text₀ kept₀ i₀ line message text kept i =
-    (i ≤ length input) × (kept ≤ 8193) × Fed 8193 (take used line₀) input line kept i
+    (i ≤ length input) × (kept ≤ keptOf ToText) × Fed (keptOf ToText) (take used line₀) input line kept i
 
 abbrev μ-loop : tie.MeasureT-loop
 μ-loop line₀ used input message₀ text₀ kept₀ i₀ line message text kept i = length input - i

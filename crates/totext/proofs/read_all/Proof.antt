@@ -1,20 +1,22 @@
 -- `totext::read_all` meets its contract: the turns left fall. Assumes nothing.
 use borrow.Author.Needs.{needs}
 use Prim.Native.Nat.{_≤_}
+use Rattle.lines.specs.Programs.{keptOf}
+use Rattle.lines.specs.declared.Program.the-variants.{ToText}
 use Rattle.totext.proofs.read_all.Statement.{statement}
 use Rattle.totext.proofs.read_all.Tie as tie
 
 abbrev Inv-loop : tie.InvT-loop
-Inv-loop line₀ message₀ text₀ chunk₀ used₀ turns₀ line message text chunk used turns = used ≤ 8193
+Inv-loop line₀ message₀ text₀ input₀ used₀ turns₀ line message text input used turns = used ≤ keptOf ToText
 
 abbrev μ-loop : tie.MeasureT-loop
-μ-loop line₀ message₀ text₀ chunk₀ used₀ turns₀ line message text chunk used turns = turns
+μ-loop line₀ message₀ text₀ input₀ used₀ turns₀ line message text input used turns = turns
 
 large-buffer-requires : tie.Need-large-buffer-requires Inv-loop μ-loop
 large-buffer-requires c κs = search needs
 
-slice-aggregate-chunk : tie.Need-slice-aggregate-chunk Inv-loop μ-loop
-slice-aggregate-chunk c = search needs
+slice-aggregate-input : tie.Need-slice-aggregate-input Inv-loop μ-loop
+slice-aggregate-input c = search needs
 
 loop-holds : tie.Need-loop-holds Inv-loop μ-loop
 loop-holds c = search needs
@@ -59,7 +61,7 @@ read-all-spec =
     Inv-loop
     μ-loop
     large-buffer-requires
-    slice-aggregate-chunk
+    slice-aggregate-input
     loop-holds
     read-requires
     returns

@@ -22,7 +22,7 @@ use Rattle.strict.specs.Parser.{parse, document, head, question, entry, itemCod
 use Rattle.strict.specs.Spelt.{name, label, spelledOctet, spelledAt, escape, ddd, leads?, coded-from?, coded?, signedNumber, string, stringChar, stringAt, bare?, quoted}
 use Rattle.strict.specs.Reading.{reading}
 use Rattle.strict.specs.Meaning.{meaning, documentView, itemRecord, itemEdns, itemAdditional, unsigned, agrees?, counts?, ttl?, ednsItem?, item?}
-use Rattle.lines.specs.Lines.{refusalLine, shown, wireLine}
+use Rattle.line_answers.specs.Answers.{refusalLine, shown, limited, wireLine}
 
 -- a line, and its answer
 pub record Sample : Type 0 where
@@ -53,5 +53,5 @@ samples =
 
 -- every row, computed
 pub samples-hold : map (λ (s : Sample). wireLine (s .line)) samples ≡ map (λ (s : Sample). s .answer) samples
-unfolding samples wireLine shown refusalLine parse document head natural positive question entry name label spelledOctet spelledAt escape ddd leads? coded-from? coded? plain? signedNumber hex unhex string stringChar stringAt bare? printable? quoted itemCodec ednsElement optionMembers member knownMember otherMember value expiryNumber tried members rows flags rcodes formOf lookup textOf decimal spelled stringOctet hexText reading meaning documentView itemRecord itemEdns itemAdditional unsigned agrees? counts? ttl? ednsItem? item? view? additionals? additional? settled? opt-entry? edns? option? header? question? record? name? label? nameForm fits? walk nameFrom layouts layoutOf pieces rdataAt rising? divided optionsOf ednsOf key? shape words value? member? optionOf octetsOf within? small-rdata? small-option? small-options? messageOf recordOf ednsRecord optionForm each form headerForm questionForm recordForm
+unfolding samples limited wireLine shown refusalLine parse document head natural positive question entry name label spelledOctet spelledAt escape ddd leads? coded-from? coded? plain? signedNumber hex unhex string stringChar stringAt bare? printable? quoted itemCodec ednsElement optionMembers member knownMember otherMember value expiryNumber tried members rows flags rcodes formOf lookup textOf decimal spelled stringOctet hexText reading meaning documentView itemRecord itemEdns itemAdditional unsigned agrees? counts? ttl? ednsItem? item? view? additionals? additional? settled? opt-entry? edns? option? header? question? record? name? label? nameForm fits? walk nameFrom layouts layoutOf pieces rdataAt rising? divided optionsOf ednsOf key? shape words value? member? optionOf octetsOf within? small-rdata? small-option? small-options? messageOf recordOf ednsRecord optionForm each form headerForm questionForm recordForm
 samples-hold = refl
