@@ -13,7 +13,8 @@ use lib.Seq.{drop-cons, take-append-seam}
 use Rattle.octets.specs.Lists.{present?}
 use Rattle.octets.specs.Lists as lists
 use Rattle.octets.specs.Overlay.{overlay, Wrote, then, nothing, overlay-first}
-use Rattle.hex_lines.specs.Hex.{hexValue, joined, unhexed, hexAnswer, hexLeft, Unhexed, Within, valueOr16, hex?, octetsOf}
+use Rattle.hex_lines.specs.Hex.{hexValue, joined, unhexed, hexAnswer, hexLeft, Unhexed, Within, valueOr16, hex?}
+use Rattle.hex_lines.specs.Hex.{octetsOf}
 use Rattle.hex_lines.specs.Digits.{Digit, digit, other, hexValue-digit, is-digit, no-digit}
 use Rattle.hex_lines.specs.declared.Hex.{Hex}
 use Rattle.hex_lines.specs.declared.Hex.the-variants.{Octets, Bad}
@@ -80,7 +81,8 @@ looked-end {s} {i} p h k = go (drop i s) refl (length-drop i s)
 -- what is written for the rest makes the whole
 pub record Rest (s b₀ b : List ℕ) (to i : ℕ) : Type 0 where
   pub good : hex? (drop i s) ≡ true
-  pub goes : {b′ : List ℕ} {r : ℕ} → Wrote b to (octetsOf (unhexed (drop i s))) b′ r → Wrote b₀ 0 (octetsOf (unhexed s)) b′ r
+  pub goes : {b′ : List ℕ} {r : ℕ} → Wrote b to (octetsOf (unhexed (drop i s))) b′ r
+      → Wrote b₀ 0 (octetsOf (unhexed s)) b′ r
 
 pub rest-start : (s b : List ℕ) → hex? s ≡ true → Rest s b b 0 0
 rest-start s b e = record { good = e; goes = λ w. w }
@@ -91,7 +93,8 @@ unfolding overlay
 stored b at x = record { place = refl; text = refl }
 
 -- the octets of a line of digits, by its first two
-octets-step : (o : Option (List ℕ)) (v w : ℕ) → present? o ≡ true → octetsOf (joined (some v) (some w) o) ≡ (v * 16 + w) ∷ octetsOf o
+octets-step : (o : Option (List ℕ)) (v w : ℕ) → present? o ≡ true
+    → octetsOf (joined (some v) (some w) o) ≡ (v * 16 + w) ∷ octetsOf o
 octets-step (some l) v w e = refl
 octets-step none v w e = absurd (false≢true e)
 
@@ -134,7 +137,8 @@ module _ {s b₀ b : List ℕ} {to i : ℕ} (p : Rest s b₀ b to i) (h : 2 ≤ 
       record { good = r; goes = λ z. p .goes (rw o (then (stored b to (v * 16 + w)) z)) }
 
 -- the end
-pub rest-end : {s b₀ b : List ℕ} {to i : ℕ} → Rest s b₀ b to i → length s - i < 2 → Wrote b₀ 0 (octetsOf (unhexed s)) b to
+pub rest-end : {s b₀ b : List ℕ} {to i : ℕ} → Rest s b₀ b to i → length s - i < 2
+    → Wrote b₀ 0 (octetsOf (unhexed s)) b to
 unfolding hex? unhexed
 rest-end {s} {b₀} {b} {to} {i} p h = go (drop i s) refl (length-drop i s)
   where
@@ -158,7 +162,8 @@ module _ {s b : List ℕ} where
   unfolding hex?
   unhexed-good {b′} {n} e h w = go (unhexed s) refl e w
     where
-      go : (o : Option (List ℕ)) → unhexed s ≡ o → present? o ≡ true → Wrote b 0 (octetsOf o) b′ n → Unhexed s b (Octets n) b′
+      go : (o : Option (List ℕ)) → unhexed s ≡ o → present? o ≡ true → Wrote b 0 (octetsOf o) b′ n
+          → Unhexed s b (Octets n) b′
       go (some l) q e w =
           let k : n ≡ length l = omega (arith, w .place) in
           record { answers = rw q (ap (λ m. Octets m) k); leaves = rw q (w .text ∙ overlay-first b l (omega arith)) }

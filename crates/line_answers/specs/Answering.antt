@@ -23,7 +23,8 @@ use Rattle.line_answers.specs.Limits.{in-limit, in-left}
 
 -- ---- the converter's answer
 -- what `totext` prints for a message is what a call reports and leaves, whatever its buffer of that length held
-pub call-line : (s b : List ℕ) → callLine asText (toText s b .answer) (toText s b .buffer) ≡ shown asText (length b) 10 (converted s)
+pub call-line : (s b : List ℕ)
+    → callLine asText (toText s b .answer) (toText s b .buffer) ≡ shown asText (length b) 10 (converted s)
 unfolding toText
 call-line s b = told-line asText (toText s b .answer) _ b (toText s b .buffer) (told asText 10 (converted s) b)
 
@@ -36,15 +37,18 @@ module _ (s b : List ℕ) (k : length b ≡ 65537) where
   same-room : shown asText 65536 10 (converted s) ≡ shown asText (length (take 65536 b)) 10 (converted s)
   same-room = ap (λ n. shown asText n 10 (converted s)) (sym room)
 
-  written : {size : ℕ} {t : List ℕ} (x : List ℕ) → size ≡ length x → size ≤ length (take 65536 b) → t ≡ overwritten x (take 65536 b) → Wrote b 0 x (t ++ drop 65536 b) size
+  written : {size : ℕ} {t : List ℕ} (x : List ℕ) → size ≡ length x → size ≤ length (take 65536 b)
+      → t ≡ overwritten x (take 65536 b) → Wrote b 0 x (t ++ drop 65536 b) size
   written x n h g =
       let l = room in
       let d : drop (length x) (take 65536 b) ++ drop 65536 b ≡ drop (length x) b =
-      sym (drop-append-le (length x) (take 65536 b) (drop 65536 b) (omega arith)) ∙ ap (drop (length x)) (take-append-drop 65536 b) in
+      sym (drop-append-le (length x) (take 65536 b) (drop 65536 b) (omega arith))
+      ∙ ap (drop (length x)) (take-append-drop 65536 b) in
       record { place = omega arith; text = rw (g, append-assoc, d) (sym (overlay-first b x (omega arith))) }
 
   module _ {a : Outcome} {t : List ℕ} (p : Gives (toText s (take 65536 b)) a t) where
-    told-here : {given : Answer} → answerOf a ≡ given → Told asText given (shown asText (length (take 65536 b)) 10 (converted s)) (take 65536 b) t
+    told-here : {given : Answer} → answerOf a ≡ given
+        → Told asText given (shown asText (length (take 65536 b)) 10 (converted s)) (take 65536 b) t
     unfolding toText
     told-here e = told-by asText 10 (converted s) (take 65536 b) p e
 
@@ -57,7 +61,8 @@ module _ (s b : List ℕ) (k : length b ≡ 65537) where
 
     -- or its refusal
     module _ {number place : ℕ} (e : a ≡ Refused number place) where
-      pub refused-answer : {b′ : List ℕ} {r : ℕ} → Wrote (t ++ drop 65536 b) 0 (refusalLine number place) b′ r → Wrote b 0 (shown asText 65536 10 (converted s)) b′ r
+      pub refused-answer : {b′ : List ℕ} {r : ℕ} → Wrote (t ++ drop 65536 b) 0 (refusalLine number place) b′ r
+          → Wrote b 0 (shown asText 65536 10 (converted s)) b′ r
       refused-answer w =
           let q = told-here (ap answerOf e) in
           let same : t ++ drop 65536 b ≡ b = rw (q .1) (take-append-drop 65536 b) in
@@ -79,6 +84,7 @@ module _ (s : List ℕ) (h : length s ≤ 8192) {m m′ : List ℕ} {a : Hex} (u
 
   -- a message
   pub read-answer : {n : ℕ} → a ≡ Octets n
-      → {b b′ : List ℕ} {r : ℕ} → Wrote b 0 (shown asText 65536 10 (converted (take (n - 0) m′))) b′ r → Wrote b 0 (textLine s) b′ r
+      → {b b′ : List ℕ} {r : ℕ} → Wrote b 0 (shown asText 65536 10 (converted (take (n - 0) m′))) b′ r
+      → Wrote b 0 (textLine s) b′ r
   unfolding textLine
   read-answer {n} e w = let z : n - 0 ≡ n = omega arith in in-limit 8192 _ s h (rw (read-octets u e) (rw z at w))

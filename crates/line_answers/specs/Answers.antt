@@ -24,7 +24,8 @@ asText text = text
 abbrev pub asHex : List ℕ → List ℕ
 asHex message = each hexOctet message
 
--- what a conversion into a buffer of `room` octets prints: its output or its refusal; without room, refusal `noRoom` at 0
+-- what is printed of a conversion into a buffer of `room` octets: its output or its refusal; without room, refusal
+-- `noRoom` at 0
 unfoldable pub shown : (List ℕ → List ℕ) → ℕ → ℕ → Output → List ℕ
 shown spelled room noRoom (output octets) = cond (leb (length octets) room) (spelled octets) (refusalLine noRoom 0)
 shown spelled room noRoom (refused number place) = refusalLine number place

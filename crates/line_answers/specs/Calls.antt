@@ -18,19 +18,22 @@ module _ (spelled : List ℕ → List ℕ) where
   Told (success n) x b b′ = (l : List ℕ) × (x ≡ spelled l) × (n ≡ length l) × (n ≤ length b) × (b′ ≡ overwritten l b)
   Told (refusal k p) x b b′ = (x ≡ refusalLine k p) × (b′ ≡ b)
 
-  pub told : (noRoom : ℕ) (o : Output) (b : List ℕ) → Told (delivered noRoom o b .answer) (shown spelled (length b) noRoom o) b (delivered noRoom o b .buffer)
+  pub told : (noRoom : ℕ) (o : Output) (b : List ℕ)
+      → Told (delivered noRoom o b .answer) (shown spelled (length b) noRoom o) b (delivered noRoom o b .buffer)
   unfolding delivered shown
   told noRoom (output l) b = go (leb (length l) (length b)) refl
     where
       left : Bool → Left
       left t = cond t (record { answer = success (length l); buffer = overwritten l b }) (record { answer = refusal noRoom 0; buffer = b })
 
-      go : (t : Bool) → leb (length l) (length b) ≡ t → Told (left t .answer) (cond t (spelled l) (refusalLine noRoom 0)) b (left t .buffer)
+      go : (t : Bool) → leb (length l) (length b) ≡ t
+          → Told (left t .answer) (cond t (spelled l) (refusalLine noRoom 0)) b (left t .buffer)
       go true e = (l, refl, refl, leb-true _ _ e, refl)
       go false e = (refl, refl)
   told noRoom (refused k p) b = (refl, refl)
 
-  pub told-by : (noRoom : ℕ) (o : Output) (b : List ℕ) {b′ : List ℕ} {r : Outcome} {a : Answer} → Gives (delivered noRoom o b) r b′ → answerOf r ≡ a → Told a (shown spelled (length b) noRoom o) b b′
+  pub told-by : (noRoom : ℕ) (o : Output) (b : List ℕ) {b′ : List ℕ} {r : Outcome} {a : Answer}
+      → Gives (delivered noRoom o b) r b′ → answerOf r ≡ a → Told a (shown spelled (length b) noRoom o) b b′
   told-by noRoom o b g e = rw (sym e ∙ g .answers, g .leaves) (told noRoom o b)
 
   -- the line: the octets up to the reported length, as the call leaves them, or the refusal

@@ -18,7 +18,8 @@ use Rattle.octets.specs.declared.Outcome.{Outcome}
 use Rattle.octets.specs.declared.Outcome.the-variants.{Refused}
 use Rattle.names.specs.Name.{number}
 use Rattle.records.specs.Message.{form}
-use Rattle.records.specs.Read.{Entry, entry, bad, Reached, reached, stopped, questionAt, recordAt, sectionAt, sectionFrom}
+use Rattle.records.specs.Read.{Entry, entry, bad, Reached, reached, stopped, questionAt, recordAt, sectionAt}
+use Rattle.records.specs.Read.{sectionFrom}
 use Rattle.records.specs.Decode.{Decoded, accepted, refused, zOf, sectionsOf, messageOf, decode}
 use Rattle.records.specs.RecordLaws.{question-read, record-read}
 use Rattle.json.specs.View.{View}
@@ -41,7 +42,8 @@ module _ {A : Type 0} (read : List ℕ → ℕ → Entry A) (s : List ℕ) (insi
   section-inside zero at h = h
   section-inside (suc n) at h = go (read s at) refl (section-inside n)
     where
-      go : (w : Entry A) → read s at ≡ w → ((i : ℕ) → i ≤ length s → Inside (length s) (sectionAt read s n i .end)) → Inside (length s) (sectionAt read s (suc n) at .end)
+      go : (w : Entry A) → read s at ≡ w → ((i : ℕ) → i ≤ length s → Inside (length s) (sectionAt read s n i .end))
+          → Inside (length s) (sectionAt read s (suc n) at .end)
       go (entry a next) e k = rw (e, sectionAt) (k next (inside at a next e))
       go (bad fault) e k = rw (e, sectionAt) h
 
@@ -61,7 +63,8 @@ abbrev Placed : ℕ → Decoded → Type 0
 Placed size (accepted m) = Unit {0}
 Placed size (refused k p) = p ≤ size
 
-at-first : (size : ℕ) (b : Bool) (k : ℕ) (d : Decoded) → (b ≡ false → Placed size d) → Placed size (cond b (refused k 0) d)
+at-first : (size : ℕ) (b : Bool) (k : ℕ) (d : Decoded) → (b ≡ false → Placed size d)
+    → Placed size (cond b (refused k 0) d)
 at-first size true k d f = omega arith
 at-first size false k d f = f refl
 
@@ -126,13 +129,17 @@ delivered-at noRoom size (output l) b h = go (leb (length l) (length b))
     go false = omega arith
 delivered-at noRoom size (answer.refused k p) b h = h
 
-given-at : (noRoom size : ℕ) (o : Output) (b : List ℕ) {b′ : List ℕ} {r : Outcome} {k p : ℕ} → At size o → Gives (delivered noRoom o b) r b′ → r ≡ Refused k p → p ≤ size
-given-at noRoom size o b h g e = subst (PlacedAt size) (sym (g .answers) ∙ ap answerOf e) (delivered-at noRoom size o b h)
+given-at : (noRoom size : ℕ) (o : Output) (b : List ℕ) {b′ : List ℕ} {r : Outcome} {k p : ℕ} → At size o
+    → Gives (delivered noRoom o b) r b′ → r ≡ Refused k p → p ≤ size
+given-at noRoom size o b h g e =
+    subst (PlacedAt size) (sym (g .answers) ∙ ap answerOf e) (delivered-at noRoom size o b h)
 
-pub place-within : (s b : List ℕ) {b′ : List ℕ} {r : Outcome} {k p : ℕ} → Octets s → Gives (toText s b) r b′ → r ≡ Refused k p → p ≤ length s
+pub place-within : (s b : List ℕ) {b′ : List ℕ} {r : Outcome} {k p : ℕ} → Octets s → Gives (toText s b) r b′
+    → r ≡ Refused k p → p ≤ length s
 unfolding toText
 place-within s b o = given-at 10 (length s) (converted s) b (converted-at s o)
 
-pub place-first : (t b : List ℕ) {b′ : List ℕ} {r : Outcome} {k p : ℕ} → Gives (toWire t b) r b′ → r ≡ Refused k p → p ≤ 0
+pub place-first : (t b : List ℕ) {b′ : List ℕ} {r : Outcome} {k p : ℕ} → Gives (toWire t b) r b′ → r ≡ Refused k p
+    → p ≤ 0
 unfolding toWire
 place-first t b = given-at 23 0 (reading t) b (reading-at t)

@@ -11,17 +11,21 @@ use Rattle.names.specs.Name.{name?, label?, nameForm}
 use Rattle.names.specs.Walk.{walk, nameFrom}
 use Rattle.records.specs.Message.{header?, question?, record?, form, headerForm, questionForm, recordForm}
 use Rattle.records.specs.Layout.{fits?, layouts, layoutOf, pieces, rdataAt}
-use Rattle.edns.specs.Edns.{rcodes, edns?, option?, rising?, divided, optionsOf, ednsOf, ednsRecord, optionForm, small-option?, flags}
+use Rattle.edns.specs.Edns.{rcodes, edns?, option?, rising?, divided, optionsOf, ednsOf, ednsRecord, optionForm}
+use Rattle.edns.specs.Edns.{small-option?, flags}
 use Rattle.spelling.specs.Spelling.{plain?, printable?, spelled, stringOctet}
 use Rattle.options.specs.Options.{members, rows, formOf, shape, words}
 use Rattle.json.specs.Sample.{textWith}
 use Rattle.json.specs.View.{view?, additionals?, additional?, settled?, opt-entry?, messageOf, recordOf}
 use Rattle.json.specs.Limits.{within?, small-rdata?, small-options?}
 use Rattle.strict.specs.Members.{value?, member?, optionOf, octetsOf}
-use Rattle.strict.specs.Parser.{parse, document, head, question, entry, itemCodec, ednsElement, optionMembers, member, knownMember, otherMember, value, expiryNumber}
-use Rattle.strict.specs.Spelt.{name, label, spelledOctet, spelledAt, escape, ddd, leads?, coded-from?, coded?, signedNumber, string, stringChar, stringAt, bare?, quoted}
+use Rattle.strict.specs.Parser.{parse, document, head, question, entry, itemCodec, ednsElement, optionMembers, member}
+use Rattle.strict.specs.Parser.{knownMember, otherMember, value, expiryNumber}
+use Rattle.strict.specs.Spelt.{name, label, spelledOctet, spelledAt, escape, ddd, leads?, coded-from?, coded?}
+use Rattle.strict.specs.Spelt.{signedNumber, string, stringChar, stringAt, bare?, quoted}
 use Rattle.strict.specs.Reading.{reading}
-use Rattle.strict.specs.Meaning.{meaning, documentView, itemRecord, itemEdns, itemAdditional, unsigned, agrees?, counts?, ttl?, ednsItem?, item?}
+use Rattle.strict.specs.Meaning.{meaning, documentView, itemRecord, itemEdns, itemAdditional, unsigned, agrees?}
+use Rattle.strict.specs.Meaning.{counts?, ttl?, ednsItem?, item?}
 use Rattle.line_answers.specs.Answers.{refusalLine, shown, limited, wireLine}
 
 -- a line, and its answer

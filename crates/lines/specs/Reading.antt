@@ -34,7 +34,8 @@ printedLast answer line = cond (none? line) [] (printed answer line)
 
 -- ---- octet by octet is line by line
 module _ (answer : List ℕ → List ℕ) where
-  from-line : (line s : List ℕ) → each (printed answer) (linesFrom line s) ≡ printedOver answer line s ++ printedLast answer (soFar line s)
+  from-line : (line s : List ℕ)
+      → each (printed answer) (linesFrom line s) ≡ printedOver answer line s ++ printedLast answer (soFar line s)
   unfolding linesFrom each soFar printedOver printedLast lineAfter printedAt
   from-line line [] = go (none? line)
     where
@@ -45,18 +46,21 @@ module _ (answer : List ℕ → List ℕ) where
     where
       go : (b : Bool)
           → each (printed answer) (linesFrom [] s) ≡ printedOver answer [] s ++ printedLast answer (soFar [] s)
-          → each (printed answer) (linesFrom (line ++ (c ∷ [])) s) ≡ printedOver answer (line ++ (c ∷ [])) s ++ printedLast answer (soFar (line ++ (c ∷ [])) s)
+          → each (printed answer) (linesFrom (line ++ (c ∷ [])) s)
+          ≡ printedOver answer (line ++ (c ∷ [])) s ++ printedLast answer (soFar (line ++ (c ∷ [])) s)
           → each (printed answer) (cond b (line ∷ linesFrom [] s) (linesFrom (line ++ (c ∷ [])) s))
           ≡ cond b (printed answer line) [] ++ printedOver answer (cond b [] (line ++ (c ∷ []))) s ++ printedLast answer (soFar (cond b [] (line ++ (c ∷ []))) s)
       go true p q = rw (p, append-assoc)
       go false p q = q
 
-  pub output-steps : (input : List ℕ) → outputOf answer input ≡ printedOver answer [] input ++ printedLast answer (soFar [] input)
+  pub output-steps : (input : List ℕ)
+      → outputOf answer input ≡ printedOver answer [] input ++ printedLast answer (soFar [] input)
   unfolding outputOf
   output-steps input = from-line [] input
 
   -- the input may come in any pieces
-  pub printed-pieces : (line s t : List ℕ) → printedOver answer line (s ++ t) ≡ printedOver answer line s ++ printedOver answer (soFar line s) t
+  pub printed-pieces : (line s t : List ℕ)
+      → printedOver answer line (s ++ t) ≡ printedOver answer line s ++ printedOver answer (soFar line s) t
   unfolding soFar printedOver
   printed-pieces line [] t = refl
   printed-pieces line (c ∷ s) t = rw (printed-pieces (lineAfter line c) s t, append-assoc)
@@ -110,7 +114,8 @@ module _ (cap : ℕ) (answer : List ℕ → List ℕ) (same : (line : List ℕ) 
           let q : answer (x ∷ take n l) ≡ answer (x ∷ l) = rw e at (same (x ∷ l)) in
           rw (e, q)
 
-  kept-from : (line s : List ℕ) → keptOutput cap answer (take cap line) s ≡ printedOver answer line s ++ printedLast answer (soFar line s)
+  kept-from : (line s : List ℕ)
+      → keptOutput cap answer (take cap line) s ≡ printedOver answer line s ++ printedLast answer (soFar line s)
   unfolding keptOutput printedOver printedAt printed soFar
   kept-from line [] = kept-last line
   kept-from line (c ∷ s) = rw (same line, kept-after cap line c, kept-from (lineAfter line c) s, append-assoc)

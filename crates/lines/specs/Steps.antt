@@ -9,7 +9,7 @@ use borrow.Author.Tests.{eq-eqb, ne-eqb, lt-ltb, le-ltb, ltb-true, ltb-false}
 use lib.Dec.{eqb, ltb}
 use lib.ListN.{length, getD, take, drop, set, length-append, length-take, drop-of-length-le}
 use lib.Seq.{set-out, take-all, take-nil, take-take, take-append-seam, take-suc-set, length-take-le, drop-cons}
-use Rattle.octets.specs.Overlay.{Wrote, nothing}
+use Rattle.octets.specs.Overlay.{Wrote, nothing, overlay-first}
 use Rattle.line_answers.specs.Answers.{printed}
 use Rattle.lines.specs.Reading.{lineAfter, printedAt, soFar, kept-alike}
 use Rattle.lines.specs.Programs.{answerTo, leftBy}
@@ -66,6 +66,12 @@ module _ {c : ℕ} (n : c ≡ 10 → ⊥) where
   unfolding messageAfter
   other-message program line m = rw (ne-eqb c 10 n)
 
+-- ---- the first octets of `text` are what is printed
+pub first-octets : {b b′ xs : List ℕ} {r : ℕ} → Wrote b 0 xs b′ r → r ≤ length b → take r b′ ≡ xs
+first-octets {b} {b′} {xs} {r} w h =
+    let n : r ≡ length xs = omega (arith, w .place) in
+    rw (w .text, n, overlay-first b xs (omega arith)) (take-append-seam xs (drop (length xs) b))
+
 -- ---- what is kept is the line after the octet, up to the buffer's length
 module _ {line : List ℕ} {used c : ℕ} (h : used ≤ length line) {line′ : List ℕ} {used′ : ℕ} where
   pub kept-line : Kept line used c line′ used′ → take used′ line′ ≡ take (length line) (lineAfter (take used line) c)
@@ -79,7 +85,8 @@ module _ {line : List ℕ} {used c : ℕ} (h : used ≤ length line) {line′ : 
       go false true e =
           let l : length (take used line) ≡ used = length-take-le used line h in
           let z : used < length line = ltb-true _ _ e in
-          let k : length (take used line ++ (c ∷ [])) ≤ length line = omega (arith, length-append (take used line) (c ∷ [])) in
+          let k : length (take used line ++ (c ∷ [])) ≤ length line =
+          omega (arith, length-append (take used line) (c ∷ [])) in
           rw add-one (take-suc-set line used c z ∙ sym (take-all (length line) (take used line ++ (c ∷ [])) k))
       go false false e = rw (take-all used line (ltb-false _ _ e)) (sym (take-append-seam line (c ∷ [])))
 
@@ -91,8 +98,10 @@ pub record Fed (most : ℕ) (start input line : List ℕ) (used i : ℕ) : Type 
 pub fed-start : (most : ℕ) (line : List ℕ) (used : ℕ) (input : List ℕ) → Fed most (take used line) input line used 0
 fed-start most line used input = record { same = refl }
 
-module _ {most : ℕ} {start input line : List ℕ} {used i : ℕ} (p : Fed most start input line used i) (k : used ≤ most) where
-  pub fed-step : {line′ : List ℕ} {used′ : ℕ} → length line ≡ most → i < length input → Kept line used (getD input i 0) line′ used′
+module _ {most : ℕ} {start input line : List ℕ} {used i : ℕ}
+    (p : Fed most start input line used i) (k : used ≤ most) where
+  pub fed-step : {line′ : List ℕ} {used′ : ℕ} → length line ≡ most → i < length input
+      → Kept line used (getD input i 0) line′ used′
       → Fed most start input line′ used′ (i + 1)
   unfolding soFar
   fed-step n h w =

@@ -19,7 +19,8 @@ pub enum Program {
 // Writes the answer of a program to a line, and a newline after it.
 fn answer_line(program: Program, line: &[u8], message: &mut [u8], text: &mut [u8]) -> usize
     requires { ⌜ (length (now message) ≡ 4096) × (length (now text) ≡ 65537) ⌝ }
-    ensures { λ r. ⌜ Wrote (now (text .entry)) 0 (printed (answerTo program) (now (line .entry))) (now (text .exit)) r ⌝ }
+    ensures { λ r. ⌜ Wrote (now (text .entry)) 0 (printed (answerTo program) (now (line .entry)))
+        (now (text .exit)) r ⌝ }
     ensures { λ r. ⌜ r ≤ 65537 ⌝ }
     ensures { λ r. ⌜ now (message .exit) ≡ leftBy program (now (line .entry)) (now (message .entry)) ⌝ }
 {
@@ -35,7 +36,8 @@ pub struct StepResult {
     pub size: usize,
 }
 
-// Takes one octet of the input: a newline answers the line and empties it, any other octet joins the line while there is room.
+// Takes one octet of the input: a newline answers the line and empties it, any other octet joins the line while there is
+// room.
 pub fn step(
     program: Program,
     line: &mut [u8],
@@ -44,10 +46,13 @@ pub fn step(
     message: &mut [u8],
     text: &mut [u8],
 ) -> StepResult
-    requires { ⌜ (used ≤ length (now line)) × (length (now line) ≡ keptOf program) × (length (now message) ≡ 4096) × (length (now text) ≡ 65537) ⌝ }
+    requires { ⌜ (used ≤ length (now line)) × (length (now line) ≡ keptOf program) ⌝ }
+    requires { ⌜ (length (now message) ≡ 4096) × (length (now text) ≡ 65537) ⌝ }
     ensures { λ r. ⌜ Kept (now (line .entry)) used c (now (line .exit)) (r .used) ⌝ }
-    ensures { λ r. ⌜ Wrote (now (text .entry)) 0 (printedAt (answerTo program) (take used (now (line .entry))) c) (now (text .exit)) (r .size) ⌝ }
-    ensures { λ r. ⌜ now (message .exit) ≡ messageAfter program (take used (now (line .entry))) c (now (message .entry)) ⌝ }
+    ensures { λ r. ⌜ Wrote (now (text .entry)) 0 (printedAt (answerTo program) (take used (now (line .entry))) c)
+        (now (text .exit)) (r .size) ⌝ }
+    ensures { λ r. ⌜ now (message .exit)
+        ≡ messageAfter program (take used (now (line .entry))) c (now (message .entry)) ⌝ }
     ensures { λ r. ⌜ (r .used ≤ length (now (line .entry))) × (r .size ≤ 65537) ⌝ }
 {
     if c == b'\n' {

@@ -30,7 +30,8 @@ fn feed(
     text: &mut [u8; 65537],
 ) -> usize
     requires { ⌜ used ≤ keptOf ToText ⌝ }
-    ensures { λ r. ⌜ take r (now (line .exit)) ≡ take (keptOf ToText) (soFar (take used (now (line .entry))) (now (input .entry))) ⌝ }
+    ensures { λ r. ⌜ take r (now (line .exit))
+        ≡ take (keptOf ToText) (soFar (take used (now (line .entry))) (now (input .entry))) ⌝ }
     ensures { λ r. ⌜ r ≤ keptOf ToText ⌝ }
 {
     let mut kept = used;
@@ -44,7 +45,8 @@ fn feed(
     kept
 }
 
-// Reads to the end of the input, or to a read that fails. Proved loops need a bound: this one ends after 2^64 - 1 reads.
+// Reads to the end of the input, or to a read that fails. Proved loops need a bound: this one ends after 2^64 - 1
+// reads.
 fn read_all(line: &mut [u8; KEPT], message: &mut [u8; 4096], text: &mut [u8; 65537]) -> usize
     ensures { λ r. ⌜ r ≤ keptOf ToText ⌝ }
 {

@@ -50,8 +50,8 @@ loop-again c =
     let first = c .before .before .before in
     let turn = first .before .before .before in (
       search needs,
-      both-good (turn .before .loop .inv .1) (turn .loop-test .taken) (first .before .hex-value .ensures) (c .before .hex-value2 .ensures)
-          (first .if1 .left) (c .if2 .left),
+      both-good (turn .before .loop .inv .1) (turn .loop-test .taken) (first .before .hex-value .ensures)
+          (c .before .hex-value2 .ensures) (first .if1 .left) (c .if2 .left),
     )
 
 returns-3 : tie.Need-returns-3 Inv-loop μ-loop

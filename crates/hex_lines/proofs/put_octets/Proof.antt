@@ -9,7 +9,8 @@ use Rattle.hex_lines.proofs.put_octets.Statement.{statement}
 use Rattle.hex_lines.proofs.put_octets.Tie as tie
 
 abbrev Inv-loop : tie.InvT-loop
-Inv-loop line out₀ to₀ i₀ out to i = (i ≤ length line) × (2 * to ≡ i) × (length out ≡ length out₀) × Rest line out₀ out to i
+Inv-loop line out₀ to₀ i₀ out to i =
+    (i ≤ length line) × (2 * to ≡ i) × (length out ≡ length out₀) × Rest line out₀ out to i
 
 abbrev μ-loop : tie.MeasureT-loop
 μ-loop line out₀ to₀ i₀ out to i = length line - i
@@ -27,7 +28,9 @@ hex-value-requires : tie.Need-hex-value-requires Inv-loop μ-loop
 hex-value-requires c κs = search needs
 
 mul-out : tie.Need-mul-out Inv-loop μ-loop
-mul-out c = omega (arith, first-below (c .before .before .before .loop .inv .3) (c .before .before .loop-test .taken) (c .hex-value .ensures))
+mul-out c =
+    let turn = c .before .before in
+    omega (arith, first-below (turn .before .loop .inv .3) (turn .loop-test .taken) (c .hex-value .ensures))
 
 add-hex-value : tie.Need-add-hex-value Inv-loop μ-loop
 add-hex-value c = search needs
@@ -43,7 +46,8 @@ add-out c =
     let turn = c .before .before .before .before in
     let rest = turn .before .loop .inv .3 in
     let two = turn .loop-test .taken in
-    omega (arith, first-below rest two (c .before .before .hex-value .ensures), second-below rest two (c .hex-value2 .ensures))
+    let first = first-below rest two (c .before .before .hex-value .ensures) in
+    omega (arith, first, second-below rest two (c .hex-value2 .ensures))
 
 slice-write-out : tie.Need-slice-write-out Inv-loop μ-loop
 slice-write-out c = search needs

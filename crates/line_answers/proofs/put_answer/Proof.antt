@@ -44,7 +44,8 @@ returns-2 c =
     let read = way .before .before .before .before in
     let short = read .before .before .if1 .left in
     let hex = read .unhex .ensures .0 in
-    (bad-answer _ short hex (way .enum-told .given .1) (c .before .before .put-refusal2 .ensures .0), (search needs, read-left _ short hex))
+    let wrote = c .before .before .put-refusal2 .ensures .0 in
+    (bad-answer _ short hex (way .enum-told .given .1) wrote, (search needs, read-left _ short hex))
 
 sub-put-message : tie.Need-sub-put-message
 sub-put-message c = search needs
@@ -75,7 +76,8 @@ returns-3 c =
     let read = n .before .before .before .before in
     let short = read .before .before .if1 .left in
     let hex = read .unhex .ensures .0 in
-    (read-answer _ short hex (n .n .given .1) (c .before .before .put-message .ensures .0), (search needs, read-left _ short hex))
+    let wrote = c .before .before .put-message .ensures .0 in
+    (read-answer _ short hex (n .n .given .1) wrote, (search needs, read-left _ short hex))
 
 pub put-answer-spec : {M : Type 1} → statement M
 put-answer-spec =

@@ -28,7 +28,9 @@ cast-put-refusal c =
     let number = c .before .before in
     let call = number .before .before .before .before in
     let start = call .before .before .before .before in
-    omega (arith, place-below _ (start .args .text .now) (start .pre .2) (call .convert .ensures .promise) (number .number .given .1) (start .pre .0) (start .pre .1))
+    let text = start .args .text .now in
+    let gives = call .convert .ensures .promise in
+    omega (arith, place-below _ text (start .pre .2) gives (number .number .given .1) (start .pre .0) (start .pre .1))
 
 put-refusal-requires : tie.Need-put-refusal-requires
 put-refusal-requires c κs = search needs
@@ -42,7 +44,8 @@ returns c =
     let call = size .before .before .before .before in
     let start = call .before .before .before .before in
     let gives = call .convert .ensures .promise in
-    (text-answer _ _ (start .pre .2) gives (size .size .given .1), text-within _ (start .args .text .now) (start .pre .2) gives (size .size .given .1))
+    let told = size .size .given .1 in
+    (text-answer _ _ (start .pre .2) gives told, text-within _ (start .args .text .now) (start .pre .2) gives told)
 
 same-length-2 : tie.Need-same-length-2
 same-length-2 c = search needs
@@ -52,7 +55,9 @@ returns-2 c =
     let number = c .before .before .before .before .before in
     let call = number .before .before .before .before in
     let start = call .before .before .before .before in
-    (refused-answer _ _ (start .pre .2) (call .convert .ensures .promise) (number .number .given .1) (c .before .before .put-refusal .ensures .0), search needs)
+    let gives = call .convert .ensures .promise in
+    let wrote = c .before .before .put-refusal .ensures .0 in
+    (refused-answer _ _ (start .pre .2) gives (number .number .given .1) wrote, search needs)
 
 pub put-message-spec : {M : Type 1} → statement M
 put-message-spec =

@@ -31,8 +31,10 @@ unfolding wireLine wireLeft
 returns-2 c =
     let wire = c .before .before .before .before in
     let short = wire .before .before .before .if1 .left in
-    (in-limit _ _ _ short (wire .put-wire .ensures .0), (search needs, in-left _ _ _ _ short (wire .put-wire .ensures .1 .1)))
+    let answer = wire .put-wire .ensures in
+    (in-limit _ _ _ short (answer .0), (search needs, in-left _ _ _ _ short (answer .1 .1)))
 
 pub put-reading-spec : {M : Type 1} → statement M
 put-reading-spec =
-    tie.close (tie.spec put-refusal-requires same-length returns put-wire-requires same-length-2 same-length-3 returns-2)
+    tie.close
+    (tie.spec put-refusal-requires same-length returns put-wire-requires same-length-2 same-length-3 returns-2)

@@ -32,8 +32,8 @@ returns c =
     let middle = c .before .before .before .before .before .before in
     let first = middle .before .before .before .before .before in
     let start = first .before .before .before .before in
-    let all = then (then (then (start .put-all .ensures) (first .put-decimal .ensures .0)) (middle .put-all2 .ensures)) (c .before .before .put-decimal2 .ensures .0) in
-    (all, search needs)
+    let number = then (start .put-all .ensures) (first .put-decimal .ensures .0) in
+    (then (then number (middle .put-all2 .ensures)) (c .before .before .put-decimal2 .ensures .0), search needs)
 
 pub put-refusal-spec : {M : Type 1} → statement M
 put-refusal-spec =

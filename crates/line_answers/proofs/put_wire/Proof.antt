@@ -22,13 +22,15 @@ part-put-hex-end : tie.Need-part-put-hex-end
 part-put-hex-end c =
     let n = c .before .before .before in
     let call = n .before .before .before .before in
-    omega (arith, message-within _ _ (call .before .before .before .before .before .pre .0) (call .read .ensures) (n .n .given .1))
+    let room = call .before .before .before .before .before .pre .0 in
+    omega (arith, message-within _ _ room (call .read .ensures) (n .n .given .1))
 
 put-hex-requires : tie.Need-put-hex-requires
 put-hex-requires c κs =
     let n = c .before .before .before .before in
     let call = n .before .before .before .before in
-    omega (arith, message-within _ _ (call .before .before .before .before .before .pre .0) (call .read .ensures) (n .n .given .1))
+    let room = call .before .before .before .before .before .pre .0 in
+    omega (arith, message-within _ _ room (call .read .ensures) (n .n .given .1))
 
 enum-known-number : tie.Need-enum-known-number
 enum-known-number c = search needs
@@ -55,7 +57,8 @@ returns c =
     let room = call .before .before .before .before .before .pre .0 in
     let gives = call .read .ensures in
     let told = n .n .given .1 in
-    (message-answer _ _ room gives told (c .before .before .put-hex .ensures .0), (omega (arith, message-within _ _ room gives told), gives .leaves))
+    let answer = message-answer _ _ room gives told (c .before .before .put-hex .ensures .0) in
+    (answer, (omega (arith, message-within _ _ room gives told), gives .leaves))
 
 same-length-3 : tie.Need-same-length-3
 same-length-3 c = search needs
@@ -69,7 +72,8 @@ returns-2 c =
     let call = number .before .before .before .before in
     let room = call .before .before .before .before .before .pre .0 in
     let gives = call .read .ensures in
-    (refused-answer _ _ room gives (number .number .given .1) (c .before .before .put-refusal .ensures .0), (search needs, gives .leaves))
+    let wrote = c .before .before .put-refusal .ensures .0 in
+    (refused-answer _ _ room gives (number .number .given .1) wrote, (search needs, gives .leaves))
 
 pub put-wire-spec : {M : Type 1} → statement M
 put-wire-spec =

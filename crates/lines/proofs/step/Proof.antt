@@ -1,6 +1,7 @@
 -- `lines::step` meets its contract: the end of a line, an octet with room, an octet without. Assumes nothing.
 use borrow.Author.Needs.{needs}
-use Rattle.lines.specs.Steps.{end-kept, end-printed, end-message, room-kept, full-kept, other-printed, other-message}
+use Rattle.lines.specs.Steps.{end-kept, end-printed, end-message, room-kept, full-kept, other-printed}
+use Rattle.lines.specs.Steps.{other-message}
 use Rattle.lines.proofs.step.Statement.{statement}
 use Rattle.lines.proofs.step.Tie as tie
 
@@ -35,7 +36,10 @@ returns c =
       end-kept end _ _,
       (
         end-printed end _ (args .line .now) (args .used) (answer .0),
-        (end-message end _ (args .line .now) (args .used) (args .message .now) (answer .1 .1), (search needs, search needs)),
+        (
+          end-message end _ (args .line .now) (args .used) (args .message .now) (answer .1 .1),
+          (search needs, search needs),
+        ),
       ),
     )
 
@@ -51,12 +55,14 @@ same-length-4 c = search needs
 returns-2 : tie.Need-returns-2
 returns-2 c =
     let other = c .before .if1 .left in
-    (room-kept other _ _ (c .if2 .taken), (other-printed other _ _ _, (other-message other _ _ _, (search needs, search needs))))
+    let kept = room-kept other _ _ (c .if2 .taken) in
+    (kept, (other-printed other _ _ _, (other-message other _ _ _, (search needs, search needs))))
 
 returns-3 : tie.Need-returns-3
 returns-3 c =
     let other = c .before .if1 .left in
-    (full-kept other _ _ (c .if2 .left), (other-printed other _ _ _, (other-message other _ _ _, (search needs, search needs))))
+    let kept = full-kept other _ _ (c .if2 .left) in
+    (kept, (other-printed other _ _ _, (other-message other _ _ _, (search needs, search needs))))
 
 pub step-spec : {M : Type 1} → statement M
 step-spec =

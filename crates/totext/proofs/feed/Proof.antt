@@ -38,7 +38,8 @@ loop-again c =
     let call = c .before .before .before in
     let turn = call .before .before .before .before .before in
     let inv = turn .before .loop .inv in
-    (search needs, search needs, fed-step (inv .2) (inv .1) (search needs) (turn .loop-test .taken) (call .step .ensures .0))
+    let fed = fed-step (inv .2) (inv .1) (search needs) (turn .loop-test .taken) (call .step .ensures .0) in
+    (search needs, search needs, fed)
 
 returns : tie.Need-returns Inv-loop μ-loop
 returns c =
