@@ -1,11 +1,5 @@
--- The line programs: what a line is, its answer, and how the input is read.
+-- The line programs: the lines of an input, and what each octet of it does.
 pub mod Lines
-pub mod Hex
 pub mod Reading
 pub mod Programs
-pub mod Places
-pub mod Calls
-pub mod Answering
-pub mod Wire
-pub mod Samples
-pub mod WireSamples
+pub mod Steps

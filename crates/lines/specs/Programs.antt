@@ -1,4 +1,4 @@
--- What each program answers to a line, and how much of a line it keeps. Assumes nothing.
+-- What each program answers to a line and leaves in the message buffer, and how much of a line it keeps. Assumes nothing.
 use mathlib.Core.Path.{_≡_, refl, sym, _∙_}
 use mathlib.Core.Bool.{Bool, true, false}
 use mathlib.Core.List.{List, []}
@@ -6,26 +6,46 @@ use Prim.Native.Nat.{ℕ, _+_, _≤_, _<_}
 use native.Mathlib.Omega.{arith}
 use borrow.Author.Tests.{lt-ltb, leb-true, leb-false}
 use lib.Dec.{leb}
-use lib.ListN.{length, take, drop}
-use lib.Seq.{take-all, take-append-seam, length-take-le}
-use Rattle.octets.specs.Overlay.{overlay-first, Wrote}
+use lib.ListN.{length, take}
+use lib.Seq.{take-all, length-take-le}
+use Rattle.octets.specs.Overlay.{Wrote}
 use Rattle.strict.specs.Reading.{reading}
-use Rattle.lines.specs.Lines.{unhexed, refusalLine, asHex, shown, limited, messageLine, textLine, wireLine, printed, outputOf}
+use Rattle.hex_lines.specs.Hex.{unhexed}
+use Rattle.line_answers.specs.Answers.{refusalLine, asHex, shown, limited, messageLine, textLine, textLeft, wireLine}
+use Rattle.line_answers.specs.Answers.{wireLeft, printed}
+use Rattle.lines.specs.Lines.{outputOf}
 use Rattle.lines.specs.Reading.{keptOutput, kept-output}
 use Rattle.lines.specs.declared.Program.{Program}
 use Rattle.lines.specs.declared.Program.the-variants.{ToText, ToWire}
 
+-- the answer to a line
 abbrev pub answerTo : Program → List ℕ → List ℕ
 answerTo ToText = textLine
 answerTo ToWire = wireLine
 
--- one octet more than the longest line
+-- what it leaves in the message buffer
+abbrev pub leftBy : Program → List ℕ → List ℕ → List ℕ
+leftBy ToText = textLeft
+leftBy ToWire = wireLeft
+
+-- how much of a line is kept: one octet more than the longest line, so that a line that is too long shows
 abbrev pub keptOf : Program → ℕ
 keptOf ToText = 8193
 keptOf ToWire = 65537
 
--- the octets behind those don't matter
-limited-kept : (most : ℕ) (answer : List ℕ → List ℕ) (s : List ℕ) → limited most answer (take (most + 1) s) ≡ limited most answer s
+-- ---- the same of a program that is known to be this one
+module _ (program : Program) {given : Program} (e : given ≡ program) (s : List ℕ) where
+  pub answered : {b b′ : List ℕ} {r : ℕ} → Wrote b 0 (printed (answerTo program) s) b′ r
+      → Wrote b 0 (printed (answerTo given) s) b′ r
+  answered w = rw e w
+
+  pub left : (m : List ℕ) {m′ : List ℕ} → m′ ≡ leftBy program s m → m′ ≡ leftBy given s m
+  left m q = rw e q
+
+-- ---- the octets after those don't matter
+limited-kept : (most : ℕ) (answer : List ℕ → List ℕ) (s : List ℕ)
+    → limited most answer (take (most + 1) s) ≡ limited most answer s
+unfolding limited
 limited-kept most answer s = go (leb (length s) (most + 1)) refl
   where
     over : (l : List ℕ) → most < length l → limited most answer l ≡ refusalLine 31 0
@@ -48,15 +68,7 @@ keeps-some ToText = omega arith
 keeps-some ToWire = omega arith
 
 -- so taking the input octet by octet, with no more of a line kept than that, prints what the program is to print
-pub right-output : (program : Program) (input : List ℕ) → keptOutput (keptOf program) (answerTo program) [] input ≡ outputOf (answerTo program) input
-right-output program input = kept-output (keptOf program) (answerTo program) (answer-kept program) (keeps-some program) input
-
--- ---- an answer that was written from the first octet on
-stands : {b b′ xs : List ℕ} {r : ℕ} → Wrote b 0 xs b′ r → r ≤ length b → take r b′ ≡ xs
-stands {b} {b′} {xs} {r} w h =
-    let n : r ≡ length xs = omega (arith, w .place) in
-    rw (w .text, n, overlay-first b xs (omega arith)) (take-append-seam xs (drop (length xs) b))
-
-pub answered : (program : Program) {given : Program} (s : List ℕ) {b b′ : List ℕ} {r : ℕ} → given ≡ program
-    → Wrote b 0 (printed (answerTo program) s) b′ r → r ≤ length b → take r b′ ≡ printed (answerTo given) s
-answered program s e w h = rw e (stands w h)
+pub right-output : (program : Program) (input : List ℕ)
+    → keptOutput (keptOf program) (answerTo program) [] input ≡ outputOf (answerTo program) input
+right-output program input =
+    kept-output (keptOf program) (answerTo program) (answer-kept program) (keeps-some program) input

@@ -1,6 +1,6 @@
 -- `lines::answer_line` meets its contract, program by program. Assumes nothing.
 use borrow.Author.Needs.{needs}
-use Rattle.lines.specs.Programs.{answered}
+use Rattle.lines.specs.Programs.{answered, left}
 use Rattle.lines.specs.declared.Program.the-variants.{ToText, ToWire}
 use Rattle.lines.proofs.answer_line.Statement.{statement}
 use Rattle.lines.proofs.answer_line.Tie as tie
@@ -24,7 +24,11 @@ same-length-2 : tie.Need-same-length-2
 same-length-2 c = search needs
 
 returns : tie.Need-returns
-returns c = (answered ToText _ (c .before .before .before .before .before .before .before .enum-told .given .1) (c .before .before .before .before .text-line .ensures .0) (search needs), search needs)
+returns c =
+    let call = c .before .before .before .before in
+    let told = call .before .before .before .enum-told .given .1 in
+    let answer = call .text-line .ensures in
+    (answered ToText told _ (answer .0), (search needs, left ToText told _ _ (answer .1 .1)))
 
 same-length-3 : tie.Need-same-length-3
 same-length-3 c = search needs
@@ -33,7 +37,11 @@ same-length-4 : tie.Need-same-length-4
 same-length-4 c = search needs
 
 returns-2 : tie.Need-returns-2
-returns-2 c = (answered ToWire _ (c .before .before .before .before .before .before .before .enum-told2 .given .1) (c .before .before .before .before .wire-line .ensures .0) (search needs), search needs)
+returns-2 c =
+    let call = c .before .before .before .before in
+    let told = call .before .before .before .enum-told2 .given .1 in
+    let answer = call .wire-line .ensures in
+    (answered ToWire told _ (answer .0), (search needs, left ToWire told _ _ (answer .1 .1)))
 
 pub answer-line-spec : {M : Type 1} → statement M
 answer-line-spec =

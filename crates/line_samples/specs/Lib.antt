@@ -1,0 +1,3 @@
+-- Lines and their answers, computed.
+pub mod TextLines
+pub mod WireLines

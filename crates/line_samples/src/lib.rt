@@ -1,0 +1,1 @@
+// Lines of both programs and their answers, computed: in specs/. There is no code here.
