@@ -19,7 +19,7 @@ use Rattle.tokens.specs.Step.{Found, found-as, found-lit, found-map, found-pair
 use Rattle.tokens.specs.Number.{capped, capped-below, NumberRead, TillRead}
 use Rattle.tokens.specs.Fields.{Done, done-then}
 use Rattle.strict.specs.Parser.{Head, head}
-use Rattle.entries.specs.Meant.{highMeant?, highOctet, lowMeant?, lowOctet, headMeant?, headOctets}
+use Rattle.reader.specs.Meant.{highMeant?, highOctet, lowMeant?, lowOctet, headMeant?, headOctets}
 use Rattle.reader.specs.declared.head.Flags.{Flags}
 use Rattle.reader.specs.declared.head.Counts.{Counts}
 use Rattle.reader.specs.declared.head.Header.{Header}

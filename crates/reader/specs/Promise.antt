@@ -28,7 +28,7 @@ use Rattle.strict.specs.Reading.{meant, reading, toWire}
 use Rattle.tokens.specs.declared.Cursor.{Cursor}
 use Rattle.tokens.specs.Cursor.{Reads, reads-bad, reads-got, Got}
 use Rattle.tokens.specs.Step.{found-there, Put, Step}
-use Rattle.entries.specs.Meant.{documentMeant?, documentOctets, document-meant, document-octets, headMeant?, sectionsMeant?}
+use Rattle.reader.specs.Meant.{documentMeant?, documentOctets, document-meant, document-octets, headMeant?, sectionsMeant?}
 use Rattle.reader.specs.Whole.{start}
 
 -- ---- what is read is what the definitions read

@@ -19,11 +19,11 @@ use Rattle.tokens.specs.Cursor.{Passed}
 use Rattle.tokens.specs.Step.{then-then, Found, found-as, found-lit, found-map, found-behind, found-pair, found-at, Put, put-then, put-from, put-to, put-as, put-judged, Step, Judged}
 use Rattle.tokens.specs.Leaf.{found-same}
 use Rattle.tokens.specs.Number.{capped}
-use Rattle.entries.specs.declared.Element.{Element}
-use Rattle.entries.specs.declared.Element.the-variants.{Question as Questions, Record as Records, Additional as Additionals}
-use Rattle.entries.specs.declared.Section.{Section}
-use Rattle.entries.specs.Meant.{settledBy, headMeant?, headOctets, recordMeant?, recordOctets, itemMeant?, itemOctets, itemOpt?, settledItems?, documentMeant?, documentOctets, head-numbers}
-use Rattle.entries.specs.Sections.{Thing, limited, arrayParse, SectionFacts, SectionRead}
+use Rattle.reader.specs.declared.entries.Element.{Element}
+use Rattle.reader.specs.declared.entries.Element.the-variants.{Question as Questions, Record as Records, Additional as Additionals}
+use Rattle.reader.specs.declared.entries.Section.{Section}
+use Rattle.reader.specs.Meant.{settledBy, headMeant?, headOctets, recordMeant?, recordOctets, itemMeant?, itemOctets, itemOpt?, settledItems?, documentMeant?, documentOctets, head-numbers}
+use Rattle.reader.specs.Sections.{Thing, limited, arrayParse, SectionFacts, SectionRead}
 use Rattle.reader.specs.declared.head.Counts.{Counts}
 use Rattle.reader.specs.declared.head.Header.{Header}
 use Rattle.reader.specs.Head.{Told, HeadRead}

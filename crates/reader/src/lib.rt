@@ -1,6 +1,6 @@
 // The strict reader: from a text to the message that it says. Definitions are in strict/specs, the promise in specs/.
 ghost use mathlib.Core.Path.{_≡_};
-ghost use Rattle.entries.specs.Meant.{documentMeant?, documentOctets};
+ghost use Rattle.reader.specs.Meant.{documentMeant?, documentOctets};
 ghost use Rattle.strict.specs.Parser.{document};
 ghost use Rattle.tokens.specs.Step.{Step};
 ghost use Prim.Native.Nat.{_<_};
@@ -20,7 +20,10 @@ use tokens::either;
 use tokens::judge;
 use tokens::literal;
 
+mod entries;
 mod head;
+mod labels;
+mod members;
 
 // A title and the array behind it.
 fn array(

@@ -134,7 +134,7 @@ further-determined {n} {c} {r} {s} x y = go (c .spelled) refl
     go true e = both-are (x .goes e) (y .goes e)
     go false e = came-determined (x .stops e) (y .stops e)
 
--- ---- octet_at; the promises of both, either and rcode_names are equations
+-- ---- octet_at; the promises of both and either are equations
 pub octet-determined : {t : List ℕ} {n x y : ℕ} → Byte t n x → Byte t n y → x ≡ y
 octet-determined = one-byte
 

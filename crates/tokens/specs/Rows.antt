@@ -16,7 +16,8 @@ use Rattle.tokens.specs.Cursor.{left-of, Safe, Keeps, keeps-then, Passed
 use Rattle.tokens.specs.Step.{Found, moves}
 use Rattle.tokens.specs.Leaf.{entry, found-same, found-entry}
 use Rattle.tokens.specs.Choice.{choice, found-first, Further, further-keeps, second-further}
-use Rattle.tokens.specs.Table.{tableOf, triedRows, triedIn, rows-tried}
+use Rattle.edns.specs.Table.{tableOctets}
+use Rattle.tokens.specs.Table.{triedRows, triedIn, rows-tried}
 use Rattle.tokens.specs.Table.{RowAt, titleAt, rows-end, rows-cut, rows-row}
 
 -- one of several titles was read, and this is its key; on a stop the key is 0
@@ -35,9 +36,9 @@ row-same {t = t} {c = c} q e x = record {
 }
 
 -- a table's octets in the place of its rows
-pub row-of : {table t : List ℕ} {c : Cursor} {r : Row} (rows : List (ℕ × String)) → table ≡ tableOf rows
+pub row-of : {table t : List ℕ} {c : Cursor} {r : Row} (rows : List (ℕ × String)) → table ≡ tableOctets rows
     → RowRead (triedIn table) t c r → RowRead (tried rows) t c r
-row-of rows e = row-same (tried rows) (λ w. rw e (rows-tried rows (length (tableOf rows)) w (omega arith)))
+row-of rows e = row-same (tried rows) (λ w. rw e (rows-tried rows (length (tableOctets rows)) w (omega arith)))
 
 -- ---- a stop is at the furthest place that a row reached
 -- a reader that stopped, brought on to place n

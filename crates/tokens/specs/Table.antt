@@ -13,15 +13,9 @@ use Rattle.octets.specs.Lists.{ascii, each}
 use Rattle.octets.specs.Parsed.{Parsed, stuck, or-else}
 use Rattle.octets.specs.Codec.{tried}
 use Rattle.octets.specs.Fields.{drop-one}
+use Rattle.edns.specs.Table.{tableOctets}
 use Rattle.tokens.specs.Leaf.{entry}
 use Rattle.tokens.specs.Choice.{choice}
-
--- for each row its key, the length of its title, and its title
-abbrev pub rowOctets : ℕ × String → List ℕ
-rowOctets row = row .0 ∷ length (ascii (row .1)) ∷ ascii (row .1)
-
-unfoldable pub tableOf : List (ℕ × String) → List ℕ
-tableOf = each rowOctets
 
 -- the titles of a table in turn, up to a row that is not whole; the first argument bounds the rows
 unfoldable pub triedRows : ℕ → List ℕ → List ℕ → Parsed ℕ
@@ -35,19 +29,19 @@ abbrev pub triedIn : List ℕ → List ℕ → Parsed ℕ
 triedIn table = triedRows (length table) table
 
 -- the octets of rows are tried as the rows are
-pub rows-tried : (rows : List (ℕ × String)) (n : ℕ) (w : List ℕ) → length (tableOf rows) ≤ n
-    → triedRows n (tableOf rows) w ≡ tried rows w
-unfolding tableOf each triedRows tried
+pub rows-tried : (rows : List (ℕ × String)) (n : ℕ) (w : List ℕ) → length (tableOctets rows) ≤ n
+    → triedRows n (tableOctets rows) w ≡ tried rows w
+unfolding each triedRows tried
 rows-tried [] zero w h = refl
 rows-tried [] (suc n) w h = refl
 rows-tried (row ∷ rows) zero w h = absurd (omega arith)
 rows-tried (row ∷ rows) (suc n) w h =
     let title = ascii (row .1) in
-    let l = length-append title (tableOf rows) in
+    let l = length-append title (tableOctets rows) in
     rw (
-      le-leb (length title) (length (title ++ tableOf rows)) (omega (arith, l)),
-      take-at title (tableOf rows) (length title) refl,
-      drop-at title (tableOf rows) (length title) refl,
+      le-leb (length title) (length (title ++ tableOctets rows)) (omega (arith, l)),
+      take-at title (tableOctets rows) (length title) refl,
+      drop-at title (tableOctets rows) (length title) refl,
       rows-tried rows n w (omega (arith, l)),
     )
 

@@ -17,9 +17,10 @@ ghost use Rattle.tokens.specs.Choice.{Further};
 ghost use Rattle.tokens.specs.Number.{capped, NumberRead, TillRead, PositiveRead, NoNumber, DigitOf};
 ghost use Rattle.tokens.specs.Signed.{SignedRead, Plus, Minus};
 ghost use Rattle.tokens.specs.Hex.{HexTest, HexAt, Quoted, HexRead};
-ghost use Rattle.tokens.specs.Table.{tableOf, triedIn};
+ghost use Rattle.tokens.specs.Table.{triedIn};
 ghost use Rattle.tokens.specs.Rows.{RowRead};
 ghost use Rattle.tokens.specs.Fields.{NumberPut, TtlPut};
+use edns::rcode_names;
 use octets::put_all;
 use octets::wide;
 
@@ -500,32 +501,6 @@ pub fn flags(text: &[u8], c: Cursor) -> Row
     ensures { λ r. ⌜ RowRead (tried flags) (now (text .entry)) c r ⌝ }
 {
     row_of(text, c, &FLAGS)
-}
-
-// RCODE names, in the octets of a table.
-pub fn rcode_names() -> [u8; 184]
-    ensures { λ r. ⌜ r ≡ tableOf rcodes ⌝ }
-{
-    *b"\x00\x07NoError\
-      \x01\x07FormErr\
-      \x02\x08ServFail\
-      \x03\x08NXDomain\
-      \x04\x06NotImp\
-      \x05\x07Refused\
-      \x06\x08YXDomain\
-      \x07\x07YXRRSet\
-      \x08\x07NXRRSet\
-      \x09\x07NotAuth\
-      \x0A\x07NotZone\
-      \x0B\x09DSOTYPENI\
-      \x10\x06BADSIG\
-      \x11\x06BADKEY\
-      \x12\x07BADTIME\
-      \x13\x07BADMODE\
-      \x14\x07BADNAME\
-      \x15\x06BADALG\
-      \x16\x08BADTRUNC\
-      \x17\x09BADCOOKIE"
 }
 
 // RCODE.

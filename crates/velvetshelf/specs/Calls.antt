@@ -14,9 +14,9 @@ use Rattle.octets.specs.Calls.{answerOf, Gives, Call}
 use Rattle.octets.specs.declared.Outcome.{Outcome}
 use Rattle.octets.specs.declared.Outcome.the-variants.{Length, Refused}
 use Rattle.names.specs.Name.{Kind, cut, reserved, target, long, short, surplus, number}
-use Rattle.records.specs.Message.{form}
+use Rattle.records.specs.Message.{Message, form}
 use Rattle.records.specs.Read.{Reached, reached, stopped}
-use Rattle.records.specs.Decode.{Decoded, accepted, refused, zOf, sectionsOf, messageOf, decode}
+use Rattle.records.specs.Decode.{Decoded, accepted, refused, zOf, sectionsOf, messageOf, afterReading, decode}
 use Rattle.json.specs.View.{View}
 use Rattle.json.specs.View as view
 use Rattle.json.specs.Limits.{within?}
@@ -65,10 +65,11 @@ either : (b : Bool) (d e : Decoded) → NumberedIn d → NumberedIn e → Number
 either true d e h k = h
 either false d e h k = k
 
-ended : (size : ℕ) (whole : Decoded) (w : Reached) → NumberedIn whole
-    → NumberedIn (elim w as (λ x. Decoded) [ reached at ↦ cond (ltb at size) (refused 8 at) whole | stopped at fault ↦ refused (number (fault .kind)) at ])
-ended size whole (reached at) h = either (ltb at size) (refused 8 at) whole (omega arith) h
-ended size whole (stopped at fault) h = kind-number (fault .kind)
+ended : (s : List ℕ) (m : Message) (w : Reached) → NumberedIn (afterReading s m w)
+ended s m (reached at) =
+    either (ltb at (length s)) (refused 8 at) _ (omega arith)
+    (either (ltb 65535 (length (form m))) (refused 9 0) (accepted m) (omega arith) tt)
+ended s m (stopped at fault) = kind-number (fault .kind)
 
 decode-numbered : (s : List ℕ) → NumberedIn (decode s)
 unfolding decode
@@ -76,8 +77,7 @@ decode-numbered s =
     either (ltb 65535 (length s)) (refused 2 0) _ (omega arith)
     (either (ltb (length s) 12) (refused 1 0) _ (omega arith)
     (either (eqb (zOf s) 1) (refused 3 0) _ (omega arith)
-    (ended (length s) _ (sectionsOf s .additional .end)
-    (either (ltb 65535 (length (form (messageOf s)))) (refused 9 0) (accepted (messageOf s)) (omega arith) tt))))
+    (ended s (messageOf s) (sectionsOf s .additional .end))))
 
 converted-numbered : (s : List ℕ) → NumberedOut (converted s)
 unfolding converted

@@ -4,7 +4,6 @@ use mathlib.Core.Path.{refl}
 use borrow.Author.Needs.{needs}
 use Rattle.octets.specs.Lists.{each}
 use Rattle.edns.specs.Edns.{flags}
-use Rattle.tokens.specs.Table.{tableOf}
 use Rattle.tokens.specs.Rows.{row-of}
 use Rattle.tokens.proofs.flags.Statement.{statement}
 use Rattle.tokens.proofs.flags.Tie as tie
@@ -16,7 +15,7 @@ row-of-requires : tie.Need-row-of-requires
 row-of-requires c κs = search needs
 
 returns : tie.Need-returns
-unfolding flags tableOf each
+unfolding flags each
 returns c = row-of flags refl (c .row-of .ensures)
 
 pub flags-spec : {M : Type 1} → statement M

@@ -4,7 +4,6 @@ use mathlib.Core.Path.{refl}
 use borrow.Author.Needs.{needs}
 use Rattle.octets.specs.Lists.{each}
 use Rattle.options.specs.Options.{members, rows}
-use Rattle.tokens.specs.Table.{tableOf}
 use Rattle.tokens.specs.Rows.{row-of}
 use Rattle.tokens.proofs.option_name.Statement.{statement}
 use Rattle.tokens.proofs.option_name.Tie as tie
@@ -16,7 +15,7 @@ row-of-requires : tie.Need-row-of-requires
 row-of-requires c κs = search needs
 
 returns : tie.Need-returns
-unfolding members rows tableOf each
+unfolding members rows each
 returns c = row-of members refl (c .row-of .ensures)
 
 pub option-name-spec : {M : Type 1} → statement M

@@ -1,0 +1,3 @@
+-- One octet of a label or of a string in a text.
+pub mod Octet
+pub mod Character
