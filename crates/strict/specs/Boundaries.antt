@@ -35,7 +35,7 @@ pub record Reading : Type 0 where
 
 unfoldable pub readings : List Reading
 readings =
-    -- an empty text; one with a space behind it
+    -- an empty text; one with a space after it
     record { text = []; gives = refuses 20 0 }
     ∷ record { text = textWith "0" "0" "0" "0" "" "" "" ++ ascii " "; gives = refuses 20 0 }
     ∷ record { text = textWith "0" "0" "0" "0" "" "" ""; gives = taken }
@@ -61,10 +61,10 @@ readings =
     ∷ record { text = textWith "0" "1" "0" "0" "{\"NAME\":\"a\",\"TYPE\":1,\"CLASS\":1}" "" ""; gives = refuses 20 0 }
     ∷ record { text = textWith "0" "1" "0" "0" "{\"NAME\":\"aaaaaaaaaaaaaaaaaaaaaaaaaaaaaaaaaaaaaaaaaaaaaaaaaaaaaaaaaaaaaaa.\",\"TYPE\":1,\"CLASS\":1}" "" ""; gives = taken }
     ∷ record { text = textWith "0" "1" "0" "0" "{\"NAME\":\"aaaaaaaaaaaaaaaaaaaaaaaaaaaaaaaaaaaaaaaaaaaaaaaaaaaaaaaaaaaaaaaa.\",\"TYPE\":1,\"CLASS\":1}" "" ""; gives = refuses 21 0 }
-    -- hex: lowercase, an odd count
+    -- hex: lowercase, an odd number of digits
     ∷ record { text = textWith "0" "0" "1" "0" "" "{\"NAME\":\".\",\"TYPE\":1,\"CLASS\":1,\"TTL\":0,\"RDATAHEX\":\"ab\"}" ""; gives = refuses 20 0 }
     ∷ record { text = textWith "0" "0" "1" "0" "" "{\"NAME\":\".\",\"TYPE\":1,\"CLASS\":1,\"TTL\":0,\"RDATAHEX\":\"A\"}" ""; gives = refuses 20 0 }
-    -- RDATA of NS: its layout, octets behind it, a pointer, nothing
+    -- RDATA of NS: its layout, octets after it, a pointer, nothing
     ∷ record { text = textWith "0" "0" "1" "0" "" "{\"NAME\":\".\",\"TYPE\":2,\"CLASS\":1,\"TTL\":0,\"RDATAHEX\":\"00\"}" ""; gives = taken }
     ∷ record { text = textWith "0" "0" "1" "0" "" "{\"NAME\":\".\",\"TYPE\":2,\"CLASS\":1,\"TTL\":0,\"RDATAHEX\":\"0000\"}" ""; gives = refuses 21 0 }
     ∷ record { text = textWith "0" "0" "1" "0" "" "{\"NAME\":\".\",\"TYPE\":2,\"CLASS\":1,\"TTL\":0,\"RDATAHEX\":\"C00C\"}" ""; gives = refuses 21 0 }
@@ -109,6 +109,74 @@ readings =
     ∷ record { text = textWith "0" "0" "0" "1" "" "" "{\"EDNS\":{\"Version\":0,\"FLAGS\":[],\"RCODE\":\"NoError\",\"UDPSIZE\":1232,\"PADDING\":{\"LENGTH\":3,\"HEX\":\"0001\"}}}"; gives = refuses 21 0 }
     ∷ record { text = textWith "0" "0" "0" "1" "" "" "{\"EDNS\":{\"Version\":0,\"FLAGS\":[],\"RCODE\":\"NoError\",\"UDPSIZE\":1232,\"PADDING\":{\"LENGTH\":2}}}"; gives = taken }
     ∷ record { text = textWith "0" "0" "0" "1" "" "" "{\"EDNS\":{\"Version\":0,\"FLAGS\":[],\"RCODE\":\"NoError\",\"UDPSIZE\":1232,\"PADDING\":{\"LENGTH\":65536}}}"; gives = refuses 22 0 }
+    -- numbers of the header, of questions, a count: the last in range and the first out of it
+    ∷ record { text = ascii "{\"ID\":65535,\"QR\":1,\"Opcode\":15,\"AA\":1,\"TC\":1,\"RD\":1,\"RA\":1,\"AD\":1,\"CD\":1,\"RCODE\":0,\"QDCOUNT\":0,\"ANCOUNT\":0,\"NSCOUNT\":0,\"ARCOUNT\":0,\"questionRRs\":[],\"answerRRs\":[],\"authorityRRs\":[],\"additionalRRs\":[]}"; gives = taken }
+    ∷ record { text = ascii "{\"ID\":65536,\"QR\":0,\"Opcode\":0,\"AA\":0,\"TC\":0,\"RD\":0,\"RA\":0,\"AD\":0,\"CD\":0,\"RCODE\":0,\"QDCOUNT\":0,\"ANCOUNT\":0,\"NSCOUNT\":0,\"ARCOUNT\":0,\"questionRRs\":[],\"answerRRs\":[],\"authorityRRs\":[],\"additionalRRs\":[]}"; gives = refuses 21 0 }
+    ∷ record { text = ascii "{\"ID\":0,\"QR\":2,\"Opcode\":0,\"AA\":0,\"TC\":0,\"RD\":0,\"RA\":0,\"AD\":0,\"CD\":0,\"RCODE\":0,\"QDCOUNT\":0,\"ANCOUNT\":0,\"NSCOUNT\":0,\"ARCOUNT\":0,\"questionRRs\":[],\"answerRRs\":[],\"authorityRRs\":[],\"additionalRRs\":[]}"; gives = refuses 21 0 }
+    ∷ record { text = ascii "{\"ID\":0,\"QR\":0,\"Opcode\":16,\"AA\":0,\"TC\":0,\"RD\":0,\"RA\":0,\"AD\":0,\"CD\":0,\"RCODE\":0,\"QDCOUNT\":0,\"ANCOUNT\":0,\"NSCOUNT\":0,\"ARCOUNT\":0,\"questionRRs\":[],\"answerRRs\":[],\"authorityRRs\":[],\"additionalRRs\":[]}"; gives = refuses 21 0 }
+    ∷ record { text = ascii "{\"ID\":0,\"QR\":0,\"Opcode\":0,\"AA\":2,\"TC\":0,\"RD\":0,\"RA\":0,\"AD\":0,\"CD\":0,\"RCODE\":0,\"QDCOUNT\":0,\"ANCOUNT\":0,\"NSCOUNT\":0,\"ARCOUNT\":0,\"questionRRs\":[],\"answerRRs\":[],\"authorityRRs\":[],\"additionalRRs\":[]}"; gives = refuses 21 0 }
+    ∷ record { text = ascii "{\"ID\":0,\"QR\":0,\"Opcode\":0,\"AA\":0,\"TC\":0,\"RD\":0,\"RA\":0,\"AD\":0,\"CD\":2,\"RCODE\":0,\"QDCOUNT\":0,\"ANCOUNT\":0,\"NSCOUNT\":0,\"ARCOUNT\":0,\"questionRRs\":[],\"answerRRs\":[],\"authorityRRs\":[],\"additionalRRs\":[]}"; gives = refuses 21 0 }
+    ∷ record { text = ascii "{\"ID\":0,\"QR\":0,\"Opcode\":0,\"AA\":0,\"TC\":0,\"RD\":0,\"RA\":0,\"AD\":0,\"CD\":0,\"RCODE\":0,\"QDCOUNT\":65536,\"ANCOUNT\":0,\"NSCOUNT\":0,\"ARCOUNT\":0,\"questionRRs\":[],\"answerRRs\":[],\"authorityRRs\":[],\"additionalRRs\":[]}"; gives = refuses 21 0 }
+    ∷ record { text = textWith "0" "1" "0" "0" "{\"NAME\":\".\",\"TYPE\":65535,\"CLASS\":65535}" "" ""; gives = taken }
+    ∷ record { text = textWith "0" "1" "0" "0" "{\"NAME\":\".\",\"TYPE\":65536,\"CLASS\":1}" "" ""; gives = refuses 21 0 }
+    ∷ record { text = textWith "0" "1" "0" "0" "{\"NAME\":\".\",\"TYPE\":1,\"CLASS\":65536}" "" ""; gives = refuses 21 0 }
+    -- names of 255 and 256 octets; a dot, a backslash, 0x7F and 0x7E as digits, a number past 255
+    ∷ record { text = textWith "0" "1" "0" "0" "{\"NAME\":\"aaaaaaaaaaaaaaaaaaaaaaaaaaaaaaaaaaaaaaaaaaaaaaaaaaaaaaaaaaaaaaa.aaaaaaaaaaaaaaaaaaaaaaaaaaaaaaaaaaaaaaaaaaaaaaaaaaaaaaaaaaaaaaa.aaaaaaaaaaaaaaaaaaaaaaaaaaaaaaaaaaaaaaaaaaaaaaaaaaaaaaaaaaaaaaa.aaaaaaaaaaaaaaaaaaaaaaaaaaaaaaaaaaaaaaaaaaaaaaaaaaaaaaaaaaaaa.\",\"TYPE\":1,\"CLASS\":1}" "" ""; gives = taken }
+    ∷ record { text = textWith "0" "1" "0" "0" "{\"NAME\":\"aaaaaaaaaaaaaaaaaaaaaaaaaaaaaaaaaaaaaaaaaaaaaaaaaaaaaaaaaaaaaaa.aaaaaaaaaaaaaaaaaaaaaaaaaaaaaaaaaaaaaaaaaaaaaaaaaaaaaaaaaaaaaaa.aaaaaaaaaaaaaaaaaaaaaaaaaaaaaaaaaaaaaaaaaaaaaaaaaaaaaaaaaaaaaaa.aaaaaaaaaaaaaaaaaaaaaaaaaaaaaaaaaaaaaaaaaaaaaaaaaaaaaaaaaaaaaa.\",\"TYPE\":1,\"CLASS\":1}" "" ""; gives = refuses 21 0 }
+    ∷ record { text = textWith "0" "1" "0" "0" "{\"NAME\":\"\\\\..\",\"TYPE\":1,\"CLASS\":1}" "" ""; gives = taken }
+    ∷ record { text = textWith "0" "1" "0" "0" "{\"NAME\":\"\\\\\\\\.\",\"TYPE\":1,\"CLASS\":1}" "" ""; gives = taken }
+    ∷ record { text = textWith "0" "1" "0" "0" "{\"NAME\":\"\\\\127.\",\"TYPE\":1,\"CLASS\":1}" "" ""; gives = taken }
+    ∷ record { text = textWith "0" "1" "0" "0" "{\"NAME\":\"\\\\126.\",\"TYPE\":1,\"CLASS\":1}" "" ""; gives = refuses 20 0 }
+    ∷ record { text = textWith "0" "1" "0" "0" "{\"NAME\":\"\\\\255.\",\"TYPE\":1,\"CLASS\":1}" "" ""; gives = taken }
+    ∷ record { text = textWith "0" "1" "0" "0" "{\"NAME\":\"\\\\256.\",\"TYPE\":1,\"CLASS\":1}" "" ""; gives = refuses 20 0 }
+    -- RDATA of MX, SOA and MINFO: one octet less, the layout, one more; top bits 01
+    ∷ record { text = textWith "0" "0" "1" "0" "" "{\"NAME\":\".\",\"TYPE\":15,\"CLASS\":1,\"TTL\":0,\"RDATAHEX\":\"0001\"}" ""; gives = refuses 21 0 }
+    ∷ record { text = textWith "0" "0" "1" "0" "" "{\"NAME\":\".\",\"TYPE\":15,\"CLASS\":1,\"TTL\":0,\"RDATAHEX\":\"000100\"}" ""; gives = taken }
+    ∷ record { text = textWith "0" "0" "1" "0" "" "{\"NAME\":\".\",\"TYPE\":15,\"CLASS\":1,\"TTL\":0,\"RDATAHEX\":\"00010000\"}" ""; gives = refuses 21 0 }
+    ∷ record { text = textWith "0" "0" "1" "0" "" "{\"NAME\":\".\",\"TYPE\":6,\"CLASS\":1,\"TTL\":0,\"RDATAHEX\":\"000000000000000000000000000000000000000000\"}" ""; gives = refuses 21 0 }
+    ∷ record { text = textWith "0" "0" "1" "0" "" "{\"NAME\":\".\",\"TYPE\":6,\"CLASS\":1,\"TTL\":0,\"RDATAHEX\":\"00000000000000000000000000000000000000000000\"}" ""; gives = taken }
+    ∷ record { text = textWith "0" "0" "1" "0" "" "{\"NAME\":\".\",\"TYPE\":6,\"CLASS\":1,\"TTL\":0,\"RDATAHEX\":\"0000000000000000000000000000000000000000000000\"}" ""; gives = refuses 21 0 }
+    ∷ record { text = textWith "0" "0" "1" "0" "" "{\"NAME\":\".\",\"TYPE\":14,\"CLASS\":1,\"TTL\":0,\"RDATAHEX\":\"00\"}" ""; gives = refuses 21 0 }
+    ∷ record { text = textWith "0" "0" "1" "0" "" "{\"NAME\":\".\",\"TYPE\":14,\"CLASS\":1,\"TTL\":0,\"RDATAHEX\":\"0000\"}" ""; gives = taken }
+    ∷ record { text = textWith "0" "0" "1" "0" "" "{\"NAME\":\".\",\"TYPE\":14,\"CLASS\":1,\"TTL\":0,\"RDATAHEX\":\"000000\"}" ""; gives = refuses 21 0 }
+    ∷ record { text = textWith "0" "0" "1" "0" "" "{\"NAME\":\".\",\"TYPE\":2,\"CLASS\":1,\"TTL\":0,\"RDATAHEX\":\"406161616161616161616161616161616161616161616161616161616161616161616161616161616161616161616161616161616161616161616161616161616100\"}" ""; gives = refuses 21 0 }
+    -- a name of 255 octets in RDATA, one of 256
+    ∷ record { text = textWith "0" "0" "1" "0" "" "{\"NAME\":\".\",\"TYPE\":2,\"CLASS\":1,\"TTL\":0,\"RDATAHEX\":\"3F6161616161616161616161616161616161616161616161616161616161616161616161616161616161616161616161616161616161616161616161616161613F6161616161616161616161616161616161616161616161616161616161616161616161616161616161616161616161616161616161616161616161616161613F6161616161616161616161616161616161616161616161616161616161616161616161616161616161616161616161616161616161616161616161616161613D6161616161616161616161616161616161616161616161616161616161616161616161616161616161616161616161616161616161616161616161616100\"}" ""; gives = taken }
+    ∷ record { text = textWith "0" "0" "1" "0" "" "{\"NAME\":\".\",\"TYPE\":2,\"CLASS\":1,\"TTL\":0,\"RDATAHEX\":\"3F6161616161616161616161616161616161616161616161616161616161616161616161616161616161616161616161616161616161616161616161616161613F6161616161616161616161616161616161616161616161616161616161616161616161616161616161616161616161616161616161616161616161616161613F6161616161616161616161616161616161616161616161616161616161616161616161616161616161616161616161616161616161616161616161616161613E616161616161616161616161616161616161616161616161616161616161616161616161616161616161616161616161616161616161616161616161616100\"}" ""; gives = refuses 21 0 }
+    -- a lone TYPE 41 record: DO, another flag, an RCODE without a name; options that divide, fall, repeat, do not divide; an owner; in answers
+    ∷ record { text = textWith "0" "0" "0" "1" "" "" "{\"NAME\":\".\",\"TYPE\":41,\"CLASS\":1,\"TTL\":32768,\"RDATAHEX\":\"\"}"; gives = refuses 21 0 }
+    ∷ record { text = textWith "0" "0" "0" "1" "" "" "{\"NAME\":\".\",\"TYPE\":41,\"CLASS\":1,\"TTL\":1,\"RDATAHEX\":\"\"}"; gives = taken }
+    ∷ record { text = textWith "0" "0" "0" "1" "" "" "{\"NAME\":\".\",\"TYPE\":41,\"CLASS\":1,\"TTL\":33554432,\"RDATAHEX\":\"\"}"; gives = taken }
+    ∷ record { text = textWith "0" "0" "0" "1" "" "" "{\"NAME\":\".\",\"TYPE\":41,\"CLASS\":1,\"TTL\":0,\"RDATAHEX\":\"00090000\"}"; gives = refuses 21 0 }
+    ∷ record { text = textWith "0" "0" "0" "1" "" "" "{\"NAME\":\".\",\"TYPE\":41,\"CLASS\":1,\"TTL\":0,\"RDATAHEX\":\"000A000000090000\"}"; gives = taken }
+    ∷ record { text = textWith "0" "0" "0" "1" "" "" "{\"NAME\":\".\",\"TYPE\":41,\"CLASS\":1,\"TTL\":0,\"RDATAHEX\":\"0009000000090000\"}"; gives = taken }
+    ∷ record { text = textWith "0" "0" "0" "1" "" "" "{\"NAME\":\".\",\"TYPE\":41,\"CLASS\":1,\"TTL\":0,\"RDATAHEX\":\"00\"}"; gives = taken }
+    ∷ record { text = textWith "0" "0" "0" "1" "" "" "{\"NAME\":\"a.\",\"TYPE\":41,\"CLASS\":1,\"TTL\":0,\"RDATAHEX\":\"\"}"; gives = taken }
+    ∷ record { text = textWith "0" "0" "1" "0" "" "{\"NAME\":\".\",\"TYPE\":41,\"CLASS\":1,\"TTL\":0,\"RDATAHEX\":\"\"}" ""; gives = taken }
+    -- the header's RCODE 12 beside an element; UDPSIZE
+    ∷ record { text = textWith "12" "0" "0" "1" "" "" "{\"EDNS\":{\"Version\":0,\"FLAGS\":[],\"RCODE\":\"NoError\",\"UDPSIZE\":1232}}"; gives = refuses 21 0 }
+    ∷ record { text = textWith "0" "0" "0" "1" "" "" "{\"EDNS\":{\"Version\":0,\"FLAGS\":[],\"RCODE\":\"NoError\",\"UDPSIZE\":65535}}"; gives = taken }
+    ∷ record { text = textWith "0" "0" "0" "1" "" "" "{\"EDNS\":{\"Version\":0,\"FLAGS\":[],\"RCODE\":\"NoError\",\"UDPSIZE\":65536}}"; gives = refuses 21 0 }
+    -- numbers of options: the last in range and the first out of it
+    ∷ record { text = textWith "0" "0" "0" "1" "" "" "{\"EDNS\":{\"Version\":0,\"FLAGS\":[],\"RCODE\":\"NoError\",\"UDPSIZE\":1232,\"DAU\":[255]}}"; gives = taken }
+    ∷ record { text = textWith "0" "0" "0" "1" "" "" "{\"EDNS\":{\"Version\":0,\"FLAGS\":[],\"RCODE\":\"NoError\",\"UDPSIZE\":1232,\"DAU\":[256]}}"; gives = refuses 21 0 }
+    ∷ record { text = textWith "0" "0" "0" "1" "" "" "{\"EDNS\":{\"Version\":0,\"FLAGS\":[],\"RCODE\":\"NoError\",\"UDPSIZE\":1232,\"KEYTAG\":[65535]}}"; gives = taken }
+    ∷ record { text = textWith "0" "0" "0" "1" "" "" "{\"EDNS\":{\"Version\":0,\"FLAGS\":[],\"RCODE\":\"NoError\",\"UDPSIZE\":1232,\"KEYTAG\":[65536]}}"; gives = refuses 21 0 }
+    ∷ record { text = textWith "0" "0" "0" "1" "" "" "{\"EDNS\":{\"Version\":0,\"FLAGS\":[],\"RCODE\":\"NoError\",\"UDPSIZE\":1232,\"KEEPALIVE\":65535}}"; gives = taken }
+    ∷ record { text = textWith "0" "0" "0" "1" "" "" "{\"EDNS\":{\"Version\":0,\"FLAGS\":[],\"RCODE\":\"NoError\",\"UDPSIZE\":1232,\"KEEPALIVE\":65536}}"; gives = refuses 21 0 }
+    ∷ record { text = textWith "0" "0" "0" "1" "" "" "{\"EDNS\":{\"Version\":0,\"FLAGS\":[],\"RCODE\":\"NoError\",\"UDPSIZE\":1232,\"EDE\":{\"CODE\":65535}}}"; gives = taken }
+    ∷ record { text = textWith "0" "0" "0" "1" "" "" "{\"EDNS\":{\"Version\":0,\"FLAGS\":[],\"RCODE\":\"NoError\",\"UDPSIZE\":1232,\"EDE\":{\"CODE\":65536}}}"; gives = refuses 21 0 }
+    -- COOKIE: 7 and 9 octets; a second of 7, 8, 32 and 33; a third
+    ∷ record { text = textWith "0" "0" "0" "1" "" "" "{\"EDNS\":{\"Version\":0,\"FLAGS\":[],\"RCODE\":\"NoError\",\"UDPSIZE\":1232,\"COOKIE\":[\"00000000000000\"]}}"; gives = refuses 21 0 }
+    ∷ record { text = textWith "0" "0" "0" "1" "" "" "{\"EDNS\":{\"Version\":0,\"FLAGS\":[],\"RCODE\":\"NoError\",\"UDPSIZE\":1232,\"COOKIE\":[\"000000000000000000\"]}}"; gives = refuses 21 0 }
+    ∷ record { text = textWith "0" "0" "0" "1" "" "" "{\"EDNS\":{\"Version\":0,\"FLAGS\":[],\"RCODE\":\"NoError\",\"UDPSIZE\":1232,\"COOKIE\":[\"0000000000000000\",\"00000000000000\"]}}"; gives = refuses 21 0 }
+    ∷ record { text = textWith "0" "0" "0" "1" "" "" "{\"EDNS\":{\"Version\":0,\"FLAGS\":[],\"RCODE\":\"NoError\",\"UDPSIZE\":1232,\"COOKIE\":[\"0000000000000000\",\"000000000000000000000000000000000000000000000000000000000000000000\"]}}"; gives = refuses 21 0 }
+    ∷ record { text = textWith "0" "0" "0" "1" "" "" "{\"EDNS\":{\"Version\":0,\"FLAGS\":[],\"RCODE\":\"NoError\",\"UDPSIZE\":1232,\"COOKIE\":[\"0000000000000000\",\"0000000000000000\",\"0000000000000000\"]}}"; gives = refuses 21 0 }
+    ∷ record { text = textWith "0" "0" "0" "1" "" "" "{\"EDNS\":{\"Version\":0,\"FLAGS\":[],\"RCODE\":\"NoError\",\"UDPSIZE\":1232,\"COOKIE\":[\"0000000000000000\",\"0000000000000000\"]}}"; gives = taken }
+    ∷ record { text = textWith "0" "0" "0" "1" "" "" "{\"EDNS\":{\"Version\":0,\"FLAGS\":[],\"RCODE\":\"NoError\",\"UDPSIZE\":1232,\"COOKIE\":[\"0000000000000000\",\"0000000000000000000000000000000000000000000000000000000000000000\"]}}"; gives = taken }
+    -- 20 before 22, 21 before 22
+    ∷ record { text = textWith "0" "0" "0" "1" "" "" "{\"EDNS\":{\"Version\":0,\"FLAGS\":[],\"RCODE\":\"NoError\",\"UDPSIZE\":1232,\"PADDING\":{\"LENGTH\":65536}}}" ++ ascii "]"; gives = refuses 20 0 }
+    ∷ record { text = textWith "0" "0" "0" "1" "" "" "{\"EDNS\":{\"Version\":1,\"FLAGS\":[],\"RCODE\":\"NoError\",\"UDPSIZE\":1232,\"PADDING\":{\"LENGTH\":65536}}}"; gives = refuses 21 0 }
     ∷ []
 
 -- every row, computed
