@@ -36,7 +36,8 @@ pub readable≢bad : {A : Type 0} {e : Entry A} → Readable e → {fault : _} �
 readable≢bad h q = absurd (bad≢entry (subst (λ x. x ≡ entry (h .value) (h .next)) q (h .reads)))
 
 -- ---- what was written
--- The text of an entry, which has no fault, was written at a place of the buffer b: the offset after the entry and the next place.
+-- The text of an entry, which has no fault, was written at a place of the buffer b: the offset after the entry and the
+-- next place.
 pub record Prints (e : Entry (List ℕ)) (b : List ℕ) (to : ℕ) (b′ : List ℕ) (at next : ℕ) : Type 0 where
   pub text : List ℕ
   pub reads : e ≡ entry text at
@@ -54,10 +55,16 @@ module _ {b b₁ : List ℕ} {to n₁ : ℕ} {t : List ℕ} (w : Wrote b to t b�
     -- between two texts
     pub prints-between : {v b₃ : List ℕ} {n₃ : ℕ} → Wrote b₂ n₂ v b₃ n₃
         → Prints (texts (λ u. t ++ u ++ v) e) b to b₃ at n₃
-    prints-between {v} q = record { text = t ++ p .text ++ v; reads = ap (texts (λ u. t ++ u ++ v)) (p .reads); wrote = then (then w (p .wrote)) q }
+    prints-between {v} q =
+        record {
+          text = t ++ p .text ++ v;
+          reads = ap (texts (λ u. t ++ u ++ v)) (p .reads);
+          wrote = then (then w (p .wrote)) q;
+        }
 
 -- ---- what is left to write
--- From the buffer b and the place `next` the rest is left: it has no fault, and to write it is to write the whole from the start.
+-- From the buffer b and the place `next` the rest is left: it has no fault, and to write it is to write the whole from
+-- the start.
 pub record Rest (whole : Entry (List ℕ)) (b₀ : List ℕ) (to : ℕ) (rest : Entry (List ℕ)) (b : List ℕ) (next : ℕ) : Type 0 where
   pub readable : Readable rest
   pub goes : (b′ : List ℕ) (at n : ℕ) → Prints rest b next b′ at n → Prints whole b₀ to b′ at n
@@ -73,7 +80,11 @@ module _ {whole : Entry (List ℕ)} {b₀ b : List ℕ} {to next : ℕ} where
   -- a text of it is written
   pub rest-text : {e : Entry (List ℕ)} {t b₁ : List ℕ} {n : ℕ} → Rest whole b₀ to (texts (λ u. t ++ u) e) b next
       → Wrote b next t b₁ n → Rest whole b₀ to e b₁ n
-  rest-text {e} {t} r w = record { readable = readable-value (λ u. t ++ u) e (r .readable); goes = λ b′ at n p. r .goes b′ at n (prints-after w p) }
+  rest-text {e} {t} r w =
+      record {
+        readable = readable-value (λ u. t ++ u) e (r .readable);
+        goes = λ b′ at n p. r .goes b′ at n (prints-after w p);
+      }
 
   -- an entry of it is written
   pub rest-then : {e : Entry (List ℕ)} (f : ℕ → Entry (List ℕ)) {b₁ : List ℕ} {at n : ℕ}

@@ -9,7 +9,7 @@ use borrow.Author.Tests.{ne-eqb, eq-eqb, eqb-true}
 use lib.Dec.{eqb}
 use lib.ListN.{length, take, length-append}
 use Rattle.octets.specs.Lists.{ascii, none?, lookup}
-use Rattle.octets.specs.Overlay.{Wrote, then}
+use Rattle.octets.specs.Overlay.{Wrote}
 use Rattle.octets.specs.Hexadecimal.{hexText}
 use Rattle.names.specs.Name.{Name, nameForm}
 use Rattle.names.specs.Walk.{part}

@@ -19,7 +19,7 @@ use Rattle.names.specs.Name.{Name, nameForm, cut, Fault}
 use Rattle.names.specs.Walk.{part, message, Named, named, faulty, nameAt}
 use Rattle.names.specs.NameLaws.{Sized, read-sized, named-name, faulty≢named}
 use Rattle.names.specs.declared.Fault.{Fault as FaultRead}
-use Rattle.records.specs.Layout.{Piece, laid, misfit, before, pieces}
+use Rattle.records.specs.Layout.{laid, misfit, before, pieces}
 use Rattle.records.specs.Layout as layout
 use Rattle.records.specs.Message.{Question}
 use Rattle.records.specs.Read.{Entry, entry, bad, with-name, firstCut, questionAt}

@@ -8,7 +8,7 @@ use lib.ListN.{length}
 use Rattle.octets.specs.Lists.{ascii, ended, listed, count}
 use Rattle.octets.specs.Fields.{twoAt}
 use Rattle.octets.specs.Overlay.{Wrote}
-use Rattle.records.specs.Message.{Question, Record, Message, opt?}
+use Rattle.records.specs.Message.{Record, Message, opt?}
 use Rattle.records.specs.Read.{Entry, entry, bad, Reached, reached, stopped, Section, questionAt, recordAt, sectionAt, sectionFrom}
 use Rattle.records.specs.Decode.{headerOf, sectionsOf, messageOf, Decoded, accepted, refused, decode}
 use Rattle.records.specs.RecordLaws.{entry-value}
@@ -22,7 +22,7 @@ use Rattle.print_entry.specs.Elements.{rcodeOf, questionTextAt, entryText, reco
 use Rattle.print_entry.specs.declared.Element.{Element}
 use Rattle.print_entry.specs.declared.Element.the-variants as element
 use Rattle.print_message.specs.Head.{headAt, head-at}
-use Rattle.print_message.specs.Arrays.{comma, restText, arrayText, sectionText, questionsText, answersText, authorityText, additionalText, fromAdditional, fromAuthority, fromAnswers, fromQuestions, wholeText}
+use Rattle.print_message.specs.Arrays.{comma, restText, arrayText, sectionText, fromAdditional, fromAuthority, fromAnswers, wholeText}
 
 -- ---- sections
 abbrev offset : Reached → ℕ

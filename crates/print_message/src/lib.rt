@@ -1,5 +1,4 @@
 // The text of a message by its octets. Definitions and laws are in specs/.
-ghost use mathlib.Core.Path.{_≡_};
 ghost use Prim.Native.Nat.{_+_, _*_, _^_, _<_, _≤_};
 ghost use lib.ListN.{length};
 ghost use Rattle.octets.specs.Fields.{twoAt};
