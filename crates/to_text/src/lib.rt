@@ -4,9 +4,9 @@ ghost use lib.ListN.{length};
 ghost use Rattle.octets.specs.Calls.{Gives, Call};
 ghost use Rattle.json.specs.Converted.{toText, Converts};
 ghost use Rattle.print_message.specs.Whole.{textOf, Accepted};
+use forms::uncompress;
 use octets::Outcome;
 use print_message::put_text;
-use forms::uncompress;
 
 // Writes the text of an accepted message, if it fits; a first run over no octets measures it.
 fn deliver_measured(s: &[u8], lone: bool, text: &mut [u8]) -> Outcome
