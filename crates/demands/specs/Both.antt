@@ -1,4 +1,4 @@
--- What holds of both conversions: an answer as C reads it, and demand 1. Assumes nothing.
+-- What holds of both conversions: an answer as C reads it, and demand 1.
 use mathlib.Core.Path.{_≡_, refl, ap}
 use mathlib.Core.Logic.{_↔_, inl, inr}
 use Prim.Native.Nat.{ℕ, zero, suc}
@@ -8,12 +8,12 @@ use Rattle.octets.specs.Answer.{success, refusal, reported}
 use Rattle.octets.specs.Calls.{Call, answerOf, writtenBy}
 use Rattle.velvetshelf.specs.Calls.{outcomeOf}
 use Rattle.demands.specs.FrontPage.Words.{reply, room, Made, Both}
-use Rattle.demands.specs.Delivered.{first, not-success}
+use Rattle.demands.specs.Delivered.{lengthOrNumber, not-success}
 use Rattle.demands.specs.Converter as converter
 use Rattle.demands.specs.Reader as reader
 
 pub c-success : (n v k : ℕ) → (answerOf (outcomeOf n v) ≡ success k) ↔ ((n ≡ 0) × (v ≡ k))
-c-success zero v k = (λ e. (refl, ap first e), λ h. rw (h .1))
+c-success zero v k = (λ e. (refl, ap lengthOrNumber e), λ h. rw (h .1))
 c-success (suc n) v k = (λ e. not-success e, λ h. absurd (omega (arith, h .0)))
 
 pub same : (c d : Call) → Both c d → c .input ≡ d .input → room c ≡ room d → (reply c ≡ reply d) × (writtenBy c ≡ writtenBy d)

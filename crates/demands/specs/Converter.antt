@@ -1,4 +1,4 @@
--- The demands on the conversion of messages to text, over its calls. The statements are in FrontPage.antt. Assumes nothing.
+-- The demands on the conversion of messages to text, over its calls. The statements are in FrontPage.antt.
 use mathlib.Core.Path.{_≡_, refl, sym, _∙_, ap, ap₂, subst}
 use mathlib.Core.Logic.{_↔_, _⊎_, inl, inr}
 use mathlib.Core.List.{List, [], _∷_, _++_, map, flatten, head-eq-of-cons-eq, tail-eq-of-cons-eq, nil≢cons}
@@ -18,7 +18,7 @@ use Rattle.json.specs.Text.{text}
 use Rattle.json.specs.Bound.{text-short}
 use Rattle.json.specs.Converted.{outputOf, converted, toText, Converts}
 use Rattle.strict.specs.ReadingLaws.{Whole, text-splits, text-filled, text-visible}
-use Rattle.demands.specs.FrontPage.Words.{reply, room, Accepted, Length, Fits, Room, stream, addForm, formsOf}
+use Rattle.demands.specs.FrontPage.Words.{reply, room, Accepted, Length, FitsIn, Room, stream, addForm, formsOf}
 use Rattle.demands.specs.Delivered.{call-succeeds, call-refuses, call-leaves, call-stays, calls-same}
 
 -- ---- demand 1
@@ -121,7 +121,7 @@ visible c made n e =
 pub room-enough : (c : Call) → Converts c → 655750 ≤ room c → Room c
 room-enough c made h = go (decode (c .input)) refl
   where
-    go : (d : Decoded) → decode (c .input) ≡ d → Fits d (room c)
+    go : (d : Decoded) → decode (c .input) ≡ d → FitsIn d (room c)
     go (accepted m) e =
         let w = decode-valid (c .input) m (made .octets) e in
         omega (arith, text-short m (w .0), w .1)
@@ -157,7 +157,7 @@ unfolding stream messages flatten
 stream-texts [] made room = refl
 stream-texts (c ∷ l) made room = go (decode (c .input)) refl (room .0) (stream-texts l (made .1) (room .1))
   where
-    go : (d : Decoded) → decode (c .input) ≡ d → Fits d (length (c .before)) → stream l ≡ flatten (map text (messages l))
+    go : (d : Decoded) → decode (c .input) ≡ d → FitsIn d (length (c .before)) → stream l ≡ flatten (map text (messages l))
         → writtenBy c ++ stream l ≡ flatten (map text (addMessage d (messages l)))
     go (accepted m) e h k = ap₂ _++_ (writes c (made .0) m e h) k
     go (refused number place) e h k = rw (declines c (made .0) number place .1 (inl e)) k

@@ -1,4 +1,4 @@
--- Any conversion: success exactly if there is an output and room for it; a refusal exactly if it is due, or there is no room. Assumes nothing.
+-- Any conversion: success exactly if there is an output and room for it; a refusal exactly if it is due, or there is no room.
 use mathlib.Core.Path.{_≡_, refl, sym, _∙_, ap, subst}
 use mathlib.Core.Logic.{_↔_, _⊎_, inl, inr}
 use mathlib.Core.Bool.{Bool, true, false, cond}
@@ -7,14 +7,14 @@ use Prim.Native.Nat.{ℕ, _≤_, _<_}
 use borrow.Author.Tests.{le-leb, lt-leb, leb-true, leb-false}
 use lib.Dec.{leb}
 use lib.ListN.{length, drop}
-use Rattle.octets.specs.Answer.{Output, output, refused, Answer, success, refusal, Left, reported, overwritten, delivered, delivered-same, delivered-stays}
-use Rattle.octets.specs.Calls.{Gives, Call, leftBy, writtenBy}
+use Rattle.octets.specs.Answer.{Output, output, refused, Answer, success, refusal, Result, reported, overwritten, delivered, delivered-same, delivered-stays}
+use Rattle.octets.specs.Calls.{Gives, Call, resultOf, writtenBy}
 use Rattle.demands.specs.FrontPage.Words.{reply, room}
 
 -- ---- answers and outputs are told apart
-abbrev pub first : Answer → ℕ
-first (success n) = n
-first (refusal k p) = k
+abbrev pub lengthOrNumber : Answer → ℕ
+lengthOrNumber (success n) = n
+lengthOrNumber (refusal k p) = k
 
 abbrev second : Answer → ℕ
 second (success n) = 0
@@ -32,7 +32,7 @@ not-refusal e = absurd (subst Succeeds e tt)
 
 -- ---- an output and a buffer
 module _ (noRoom : ℕ) (b : List ℕ) where
-  at : List ℕ → Bool → Left
+  at : List ℕ → Bool → Result
   at l t = cond t (record { answer = success (length l); buffer = overwritten l b }) (record { answer = refusal noRoom 0; buffer = b })
 
   success-exact : (o : Output) (n : ℕ) → (delivered noRoom o b .answer ≡ success n) ↔ ((l : List ℕ) × (o ≡ output l) × (length l ≤ length b) × (n ≡ length l))
@@ -44,7 +44,7 @@ module _ (noRoom : ℕ) (b : List ℕ) where
       forward (output l) e = go (leb (length l) (length b)) refl e
         where
           go : (t : Bool) → leb (length l) (length b) ≡ t → at l t .answer ≡ success n → (m : List ℕ) × (output l ≡ output m) × (length m ≤ length b) × (n ≡ length m)
-          go true h e = (l, refl, leb-true _ _ h, sym (ap first e))
+          go true h e = (l, refl, leb-true _ _ h, sym (ap lengthOrNumber e))
           go false h e = not-success e
 
   refusal-exact : (o : Output) (k p : ℕ)
@@ -53,13 +53,13 @@ module _ (noRoom : ℕ) (b : List ℕ) where
   refusal-exact o k p = (forward o, backward)
     where
       forward : (o : Output) → delivered noRoom o b .answer ≡ refusal k p → (o ≡ refused k p) ⊎ ((l : List ℕ) × (o ≡ output l) × (length b < length l) × (k ≡ noRoom) × (p ≡ 0))
-      forward (refused j q) e = inl (rw (ap first e, ap second e))
+      forward (refused j q) e = inl (rw (ap lengthOrNumber e, ap second e))
       forward (output l) e = go (leb (length l) (length b)) refl e
         where
           go : (t : Bool) → leb (length l) (length b) ≡ t → at l t .answer ≡ refusal k p
               → (output l ≡ refused k p) ⊎ ((m : List ℕ) × (output l ≡ output m) × (length b < length m) × (k ≡ noRoom) × (p ≡ 0))
           go true h e = not-refusal e
-          go false h e = inr (l, refl, leb-false _ _ h, sym (ap first e), sym (ap second e))
+          go false h e = inr (l, refl, leb-false _ _ h, sym (ap lengthOrNumber e), sym (ap second e))
 
       backward : (o ≡ refused k p) ⊎ ((l : List ℕ) × (o ≡ output l) × (length b < length l) × (k ≡ noRoom) × (p ≡ 0)) → delivered noRoom o b .answer ≡ refusal k p
       backward (inl e) = rw e

@@ -1,8 +1,8 @@
--- The marked examples of document 01, one row each, and one theorem over the table. Assumes nothing.
+-- The marked examples of document 01, one row each, and one theorem over the table.
 use mathlib.Core.Path.{_≡_, refl}
 use mathlib.Core.List.{List, [], _∷_, map}
 use Prim.Native.String.{String}
-use Rattle.octets.specs.Lists.{hexed, lookup, key?, textOf, each}
+use Rattle.octets.specs.Lists.{hexed, lookup, key?, rowText, each}
 use Rattle.octets.specs.Decimal.{decimal}
 use Rattle.octets.specs.Hexadecimal.{hexText}
 use Rattle.names.specs.Name.{nameForm}
@@ -10,7 +10,7 @@ use Rattle.names.specs.Walk.{walk, nameFrom}
 use Rattle.records.specs.Layout.{layouts, layoutOf, pieces, rdataAt}
 use Rattle.records.specs.Message.{questionForm, recordForm, headerForm, form}
 use Rattle.records.specs.Read.{firstCut, questionAt, recordAt, sectionAt, sectionFrom}
-use Rattle.records.specs.Decode.{headerOf, sectionsOf, messageOf, decode}
+use Rattle.records.specs.Decode.{headerOf, sectionsOf, messageRead, decode}
 use Rattle.spelling.specs.Spelling.{plain?, spelled, labelText, nameText, signedText, printable?, stringOctet, stringText, signed}
 use Rattle.options.specs.Options.{rows, members, formOf, valueText, words, shape, memberOf, memberText}
 use Rattle.edns.specs.Edns.{optionForm, divided, optionsOf, rising?, rcodes, ednsOf, flags, ednsText, ednsItem}
@@ -74,5 +74,5 @@ examples =
 
 -- every example, computed
 pub examples-hold : map (λ (e : Example). converted (hexed (e .message))) examples ≡ map (λ (e : Example). e .gives) examples
-unfolding examples lookup key? textOf decimal hexText nameForm walk nameFrom layouts layoutOf pieces rdataAt questionForm recordForm each headerForm form firstCut questionAt recordAt sectionAt sectionFrom headerOf sectionsOf messageOf decode plain? spelled labelText nameText signedText printable? stringOctet stringText rows members formOf valueText words shape memberOf memberText optionForm divided optionsOf rising? rcodes ednsOf additionalOf viewOf questionText recordText flags ednsText itemText headText documentText signed recordItem ednsItem item documentOf viewText text converted toText
+unfolding examples lookup key? rowText decimal hexText nameForm walk nameFrom layouts layoutOf pieces rdataAt questionForm recordForm each headerForm form firstCut questionAt recordAt sectionAt sectionFrom headerOf sectionsOf messageRead decode plain? spelled labelText nameText signedText printable? stringOctet stringText rows members formOf valueText words shape memberOf memberText optionForm divided optionsOf rising? rcodes ednsOf additionalOf viewOf questionText recordText flags ednsText itemText headText documentText signed recordItem ednsItem item documentOf viewText text converted toText
 examples-hold = refl

@@ -1,4 +1,4 @@
--- The demands on the conversion of texts to messages, over its calls, and both round trips. The statements are in FrontPage.antt. Assumes nothing.
+-- The demands on the conversion of texts to messages, over its calls, and both round trips. The statements are in FrontPage.antt.
 use mathlib.Core.Path.{_≡_, refl, sym, _∙_, ap, subst}
 use mathlib.Core.Logic.{_↔_, _⊎_, inl, inr}
 use mathlib.Core.Bool.{Bool, true, false, false≢true}
@@ -33,29 +33,29 @@ unfolding toWire
 same c d p q e n = calls-same 23 (reading (d .input)) c (rw e at p) d q n
 
 -- ---- what is read, by the grammar and by the messages, not by the parser
-pub data Verdict (t : List ℕ) : Output → Type 0 where
-  ungrammatical : (InGrammar t → ⊥) → Verdict t (refused 20 0)
-  meaningless : InGrammar t → ((v : View) → HasText t v → ⊥) → Verdict t (refused 21 0)
-  large : (v : View) → HasText t v → within? v ≡ false → Verdict t (refused 22 0)
-  read : (v : View) → HasText t v → within? v ≡ true → Verdict t (output (form (messageOf v)))
+pub data Ruling (t : List ℕ) : Output → Type 0 where
+  ungrammatical : (InGrammar t → ⊥) → Ruling t (refused 20 0)
+  meaningless : InGrammar t → ((v : View) → HasText t v → ⊥) → Ruling t (refused 21 0)
+  large : (v : View) → HasText t v → within? v ≡ false → Ruling t (refused 22 0)
+  read : (v : View) → HasText t v → within? v ≡ true → Ruling t (output (form (messageOf v)))
 
-pub verdict : (t : List ℕ) → Verdict t (reading t)
+pub ruling : (t : List ℕ) → Ruling t (reading t)
 unfolding reading
-verdict t = go (parse t) refl
+ruling t = go (parse t) refl
   where
-    sizes : (d : Document) (v : View) → parse t ≡ took d [] → meaning d ≡ some v → (b : Bool) → within? v ≡ b → Verdict t (sized v)
+    sizes : (d : Document) (v : View) → parse t ≡ took d [] → meaning d ≡ some v → (b : Bool) → within? v ≡ b → Ruling t (sized v)
     sizes d v p m true e = rw e (read v (means-text t v .0 (record { document = d; spelled = p; meant = m })) e)
     sizes d v p m false e = rw e (large v (means-text t v .0 (record { document = d; spelled = p; meant = m })) e)
 
     taken : {d e : Document} {r s : List ℕ} → took d r ≡ took e s → d ≡ e
     taken {d} e = ap (λ (o : Parsed Document). elim o [ took a w ↦ a | stuck w ↦ d ]) e
 
-    means : (d : Document) → parse t ≡ took d [] → (o : Option View) → meaning d ≡ o → Verdict t (meant o)
+    means : (d : Document) → parse t ≡ took d [] → (o : Option View) → meaning d ≡ o → Ruling t (meant o)
     means d p none e = meaningless (d, parse-exact t d .0 p .0, parse-exact t d .0 p .1) λ v h.
         let m = means-text t v .1 h in Option·none-ne-some v (sym e ∙ ap meaning (taken (sym p ∙ m .spelled)) ∙ m .meant)
     means d p (some v) e = sizes d v p e (within? v) refl
 
-    go : (o : Parsed Document) → parse t ≡ o → Verdict t (parsed o)
+    go : (o : Parsed Document) → parse t ≡ o → Ruling t (parsed o)
     go (stuck w) e = ungrammatical λ h. let (d, i, s) = h in took≢stuck (sym (parse-exact t d .1 (i, s)) ∙ e)
     go (took d []) e = means d e (meaning d) refl
     go (took d (x ∷ r)) e = absurd (nil≢cons (sym (parse-ends t d (x ∷ r) e)))
@@ -84,21 +84,21 @@ no : {X : Type 0} {o : Output} {k p : ℕ} → (numberIn o ≡ k → ⊥) → o 
 unfolding numberIn
 no n e = absurd (n (ap numberIn e))
 
-at-20 : {t : List ℕ} {o : Output} (p : ℕ) → Verdict t o → (o ≡ refused 20 p) ↔ ((InGrammar t → ⊥) × (p ≡ 0))
+at-20 : {t : List ℕ} {o : Output} (p : ℕ) → Ruling t o → (o ≡ refused 20 p) ↔ ((InGrammar t → ⊥) × (p ≡ 0))
 unfolding numberIn placeIn
 at-20 p (ungrammatical g) = (λ e. (g, sym (ap placeIn e)), λ h. rw (h .1))
 at-20 p (meaningless g f) = (no (λ e. omega arith), λ h. absurd (h .0 g))
 at-20 {t} p (large v h w) = (no (λ e. omega arith), λ k. absurd (k .0 (has-grammar t v h)))
 at-20 {t} p (read v h w) = (no (λ e. omega arith), λ k. absurd (k .0 (has-grammar t v h)))
 
-at-21 : {t : List ℕ} {o : Output} (p : ℕ) → Verdict t o → (o ≡ refused 21 p) ↔ (InGrammar t × ((v : View) → HasText t v → ⊥) × (p ≡ 0))
+at-21 : {t : List ℕ} {o : Output} (p : ℕ) → Ruling t o → (o ≡ refused 21 p) ↔ (InGrammar t × ((v : View) → HasText t v → ⊥) × (p ≡ 0))
 unfolding numberIn placeIn
 at-21 p (ungrammatical g) = (no (λ e. omega arith), λ h. let (i, f, q) = h in absurd (g i))
 at-21 p (meaningless g f) = (λ e. (g, f, sym (ap placeIn e)), λ h. let (i, j, q) = h in rw q)
 at-21 p (large v h w) = (no (λ e. omega arith), λ k. let (i, f, q) = k in absurd (f v h))
 at-21 p (read v h w) = (no (λ e. omega arith), λ k. let (i, f, q) = k in absurd (f v h))
 
-at-22 : {t : List ℕ} {o : Output} (p : ℕ) → Verdict t o → (o ≡ refused 22 p) ↔ ((v : View) × HasText t v × (within? v ≡ false) × (p ≡ 0))
+at-22 : {t : List ℕ} {o : Output} (p : ℕ) → Ruling t o → (o ≡ refused 22 p) ↔ ((v : View) × HasText t v × (within? v ≡ false) × (p ≡ 0))
 unfolding numberIn placeIn
 at-22 {t} p (ungrammatical g) = (no (λ e. omega arith), λ h. let (v, k, w, q) = h in absurd (g (has-grammar t v k)))
 at-22 p (meaningless g f) = (no (λ e. omega arith), λ h. let (v, k, w, q) = h in absurd (f v k))
@@ -106,7 +106,7 @@ at-22 p (large v h w) = (λ e. (v, h, w, sym (ap placeIn e)), λ u. let (x, k, y
 at-22 {t} p (read v h w) = (no (λ e. omega arith), λ u. let (x, k, y, q) = u in absurd (false≢true (sym y ∙ has-one t x v k h ∙ w)))
 
 -- there is no other refusal
-others : {t : List ℕ} {o : Output} {k p : ℕ} → Verdict t o → o ≡ refused k p → (20 ≤ k) × (k ≤ 22) × (p ≡ 0)
+others : {t : List ℕ} {o : Output} {k p : ℕ} → Ruling t o → o ≡ refused k p → (20 ≤ k) × (k ≤ 22) × (p ≡ 0)
 unfolding numberIn placeIn
 others (ungrammatical g) e = let k = ap numberIn e in (omega arith, omega arith, sym (ap placeIn e))
 others (meaningless g f) e = let k = ap numberIn e in (omega arith, omega arith, sym (ap placeIn e))
@@ -160,13 +160,13 @@ module _ (c : Call) (made : Reads c) where
   writes m (a, e) k = rw (made .answers, made .leaves, ← e, reads-text m (converter.accepted-whole m a)) (delivered-room 23 (form m) (c .before) k .1)
 
   pub grammar : (p : ℕ) → (reply c ≡ refusal 20 p) ↔ ((InGrammar (c .input) → ⊥) × (p ≡ 0))
-  grammar p = both (due 20 (omega arith) p) (at-20 p (verdict (c .input)))
+  grammar p = both (due 20 (omega arith) p) (at-20 p (ruling (c .input)))
 
   pub no-message : (p : ℕ) → (reply c ≡ refusal 21 p) ↔ (InGrammar (c .input) × ((v : View) → HasText (c .input) v → ⊥) × (p ≡ 0))
-  no-message p = both (due 21 (omega arith) p) (at-21 p (verdict (c .input)))
+  no-message p = both (due 21 (omega arith) p) (at-21 p (ruling (c .input)))
 
   pub limits : (p : ℕ) → (reply c ≡ refusal 22 p) ↔ ((v : View) × HasText (c .input) v × (within? v ≡ false) × (p ≡ 0))
-  limits p = both (due 22 (omega arith) p) (at-22 p (verdict (c .input)))
+  limits p = both (due 22 (omega arith) p) (at-22 p (ruling (c .input)))
 
   pub no-room : (p : ℕ) → (reply c ≡ refusal 23 p) ↔ ((m : Message) × Spells c m × (room c < length (form m)) × (p ≡ 0))
   unfolding toWire
@@ -174,7 +174,7 @@ module _ (c : Call) (made : Reads c) where
     where
       forward : (k : ℕ) → (reading (c .input) ≡ refused k p) ⊎ ((l : List ℕ) × (reading (c .input) ≡ output l) × (room c < length l) × (k ≡ 23) × (p ≡ 0)) → k ≡ 23
           → (m : Message) × Spells c m × (room c < length (form m)) × (p ≡ 0)
-      forward k (inl e) f = let (a, b, q) = others (verdict (c .input)) e in absurd (omega arith)
+      forward k (inl e) f = let (a, b, q) = others (ruling (c .input)) e in absurd (omega arith)
       forward k (inr u) f =
           let (l, o, h, j, q) = u in
           let r = read-only (c .input) l o in
@@ -191,7 +191,7 @@ module _ (c : Call) (made : Reads c) where
   numbers k p e = go (call-refuses 23 (reading (c .input)) c made k p .0 e)
     where
       go : (reading (c .input) ≡ refused k p) ⊎ ((l : List ℕ) × (reading (c .input) ≡ output l) × (room c < length l) × (k ≡ 23) × (p ≡ 0)) → (20 ≤ k) × (k ≤ 23) × (p ≡ 0)
-      go (inl e) = let (a, b, q) = others (verdict (c .input)) e in (a, omega arith, q)
+      go (inl e) = let (a, b, q) = others (ruling (c .input)) e in (a, omega arith, q)
       go (inr u) = let (l, o, h, j, q) = u in (omega arith, omega arith, q)
 
 -- ---- a buffer of 65,535 octets holds every message

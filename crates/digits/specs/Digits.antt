@@ -1,4 +1,4 @@
--- A loop that writes octets, one a turn. Assumes nothing.
+-- A loop that writes octets, one a turn.
 use mathlib.Core.Path.{_≡_}
 use mathlib.Core.List.{List, [], _∷_}
 use Prim.Native.Nat.{ℕ, _+_, _≤_, _<_}

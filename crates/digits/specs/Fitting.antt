@@ -1,4 +1,4 @@
--- The code's walk over the pieces of RDATA by itself, without pointers. Assumes nothing.
+-- The code's walk over the pieces of RDATA by itself, without pointers.
 use mathlib.Core.Path.{_≡_, refl, sym, ap, _∙_}
 use mathlib.Core.Bool.{Bool, true, false, cond}
 use mathlib.Core.List.{List, [], _∷_}
@@ -11,7 +11,7 @@ use lib.ListN.{length, drop, length-drop}
 use lib.Seq.{drop-drop}
 use Rattle.names.specs.Name.{nameForm, surplus}
 use Rattle.names.specs.Walk.{part, rdata, Named, named, faulty, nameFrom}
-use Rattle.records.specs.Layout.{Piece, fixed, name, Laid, laid, misfit, before, pieces, laid?, fits?}
+use Rattle.records.specs.Layout.{Piece, fixed, name, Laid, laid, misfit, before, pieces, laid?, rdataFits?}
 use Rattle.records.specs.Parts.{layoutIn, rdata-pieces}
 use Rattle.records.specs.Answer.{pieceRead}
 use Rattle.records.specs.Pieces.{layout-small, headed}
@@ -27,12 +27,12 @@ laid-before l (laid m) = refl
 laid-before l (misfit fault) = refl
 
 -- v is the whole answer, by the pieces from the i-th on, at the place `at`
-pub record Fits (s : List ℕ) (kind size : ℕ) (v : Bool) (i at : ℕ) : Type 0 where
+pub record FitLoop (s : List ℕ) (kind size : ℕ) (v : Bool) (i at : ℕ) : Type 0 where
   pub long : size ≡ length s
   pub goes : v ≡ laid? (pieces false (drop i (layoutIn kind size)) s 0 size at)
 
-pub fits-start : (s : List ℕ) (kind : ℕ) {size : ℕ} → size ≡ length s → Fits s kind size (fits? kind s) 0 0
-unfolding fits?
+pub fits-start : (s : List ℕ) (kind : ℕ) {size : ℕ} → size ≡ length s → FitLoop s kind size (rdataFits? kind s) 0 0
+unfolding rdataFits?
 fits-start s kind e = record { long = e; goes = ap laid? (rdata-pieces false s kind 0 (length s)) ∙ rw (e, zero-add) }
 
 -- ---- the first piece of a layout
@@ -83,9 +83,9 @@ module _ (s : List ℕ) (size at : ℕ) (l : List Piece) where
         go (faulty fault) e h = let z : _≡_ {A = ℕ} 0 1 = cc in absurd (omega arith)
 
 -- ---- the ways of the code
-module _ {s : List ℕ} {kind size : ℕ} {v : Bool} {i at : ℕ} (f : Fits s kind size v i at) {p : PieceRead} (e : p ≡ pieceRead (drop i (layoutIn kind size))) where
+module _ {s : List ℕ} {kind size : ℕ} {v : Bool} {i at : ℕ} (f : FitLoop s kind size v i at) {p : PieceRead} (e : p ≡ pieceRead (drop i (layoutIn kind size))) where
   -- the pieces after the i-th
-  behind : {next : ℕ} → v ≡ laid? (pieces false (drop 1 (drop i (layoutIn kind size))) s 0 size next) → Fits s kind size v (i + 1) next
+  behind : {next : ℕ} → v ≡ laid? (pieces false (drop 1 (drop i (layoutIn kind size))) s 0 size next) → FitLoop s kind size v (i + 1) next
   behind {next} h = record { long = f .long; goes = h ∙ ap (λ (m : List Piece). laid? (pieces false m s 0 size next)) (drop-drop 1 i (layoutIn kind size)) }
 
   -- only the first three pieces are there
@@ -108,7 +108,7 @@ module _ {s : List ℕ} {kind size : ℕ} {v : Bool} {i at : ℕ} (f : Fits s ki
     pub fits-short : at ≤ size → size - at < n → false ≡ v
     fits-short h k = short-fits s size at _ octets (omega arith) ∙ sym (f .goes)
 
-    pub fits-part : at ≤ size → n ≤ size - at → Fits s kind size v (i + 1) (at + n)
+    pub fits-part : at ≤ size → n ≤ size - at → FitLoop s kind size v (i + 1) (at + n)
     fits-part h k = behind (f .goes ∙ part-fits s size at _ octets (omega arith))
 
   module _ (q : p ≡ piece.Name) where
@@ -126,5 +126,5 @@ module _ {s : List ℕ} {kind size : ℕ} {v : Bool} {i at : ℕ} (f : Fits s ki
       pub fits-unfit : r ≡ Unfit → false ≡ v
       fits-unfit h = unfit-fits s size at _ naming (sym same ∙ h) ∙ sym (f .goes)
 
-      pub fits-name : {next : ℕ} → r ≡ To next → Fits s kind size v (i + 1) next
+      pub fits-name : {next : ℕ} → r ≡ To next → FitLoop s kind size v (i + 1) next
       fits-name {next} h = behind (f .goes ∙ name-fits s size at _ naming next (sym same ∙ h))

@@ -11,7 +11,7 @@ ghost use lib.ListN.{length};
 ghost use Rattle.octets.specs.Lists.{paired};
 ghost use Rattle.octets.specs.Overlay.{Wrote};
 ghost use Rattle.either.specs.Digits.{Hexes};
-ghost use Rattle.records.specs.Layout.{fits?};
+ghost use Rattle.records.specs.Layout.{rdataFits?};
 ghost use Rattle.digits.specs.Skipping.{nameEnd};
 
 // Writes the octets.
@@ -75,7 +75,7 @@ fn skip_name(hex: &[u8], at: usize) -> Skipped
 // Whether RDATA, without pointers, is what the layout of its TYPE says.
 pub fn fits_layout(kind: u32, hex: &[u8]) -> bool
     requires { ⌜ Hexes (now hex) ⌝ }
-    ensures { λ r. ⌜ r ≡ fits? kind (paired (now (hex .entry))) ⌝ }
+    ensures { λ r. ⌜ r ≡ rdataFits? kind (paired (now (hex .entry))) ⌝ }
 {
     let size = count(hex, true);
     let mut i = 0;

@@ -1,4 +1,4 @@
--- The EDNS element: the options in RDATA, the element's conditions, its members and their text. Assumes nothing.
+-- The EDNS element: the options in RDATA, the element's conditions, its members and their text.
 use mathlib.Core.Bool.{Bool, true, _&&_, _||_, cond}
 use mathlib.Core.Option.{Option, none, some}
 use mathlib.Core.List.{List, [], _∷_, _++_, map}
@@ -6,7 +6,7 @@ use Prim.Native.Nat.{ℕ, zero, suc, _+_, _*_, _/_, _%_}
 use Prim.Native.String.{String}
 use lib.Dec.{leb, ltb, eqb}
 use lib.ListN.{length, take, drop}
-use Rattle.octets.specs.Lists.{ascii, each, ended, all, none?, octet?, word?, key?, textOf}
+use Rattle.octets.specs.Lists.{ascii, each, ended, all, none?, octet?, word?, key?, rowText}
 use Rattle.octets.specs.Fields.{two, twoAt}
 use Rattle.octets.specs.Decimal.{decimal}
 use Rattle.records.specs.Message.{Record, bit?}
@@ -78,7 +78,7 @@ pub record Edns : Type 0 where
 abbrev pub fullRcode : ℕ → ℕ → ℕ
 fullRcode rcode extended = extended * 16 + rcode
 
--- what a TYPE 41 record shows as an EDNS element, if its owner is the root, its version octet is 0, its flags are 0 or 0x8000,
+-- what a TYPE 41 record is as an EDNS element, if its owner is the root, its version octet is 0, its flags are 0 or 0x8000,
 -- RCODE is in the list, and RDATA divides exactly into options with codes strictly rising
 unfoldable pub ednsOf : ℕ → Record → Option Edns
 ednsOf rcode r =
@@ -142,8 +142,8 @@ flags = (0, "[]") ∷ (1, "[\"DO\"]") ∷ []
 unfoldable pub ednsText : EdnsItem → List ℕ
 ednsText e =
     ascii "{\"EDNS\":{\"Version\":" ++ decimal (e .version)
-    ++ ascii ",\"FLAGS\":" ++ textOf (e .flags) flags
-    ++ ascii ",\"RCODE\":\"" ++ textOf (e .rcode) rcodes
+    ++ ascii ",\"FLAGS\":" ++ rowText (e .flags) flags
+    ++ ascii ",\"RCODE\":\"" ++ rowText (e .rcode) rcodes
     ++ ascii "\",\"UDPSIZE\":" ++ decimal (e .size)
     ++ ended (λ m. 44 ∷ memberText m) 125 (e .options)
     ++ ascii "}"

@@ -1,4 +1,4 @@
--- Laws of the EDNS element: a record and its element tell each other. Assumes nothing.
+-- Laws of the EDNS element: a record and its element tell each other.
 use mathlib.Core.Path.{_≡_, refl, sym, _∙_, ap, ap₂, subst}
 use mathlib.Core.Bool.{Bool, true, false, _&&_, _||_, cond}
 use mathlib.Core.Option.{Option, none, some, Option·some-injective, Option·none-ne-some}
@@ -15,7 +15,7 @@ use Rattle.octets.specs.Fields.{two, twoAt, two-back, getD-octet, twoAt-word, t
 use Rattle.names.specs.Name.{nameForm, name?}
 use Rattle.names.specs.NameLaws.{drop-octets, take-octets}
 use Rattle.names.specs.Walk.{part}
-use Rattle.records.specs.Layout.{layoutOf, layouts, laid, laid?, rdataAt, fits?}
+use Rattle.records.specs.Layout.{layoutOf, layouts, laid, laid?, rdataAt, rdataFits?}
 use Rattle.records.specs.Message.{Record, bit?, record?}
 use Rattle.options.specs.Options.{EdnsOption}
 use Rattle.edns.specs.Edns.{optionForm, prepend, divided, optionsOf, rising?, rcodes, Edns, fullRcode, ednsOf, ednsRecord, option?, edns?, small?, small-option?}
@@ -198,7 +198,7 @@ bit-flags (suc zero) h = tt
 bit-flags (suc (suc b)) h = absurd (omega arith)
 
 -- what a record that becomes an element fulfils, and the element
-pub record Shows (rcode : ℕ) (r : Record) (options : List EdnsOption) : Type 0 where
+pub record BecomesElement (rcode : ℕ) (r : Record) (options : List EdnsOption) : Type 0 where
   pub split : optionsOf (r .rdata) ≡ some options
   pub root : T (none? (r .name))
   pub version : r .ttl / 65536 % 256 ≡ 0
@@ -206,10 +206,10 @@ pub record Shows (rcode : ℕ) (r : Record) (options : List EdnsOption) : Type 0
   pub key : T (key? (fullRcode rcode (r .ttl / 16777216)) rcodes)
   pub rises : T (rising? options)
 
-abbrev pub shown : Record → List EdnsOption → Edns
-shown r options = record { size = r .class; extended = r .ttl / 16777216; dnssecOk = r .ttl % 65536 / 32768; options = options }
+abbrev pub elementOf : Record → List EdnsOption → Edns
+elementOf r options = record { size = r .class; extended = r .ttl / 16777216; dnssecOk = r .ttl % 65536 / 32768; options = options }
 
-pub edns-shown : {rcode : ℕ} {r : Record} {options : List EdnsOption} → Shows rcode r options → ednsOf rcode r ≡ some (shown r options)
+pub edns-shown : {rcode : ℕ} {r : Record} {options : List EdnsOption} → BecomesElement rcode r options → ednsOf rcode r ≡ some (elementOf r options)
 unfolding ednsOf
 edns-shown {rcode} {r} {options} s =
     rw (
@@ -226,11 +226,11 @@ cond-some : {A : Type 0} (b : Bool) (x a : A) → cond b (some x) none ≡ some 
 cond-some true x a e = (tt, Option·some-injective x a e)
 cond-some false x a e = absurd (Option·none-ne-some a e)
 
-pub edns-shows : (rcode : ℕ) (r : Record) (e : Edns) → ednsOf rcode r ≡ some e → (options : List EdnsOption) × Shows rcode r options × (shown r options ≡ e)
+pub edns-shows : (rcode : ℕ) (r : Record) (e : Edns) → ednsOf rcode r ≡ some e → (options : List EdnsOption) × BecomesElement rcode r options × (elementOf r options ≡ e)
 unfolding ednsOf
 edns-shows rcode r e = go (optionsOf (r .rdata)) refl
   where
-    go : (o : Option (List EdnsOption)) → optionsOf (r .rdata) ≡ o → ednsOf rcode r ≡ some e → (options : List EdnsOption) × Shows rcode r options × (shown r options ≡ e)
+    go : (o : Option (List EdnsOption)) → optionsOf (r .rdata) ≡ o → ednsOf rcode r ≡ some e → (options : List EdnsOption) × BecomesElement rcode r options × (elementOf r options ≡ e)
     go none p q = absurd (Option·none-ne-some e (rw (p, ednsOf) at q))
     go (some options) p q =
         let t1 = none? (r .name) in
@@ -239,7 +239,7 @@ edns-shows rcode r e = go (optionsOf (r .rdata)) refl
         let t3 = t2 && flags in
         let key = key? (fullRcode rcode (r .ttl / 16777216)) rcodes in
         let t4 = t3 && key in
-        let (h, d) = cond-some (t4 && rising? options) (shown r options) e (rw (p, ednsOf) at q) in
+        let (h, d) = cond-some (t4 && rising? options) (elementOf r options) e (rw (p, ednsOf) at q) in
         let h4 = and-left t4 (rising? options) h in
         let h3 = and-left t3 key h4 in
         let h2 = and-left t2 flags h3 in (
@@ -263,7 +263,7 @@ edns-back rcode e h k =
     let r = ednsRecord e in
     let (u, v, w, x) = ttl-parts (e .extended) (e .dnssecOk) bit in
     let flag : r .ttl % 65536 / 32768 ≡ e .dnssecOk = ap (λ n. n / 32768) w ∙ x in
-    let s : Shows rcode r (e .options) = record {
+    let s : BecomesElement rcode r (e .options) = record {
       split = options-back (e .options) (options-in (e .options) options k);
       root = tt;
       version = v;
@@ -281,7 +281,7 @@ record-tests r h =
     let t3 = t2 && word? (r .class) in
     let t4 = t3 && long? (r .ttl) in
     let t5 = t4 && all octet? (r .rdata) in
-    let h5 = and-left t5 (fits? (r .type) (r .rdata)) h in
+    let h5 = and-left t5 (rdataFits? (r .type) (r .rdata)) h in
     let h4 = and-left t4 (all octet? (r .rdata)) h5 in
     let h3 = and-left t3 (long? (r .ttl)) h4 in
     (ltb→lt (r .class) 65536 (and-right t2 (word? (r .class)) h3), ltb→lt (r .ttl) 4294967296 (and-right t3 (long? (r .ttl)) h4), octets-in (r .rdata) (and-right t4 (all octet? (r .rdata)) h5))
@@ -307,21 +307,21 @@ pub edns-record : (rcode : ℕ) (r : Record) (e : Edns) → T (record? r) → r 
 unfolding ednsRecord
 edns-record rcode r e h k q = go (edns-shows rcode r e q)
   where
-    go : (options : List EdnsOption) × Shows rcode r options × (shown r options ≡ e) → (ednsRecord e ≡ r) × T (edns? rcode e) × T (all small-option? (e .options))
+    go : (options : List EdnsOption) × BecomesElement rcode r options × (elementOf r options ≡ e) → (ednsRecord e ≡ r) × T (edns? rcode e) × T (all small-option? (e .options))
     go (options, s, d) =
         let (class, ttl, octets) = record-tests r h in
         let (rdata, range, small) = options-form (r .rdata) options octets (s .split) in
         let name = root-name (r .name) (s .root) in
         let whole = ttl-whole (r .ttl) (s .version) (s .flags) in
         let type = sym k in
-        let a : ednsRecord (shown r options) ≡ r = λ i. record { name = name i; type = type i; class = r .class; ttl = whole i; rdata = rdata i } in
-        let b : T (edns? rcode (shown r options)) = edns-passes rcode (shown r options) class (omega arith) (omega arith) (s .key) range (s .rises) in
+        let a : ednsRecord (elementOf r options) ≡ r = λ i. record { name = name i; type = type i; class = r .class; ttl = whole i; rdata = rdata i } in
+        let b : T (edns? rcode (elementOf r options)) = edns-passes rcode (elementOf r options) class (omega arith) (omega arith) (s .key) range (s .rises) in
         subst (λ (e : Edns). (ednsRecord e ≡ r) × T (edns? rcode e) × T (all small-option? (e .options))) d (a, b, small)
 
 -- ---- records and entries of the additional section
 -- everything fits TYPE 41, which is not in the table of layouts
-pub opt-fits : (l : List ℕ) → T (fits? 41 l)
-unfolding fits? rdataAt layoutOf layouts lookup
+pub opt-fits : (l : List ℕ) → T (rdataFits? 41 l)
+unfolding rdataFits? rdataAt layoutOf layouts lookup
 opt-fits l = go (eqb (length l) 0)
   where
     go : (b : Bool) → T (laid? (cond b (laid []) (laid (part l 0 (length l)))))
@@ -345,4 +345,4 @@ edns-valid rcode e h =
     let (size, extended, bit, key, options, rising) = edns-tests rcode e h in
     let r = ednsRecord e in
     let octets = octets-test (r .rdata) (options-octets (e .options) options) in
-    rw (lt-ltb (e .size) 65536 size, lt-ltb (r .ttl) 4294967296 (omega arith), is-true (all octet? (r .rdata)) octets, is-true (fits? 41 (r .rdata)) (opt-fits (r .rdata))) tt
+    rw (lt-ltb (e .size) 65536 size, lt-ltb (r .ttl) 4294967296 (omega arith), is-true (all octet? (r .rdata)) octets, is-true (rdataFits? 41 (r .rdata)) (opt-fits (r .rdata))) tt

@@ -1,4 +1,4 @@
--- A table of texts as octets, row after row: the key, the length of the text, the text. Assumes nothing.
+-- A table of texts as octets, row after row: the key, the length of the text, the text.
 use mathlib.Core.Path.{_≡_, refl, sym, ap, _∙_}
 use mathlib.Core.Bool.{Bool, true, false, cond}
 use mathlib.Core.List.{List, [], _∷_, _++_}
@@ -9,7 +9,7 @@ use borrow.Author.Tests.{lt-ltb, le-ltb, eq-eqb, ne-eqb, ltb-true, ltb-false, eq
 use lib.Dec.{T, leb, ltb, eqb, leb→le}
 use lib.ListN.{length, getD, take, drop, length-append, length-drop, drop-of-length-le}
 use lib.Seq.{take-append-seam, drop-append-seam, drop-drop}
-use Rattle.octets.specs.Lists.{ascii, all, each, key?, textOf}
+use Rattle.octets.specs.Lists.{ascii, all, each, key?, rowText}
 use Rattle.octets.specs.Bits.{and-left, and-right}
 use Rattle.octets.specs.Fields.{drop-past, getD-here, room-here}
 
@@ -49,12 +49,12 @@ parts t key text rest at e =
 
 -- ---- a loop over the rows
 -- the rows from `at` on are `rest`, and none before them has the key
-pub record Row (rows : List (ℕ × String)) (n at : ℕ) : Type 0 where
+pub record RowLoop (rows : List (ℕ × String)) (n at : ℕ) : Type 0 where
   pub rest : List (ℕ × String)
   pub here : drop at (tableOctets rows) ≡ tableOctets rest
   pub goes : rowAt n rows ≡ at + rowAt n rest
 
-pub row-start : (rows : List (ℕ × String)) (n : ℕ) → Row rows n 0
+pub row-start : (rows : List (ℕ × String)) (n : ℕ) → RowLoop rows n 0
 row-start rows n = record { rest = rows; here = refl; goes = omega arith }
 
 -- there is a row: its octets, and the rows after it
@@ -64,7 +64,7 @@ record First (t : List ℕ) (rows : List (ℕ × String)) (n at : ℕ) : Type 0 
   octets : Parts t (row .0) (ascii (row .1)) (tableOctets later) at
   goes : rowAt n rows ≡ at + cond (eqb (row .0) n) 0 (length (rowOctets row) + rowAt n later)
 
-module _ {rows : List (ℕ × String)} {n at : ℕ} (w : Row rows n at) {t : List ℕ} (e : t ≡ tableOctets rows) where
+module _ {rows : List (ℕ × String)} {n at : ℕ} (w : RowLoop rows n at) {t : List ℕ} (e : t ≡ tableOctets rows) where
   here : drop at t ≡ tableOctets (w .rest)
   here = rw e (w .here)
 
@@ -108,7 +108,7 @@ module _ {rows : List (ℕ × String)} {n at : ℕ} (w : Row rows n at) {t : Lis
           let same : f .row .0 ≡ n = sym (f .octets .first) ∙ sym k ∙ i in
           sym (f .goes ∙ rw (eq-eqb (f .row .0) n same) (omega arith))
 
-      pub row-next : {size : ℕ} → (x ≡ n → ⊥) → size ≡ getD t (at + 1) 0 → Row rows n (at + (2 + size))
+      pub row-next : {size : ℕ} → (x ≡ n → ⊥) → size ≡ getD t (at + 1) 0 → RowLoop rows n (at + (2 + size))
       row-next {size} i j =
           let f = first h in
           let long : size ≡ length (ascii (f .row .1)) = j ∙ f .octets .size in
@@ -149,18 +149,18 @@ record Found (t : List ℕ) (n : ℕ) (text : List ℕ) (at : ℕ) : Type 0 wher
   here : drop at t ≡ n ∷ length text ∷ (text ++ rest)
 
 found : (n : ℕ) (rows : List (ℕ × String)) → rowAt n rows < length (tableOctets rows)
-    → Found (tableOctets rows) n (textOf n rows) (rowAt n rows)
-unfolding each rowAt textOf
+    → Found (tableOctets rows) n (rowText n rows) (rowAt n rows)
+unfolding each rowAt rowText
 found n [] h = absurd (omega arith)
 found n (row ∷ rows) h = go (found n rows) (eqb (row .0) n) refl h
   where
     whole : List ℕ
     whole = rowOctets row ++ tableOctets rows
 
-    go : (rowAt n rows < length (tableOctets rows) → Found (tableOctets rows) n (textOf n rows) (rowAt n rows))
+    go : (rowAt n rows < length (tableOctets rows) → Found (tableOctets rows) n (rowText n rows) (rowAt n rows))
         → (a : Bool) → eqb (row .0) n ≡ a
         → cond a 0 (length (rowOctets row) + rowAt n rows) < length whole
-        → Found whole n (cond a (ascii (row .1)) (textOf n rows)) (cond a 0 (length (rowOctets row) + rowAt n rows))
+        → Found whole n (cond a (ascii (row .1)) (rowText n rows)) (cond a 0 (length (rowOctets row) + rowAt n rows))
     go f true e h = record {
       rest = tableOctets rows;
       here = ap (λ k. k ∷ length (ascii (row .1)) ∷ (ascii (row .1) ++ tableOctets rows)) (eqb-true (row .0) n e);
@@ -174,24 +174,24 @@ found n (row ∷ rows) h = go (found n rows) (eqb (row .0) n) refl h
         }
 
 -- no key, no text
-no-text : (n : ℕ) (rows : List (ℕ × String)) → key? n rows ≡ false → textOf n rows ≡ []
-unfolding key? textOf
+no-text : (n : ℕ) (rows : List (ℕ × String)) → key? n rows ≡ false → rowText n rows ≡ []
+unfolding key? rowText
 no-text n [] e = refl
 no-text n (row ∷ rows) e = go (no-text n rows) (eqb (row .0) n) e
   where
-    go : (key? n rows ≡ false → textOf n rows ≡ []) → (a : Bool) → cond a true (key? n rows) ≡ false
-        → cond a (ascii (row .1)) (textOf n rows) ≡ []
+    go : (key? n rows ≡ false → rowText n rows ≡ []) → (a : Bool) → cond a true (key? n rows) ≡ false
+        → cond a (ascii (row .1)) (rowText n rows) ≡ []
     go f true e = let z : _≡_ {A = ℕ} 0 1 = cc in absurd (omega arith)
     go f false e = f e
 
 -- how long a text can be
 pub text-short : (k n : ℕ) (rows : List (ℕ × String)) → T (all (λ (row : ℕ × String). leb (length (ascii (row .1))) k) rows)
-    → length (textOf n rows) ≤ k
-unfolding textOf
+    → length (rowText n rows) ≤ k
+unfolding rowText
 text-short k n [] t = omega arith
 text-short k n (row ∷ rows) t = go (eqb (row .0) n) (text-short k n rows (and-right (leb (length (ascii (row .1))) k) _ t))
   where
-    go : (a : Bool) → length (textOf n rows) ≤ k → length (cond a (ascii (row .1)) (textOf n rows)) ≤ k
+    go : (a : Bool) → length (rowText n rows) ≤ k → length (cond a (ascii (row .1)) (rowText n rows)) ≤ k
     go true h = leb→le (length (ascii (row .1))) k (and-left (leb (length (ascii (row .1))) k) _ t)
     go false h = h
 
@@ -200,15 +200,15 @@ module _ (n : ℕ) (rows : List (ℕ × String)) {t : List ℕ} (e : t ≡ table
   whole : length t ≡ length (tableOctets rows)
   whole = ap length e
 
-  pub text-none : length (tableOctets rows) ≤ at → textOf n rows ≡ []
+  pub text-none : length (tableOctets rows) ≤ at → rowText n rows ≡ []
   text-none h = no-text n rows (sym (row-key n rows) ∙ rw (← d) (le-ltb at (length (tableOctets rows)) h))
 
   module _ (h : at < length (tableOctets rows)) where
-    row : Found t n (textOf n rows) at
+    row : Found t n (rowText n rows) at
     row = rw (e, d) (found n rows (rw (← d) h))
 
-    there : Parts t n (textOf n rows) (row .rest) at
-    there = parts t n (textOf n rows) (row .rest) at (row .here)
+    there : Parts t n (rowText n rows) (row .rest) at
+    there = parts t n (rowText n rows) (row .rest) at (row .here)
 
     pub text-room : at + 1 < length (tableOctets rows)
     text-room = omega (arith, whole, there .room)
@@ -217,7 +217,7 @@ module _ (n : ℕ) (rows : List (ℕ × String)) {t : List ℕ} (e : t ≡ table
       pub text-end : at + 2 + size ≤ length (tableOctets rows)
       text-end = omega (arith, whole, there .room, there .size)
 
-      pub text-row : take (at + 2 + size - (at + 2)) (drop (at + 2) t) ≡ textOf n rows
+      pub text-row : take (at + 2 + size - (at + 2)) (drop (at + 2) t) ≡ rowText n rows
       text-row =
-          let long : at + 2 + size - (at + 2) ≡ length (textOf n rows) = omega (arith, there .size) in
+          let long : at + 2 + size - (at + 2) ≡ length (rowText n rows) = omega (arith, there .size) in
           rw long (there .name)

@@ -1,4 +1,4 @@
--- The code's walk over the options in RDATA and its tests of an element, way by way. Assumes nothing.
+-- The code's walk over the options in RDATA and its tests of an element, way by way.
 use mathlib.Core.Path.{_≡_, refl, sym, _∙_, ap}
 use mathlib.Core.Bool.{Bool, true, false, not, _&&_, _||_, cond}
 use mathlib.Core.Option.{Option, none, some}
@@ -20,11 +20,11 @@ use Rattle.edns.specs.Element.{risen?, optionsRise, ednsFields, showsEdn
 
 -- ---- RDATA divided
 -- the first option
-abbrev pub first : List ℕ → EdnsOption
-first l = record { code = twoAt l 0; value = take (twoAt l 2) (drop 4 l) }
+abbrev pub firstOption : List ℕ → EdnsOption
+firstOption l = record { code = twoAt l 0; value = take (twoAt l 2) (drop 4 l) }
 
 -- one step: there is room for an option, or there is none
-divided-one : (n : ℕ) (l : List ℕ) → 4 + twoAt l 2 ≤ length l → divided (suc n) l ≡ prepend (first l) (divided n (drop (4 + twoAt l 2) l))
+divided-one : (n : ℕ) (l : List ℕ) → 4 + twoAt l 2 ≤ length l → divided (suc n) l ≡ prepend (firstOption l) (divided n (drop (4 + twoAt l 2) l))
 unfolding divided
 divided-one n [] h = absurd (omega arith)
 divided-one n (x ∷ l) h =
@@ -37,7 +37,7 @@ unfolding divided
 divided-none n [] h k = absurd (omega arith)
 divided-none n (x ∷ l) h k = rw (lt-leb (4 + twoAt (x ∷ l) 2) (length (x ∷ l)) k) (go (leb 4 (length (x ∷ l))))
   where
-    go : (b : Bool) → cond (b && false) (prepend (first (x ∷ l)) (divided n (drop (4 + twoAt (x ∷ l) 2) (x ∷ l)))) none ≡ none
+    go : (b : Bool) → cond (b && false) (prepend (firstOption (x ∷ l)) (divided n (drop (4 + twoAt (x ∷ l) 2) (x ∷ l)))) none ≡ none
     go true = refl
     go false = refl
 
@@ -55,7 +55,7 @@ divided-bound (suc n) (suc m) l h k =
     go l h k f a true p q =
         let i = leb-true (4 + twoAt l 2) (length l) q in
         let long = length-drop (4 + twoAt l 2) l in
-        divided-one n l i ∙ ap (prepend (first l)) (f (omega arith) (omega arith)) ∙ sym (divided-one m l i)
+        divided-one n l i ∙ ap (prepend (firstOption l)) (f (omega arith) (omega arith)) ∙ sym (divided-one m l i)
     go l h k f true false p q =
         let i = leb-true 1 (length l) p in
         let j = leb-false (4 + twoAt l 2) (length l) q in
@@ -109,7 +109,7 @@ rise? least none = false
 rise? least (some l) = least? least l && rising? l
 
 -- v is the whole answer, by what is read from `at` on
-pub record From (s : List ℕ) (v : Bool) (least at : ℕ) : Type 0 where
+pub record RiseLoop (s : List ℕ) (v : Bool) (least at : ℕ) : Type 0 where
   pub goes : v ≡ rise? least (optionsOf (drop at s))
 
 rise-all : (o : Option (List EdnsOption)) → risen? o ≡ rise? 0 o
@@ -129,11 +129,11 @@ rise-next least a (some []) h = rw (le-leb least (a .code) h)
 rise-next least a (some (b ∷ l)) h = rw (le-leb least (a .code) h, add-one)
 
 -- before the first option
-pub rises-start : (s : List ℕ) → From s (optionsRise s) 0 0
+pub rises-start : (s : List ℕ) → RiseLoop s (optionsRise s) 0 0
 unfolding optionsRise
 rises-start s = record { goes = rise-all (optionsOf s) }
 
-module _ {s : List ℕ} {v : Bool} {least at : ℕ} (f : From s v least at) {size : ℕ} (z : size ≡ length s) where
+module _ {s : List ℕ} {v : Bool} {least at : ℕ} (f : RiseLoop s v least at) {size : ℕ} (z : size ≡ length s) where
   -- after the last
   pub rises-end : size ≤ at → true ≡ v
   unfolding rising?
@@ -162,7 +162,7 @@ module _ {s : List ℕ} {v : Bool} {least at : ℕ} (f : From s v least at) {siz
         rises-low i = sym (more ∙ rise-low least (here s at) (optionsOf (drop (at + (4 + n)) s)) (rw (← d) i))
 
         -- a code above the last
-        pub rises-more : least ≤ code → From s v (code + 1) (at + (4 + n))
+        pub rises-more : least ≤ code → RiseLoop s v (code + 1) (at + (4 + n))
         rises-more i = record { goes = more ∙ rise-next least (here s at) (optionsOf (drop (at + (4 + n)) s)) (rw (← d) i) ∙ rw (← d) }
 
 -- ---- the tests of an element, in order

@@ -1,4 +1,4 @@
-// Whether a record shows as an EDNS element. Its RDATA is octets or hexadecimal digits: `hex` says which.
+// Whether a record is an EDNS element. Its RDATA is octets or hexadecimal digits: `hex` says which.
 // The definitions are in specs/.
 use either::count;
 use either::two_at;
@@ -117,7 +117,7 @@ fn has_edns_fields(root: bool, ttl: u32, rcode: u32) -> bool
     listed_rcode(ttl / 16777216 * 16 + rcode)
 }
 
-// Whether a TYPE 41 record shows as an EDNS element: those tests, and its RDATA.
+// Whether a TYPE 41 record is an EDNS element: those tests, and its RDATA.
 pub fn is_edns(root: bool, ttl: u32, rcode: u32, s: &[u8], hex: bool) -> bool
     requires { ⌜ (rcode < 16) × Spelled hex (now s) ⌝ }
     ensures { λ r. ⌜ r ≡ showsEdns root ttl rcode (octetsIn hex (now (s .entry))) ⌝ }

@@ -1,4 +1,4 @@
--- Octets in hexadecimal: two digits an octet, in capitals. Assumes nothing.
+-- Octets in hexadecimal: two digits an octet, in capitals.
 use mathlib.Core.Path.{_≡_, refl, sym, ap, ap₂, _∙_, subst}
 use mathlib.Core.Bool.{Bool, true, false}
 use mathlib.Core.List.{List, [], _∷_}

@@ -1,4 +1,4 @@
--- Octets as they are, or as the hexadecimal digits of them. Assumes nothing.
+-- Octets as they are, or as the hexadecimal digits of them.
 use mathlib.Core.Path.{_≡_, sym}
 use mathlib.Core.Bool.{Bool, true, false}
 use mathlib.Core.List.{List}

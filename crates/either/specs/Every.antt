@@ -1,4 +1,4 @@
--- A test of every octet from a place on, octet by octet. Assumes nothing.
+-- A test of every octet from a place on, octet by octet.
 use mathlib.Core.Path.{_≡_, refl, sym, _∙_}
 use mathlib.Core.Bool.{Bool, true, false}
 use mathlib.Core.List.{List}
@@ -8,13 +8,13 @@ use Rattle.octets.specs.Lists.{all}
 use Rattle.octets.specs.Fields.{drop-one}
 
 -- v is the whole answer, by the octets from `i` on
-pub record Rest (p : ℕ → Bool) (s : List ℕ) (v : Bool) (i : ℕ) : Type 0 where
+pub record EveryLoop (p : ℕ → Bool) (s : List ℕ) (v : Bool) (i : ℕ) : Type 0 where
   pub goes : v ≡ all p (drop i s)
 
-pub rest-start : (p : ℕ → Bool) (s : List ℕ) (i : ℕ) → Rest p s (all p (drop i s)) i
+pub rest-start : (p : ℕ → Bool) (s : List ℕ) (i : ℕ) → EveryLoop p s (all p (drop i s)) i
 rest-start p s i = record { goes = refl }
 
-module _ {p : ℕ → Bool} {s : List ℕ} {v : Bool} {i : ℕ} (o : Rest p s v i) {size : ℕ} (z : size ≡ length s) where
+module _ {p : ℕ → Bool} {s : List ℕ} {v : Bool} {i : ℕ} (o : EveryLoop p s v i) {size : ℕ} (z : size ≡ length s) where
   -- after the last
   pub rest-ends : size ≤ i → true ≡ v
   rest-ends h =
@@ -23,7 +23,7 @@ module _ {p : ℕ → Bool} {s : List ℕ} {v : Bool} {i : ℕ} (o : Rest p s v 
 
   -- x is the octet there: it passes, or fails
   module _ (h : i < size) {x : ℕ} (e : x ≡ getD s i 0) where
-    pub rest-next : p x ≡ true → Rest p s v (i + 1)
+    pub rest-next : p x ≡ true → EveryLoop p s v (i + 1)
     rest-next k = record { goes = o .goes ∙ rw (drop-one s i (rw (← z) h), ← e, k) }
 
     pub rest-fails : p x ≡ false → false ≡ v

@@ -1,4 +1,4 @@
--- What the writers of the uncompressed form do: RDATA, entries, sections, the message. Assumes nothing.
+-- What the writers of the uncompressed form do: RDATA, entries, sections, the message.
 use mathlib.Core.Path.{_≡_, refl, sym, ap, _∙_, subst}
 use mathlib.Core.Bool.{Bool, true, false, cond}
 use mathlib.Core.List.{List, [], _∷_, _++_, append-assoc}
@@ -19,7 +19,7 @@ use Rattle.records.specs.Layout as layout
 use Rattle.records.specs.Message.{Question, Record, questionForm, recordForm}
 use Rattle.records.specs.Read.{Entry, entry, bad, filled, questionAt, recordAt}
 use Rattle.records.specs.RecordLaws.{Fills, pieces-fill}
-use Rattle.records.specs.Parts.{HeadOf, headAt, withRdata, with-rdata, record-head, head-next, layoutIn, rdata-pieces, stepAt}
+use Rattle.records.specs.Parts.{HeadOf, recordHeadAt, withRdata, with-rdata, record-head, head-next, layoutIn, rdata-pieces, stepAt}
 use Rattle.records.specs.Answer.{padded, askedOf, questionRead, Asks, headRead, recordRead, Heads, stepRead}
 use Rattle.records.specs.Pieces.{breadth, layout-small}
 use Rattle.records.specs.Told.{form-part, asked, headed, tells, pieces-next}
@@ -57,10 +57,10 @@ lays-before p (lays q) = lays (then p q)
 lays-before p misses = misses
 
 -- to lay w from here is to lay the whole from the start
-pub record Rest (w whole : layout.Laid) (b₀ : List ℕ) (to : ℕ) (b : List ℕ) (next : ℕ) : Type 0 where
+pub record RdataLoop (w whole : layout.Laid) (b₀ : List ℕ) (to : ℕ) (b : List ℕ) (next : ℕ) : Type 0 where
   pub goes : (b′ : List ℕ) (r : Laid) → Lays w b next b′ r → Lays whole b₀ to b′ r
 
-pub rest-start : (w : layout.Laid) (b : List ℕ) (to : ℕ) → Rest w w b to b to
+pub rest-start : (w : layout.Laid) (b : List ℕ) (to : ℕ) → RdataLoop w w b to b to
 rest-start w b to = record { goes = λ b′ r d. d }
 
 -- what is laid from the i-th piece on
@@ -69,25 +69,25 @@ restAt s l start end at i = pieces true (drop i l) s start end at
 
 -- the whole of RDATA, from the first piece on
 pub rest-first : (s : List ℕ) (kind start size : ℕ) (b : List ℕ) (to : ℕ)
-    → Rest (restAt s (layoutIn kind size) start (start + size) start 0) (rdataAt true s kind start size) b to b to
+    → RdataLoop (restAt s (layoutIn kind size) start (start + size) start 0) (rdataAt true s kind start size) b to b to
 rest-first s kind start size b to =
     record { goes = λ b′ r d. subst (λ (w : layout.Laid). Lays w b to b′ r) (sym (rdata-pieces true s kind start size)) d }
 
 module _ (s : List ℕ) (l : List Piece) (start end at i : ℕ) {whole : layout.Laid} {b₀ b : List ℕ} {to next : ℕ} {r : Stepped}
-    (w : Rest (restAt s l start end at i) whole b₀ to b next) (e : r ≡ stepRead (stepAt (drop i l) s start end at)) where
+    (w : RdataLoop (restAt s l start end at i) whole b₀ to b next) (e : r ≡ stepRead (stepAt (drop i l) s start end at)) where
   -- a piece was written
   behind : (xs : List ℕ) (n : ℕ) {b₁ : List ℕ} {n₁ : ℕ} → restAt s l start end at i ≡ before xs (restAt s l start end n (i + 1))
-      → Wrote b next xs b₁ n₁ → Rest (restAt s l start end n (i + 1)) whole b₀ to b₁ n₁
+      → Wrote b next xs b₁ n₁ → RdataLoop (restAt s l start end n (i + 1)) whole b₀ to b₁ n₁
   behind xs n q p = record { goes = λ b′ r′ d. w .goes b′ r′ (subst (λ (x : layout.Laid). Lays x b next b′ r′) (sym q) (lays-before p d)) }
 
   -- octets as they are
   pub rest-part : {n : ℕ} {b₁ : List ℕ} {n₁ : ℕ} → r .step ≡ step.Part n → Wrote b next (part s at (n - at)) b₁ n₁
-      → Rest (restAt s l start end n (i + 1)) whole b₀ to b₁ n₁
+      → RdataLoop (restAt s l start end n (i + 1)) whole b₀ to b₁ n₁
   rest-part {n} q p = behind (part s at (n - at)) n (pieces-next s l start end at i (tells _ e q)) p
 
   -- a name
   pub rest-name : {size n : ℕ} {b₁ : List ℕ} {n₁ : ℕ} → r .step ≡ step.Name size n → Wrote b next (take (size - 0) (r .octets)) b₁ n₁
-      → Rest (restAt s l start end n (i + 1)) whole b₀ to b₁ n₁
+      → RdataLoop (restAt s l start end n (i + 1)) whole b₀ to b₁ n₁
   rest-name {size} {n} {b₁} {n₁} q p =
       let (m, x, y, z) = tells _ e q in
       behind (nameForm m) n (pieces-next s l start end at i x)
@@ -190,7 +190,7 @@ module _ (s : List ℕ) (at : ℕ) {r : QuestionRead} (e : r ≡ questionRead (q
 
 -- ---- records
 -- the record by its head and RDATA
-record-part : (s : List ℕ) (at : ℕ) (k : HeadOf) (next : ℕ) → headAt s at ≡ entry k next
+record-part : (s : List ℕ) (at : ℕ) (k : HeadOf) (next : ℕ) → recordHeadAt s at ≡ entry k next
     → partAt true s at ≡ mapped recordPart (filled (withRdata k) (k .rdata + k .rdlength) (rdataAt true s (k .type) (k .rdata) (k .rdlength)))
 unfolding partAt
 record-part s at k next e = ap (mapped recordPart) (record-head s at ∙ ap (with-rdata s) e ∙ ap (λ (i : ℕ). filled (withRdata k) i (rdataAt true s (k .type) (k .rdata) (k .rdlength))) (head-next s at k next e))
@@ -212,21 +212,21 @@ placed {b = b} {b₃ = b₃} {b₄ = b₄} {to = to} {n₂ = n₂} {n₃ = n₃}
     let v′ : Wrote b to (recordForm (withRdata k d)) b₄ n₃ = rw (append-assoc (nameForm (k .name) ++ two (k .type) ++ two (k .class) ++ four (k .ttl)) (two (length d)) d) (then (then p q) (overlay.before refl v w′)) in
     puts v′
 
-module _ (s : List ℕ) (at : ℕ) {r : RecordRead} (e : r ≡ recordRead (headAt s at)) where
+module _ (s : List ℕ) (at : ℕ) {r : RecordRead} (e : r ≡ recordRead (recordHeadAt s at)) where
   pub record-faults : {f : FaultRead} {b b′ : List ℕ} {to : ℕ} → r .answer ≡ record′.Faulty f → Puts (partAt true s at) b to b′ (gone.Faulty f)
   unfolding partAt
-  record-faults {b = b} {b′ = b′} {to = to} p = go (headed (headAt s at) e p)
+  record-faults {b = b} {b′ = b′} {to = to} p = go (headed (recordHeadAt s at) e p)
     where
-      go : {f : FaultRead} → (x : (fault : Fault) × (headAt s at ≡ bad fault) × (f ≡ faultOf fault)) → Puts (mapped recordPart (recordAt s at)) b to b′ (gone.Faulty f)
+      go : {f : FaultRead} → (x : (fault : Fault) × (recordHeadAt s at ≡ bad fault) × (f ≡ faultOf fault)) → Puts (mapped recordPart (recordAt s at)) b to b′ (gone.Faulty f)
       go (fault, u, v) = rw (record-head s at, u, v) faults
 
   module _ {h : Head} (p : r .answer ≡ record′.Read h) {b b₂ : List ℕ} {to n₂ : ℕ} {w : Laid} where
     -- RDATA has a fault
     pub record-misses : {b₃ : List ℕ} {f : FaultRead} → Lays (rdataAt true s (h .kind) (h .rdata) (h .rdlength)) b₂ n₂ b₃ w → w ≡ laying.Misfit f
         → Puts (partAt true s at) b to b₃ (gone.Faulty f)
-    record-misses {b₃} {f} d q = go (headed (headAt s at) e p) (rw q at d)
+    record-misses {b₃} {f} d q = go (headed (recordHeadAt s at) e p) (rw q at d)
       where
-        go : (x : (k : HeadOf) × (next : ℕ) × (headAt s at ≡ entry k next) × (h ≡ headRead k) × (r .name ≡ padded (nameForm (k .name))))
+        go : (x : (k : HeadOf) × (next : ℕ) × (recordHeadAt s at ≡ entry k next) × (h ≡ headRead k) × (r .name ≡ padded (nameForm (k .name))))
             → Lays (rdataAt true s (h .kind) (h .rdata) (h .rdlength)) b₂ n₂ b₃ (laying.Misfit f) → Puts (partAt true s at) b to b₃ (gone.Faulty f)
         go (k, next, u, v, l) =
             rw (record-part s at k next u)
@@ -237,7 +237,7 @@ module _ (s : List ℕ) (at : ℕ) {r : RecordRead} (e : r ≡ recordRead (headA
     pub record-puts : {b₁ b₃ b₄ : List ℕ} {n₁ n₃ n₄ : ℕ} → Wrote b to (take (h .size - 0) (r .name) ++ two (h .kind) ++ two (h .class)) b₁ n₁ → Wrote b₁ n₁ (four (h .ttl)) b₂ n₂
         → Lays (rdataAt true s (h .kind) (h .rdata) (h .rdlength)) b₂ (n₂ + 2) b₃ w → w ≡ laying.To n₃ → Wrote b₃ n₂ (two (n₃ - (n₂ + 2))) b₄ n₄
         → Puts (partAt true s at) b to b₄ (gone.To (h .rdata + h .rdlength) n₃ (h .kind))
-    record-puts {b₁} {b₃} {b₄} {n₁} {n₃} {n₄} x y d q z = go (headed (headAt s at) e p) x y (rw q at d) z
+    record-puts {b₁} {b₃} {b₄} {n₁} {n₃} {n₄} x y d q z = go (headed (recordHeadAt s at) e p) x y (rw q at d) z
       where
         Given : Head → Type 0
         Given c =
@@ -245,7 +245,7 @@ module _ (s : List ℕ) (at : ℕ) {r : RecordRead} (e : r ≡ recordRead (headA
             → Lays (rdataAt true s (c .kind) (c .rdata) (c .rdlength)) b₂ (n₂ + 2) b₃ (laying.To n₃) → Wrote b₃ n₂ (two (n₃ - (n₂ + 2))) b₄ n₄
             → Puts (partAt true s at) b to b₄ (gone.To (c .rdata + c .rdlength) n₃ (c .kind))
 
-        go : (x : (k : HeadOf) × (next : ℕ) × (headAt s at ≡ entry k next) × (h ≡ headRead k) × (r .name ≡ padded (nameForm (k .name)))) → Given h
+        go : (x : (k : HeadOf) × (next : ℕ) × (recordHeadAt s at ≡ entry k next) × (h ≡ headRead k) × (r .name ≡ padded (nameForm (k .name)))) → Given h
         go (k, next, u, v, l) =
             subst Given (sym v) (rw (record-part s at k next u) λ x y d z.
             placed k (k .rdata + k .rdlength) (rw (form-part (nameForm (k .name)) (r .name) (length (nameForm (k .name))) refl l) at x) y d z)
@@ -268,16 +268,16 @@ pub data Run : Type 0 where
   halted : ℕ → Fault → Run
 
 -- 1 for TYPE 41
-abbrev pub optOf : ℕ → ℕ
-optOf type = cond (eqb type 41) 1 0
+abbrev pub optCount : ℕ → ℕ
+optCount type = cond (eqb type 41) 1 0
 
 -- an entry before those that follow
-abbrev pub after : Part → Run → Run
-after p (ran l at n) = ran (p .form ++ l) at (optOf (p .type) + n)
-after p (halted at fault) = halted at fault
+abbrev pub partThen : Part → Run → Run
+partThen p (ran l at n) = ran (p .form ++ l) at (optCount (p .type) + n)
+partThen p (halted at fault) = halted at fault
 
 abbrev pub turned : (ℕ → Run) → ℕ → Entry Part → Run
-turned f at (entry p next) = after p (f next)
+turned f at (entry p next) = partThen p (f next)
 turned f at (bad fault) = halted at fault
 
 -- n records, or questions, from an offset on
@@ -301,13 +301,13 @@ pub comes-within : (x : Came) {end at to opts : ℕ} → Comes x end → x ≡ c
 comes-within x {end} h e = subst (λ (y : Came). Comes y end) e h
 
 -- an entry was written, and then those after it
-run-after : {k j : ℕ} (p : Part) {u : Run} {b b₁ b₂ : List ℕ} {to n : ℕ} {r : Came} → Wrote b to (p .form) b₁ n → j ≡ k + optOf (p .type)
-    → Runs j u b₁ n b₂ r → Runs k (after p u) b to b₂ r
-run-after p w e (runs {n = i} {m = m} {r = r} q v) = runs {n = optOf (p .type) + i} {m = m} {r = r} (omega (arith, e, q)) (then w v)
+run-after : {k j : ℕ} (p : Part) {u : Run} {b b₁ b₂ : List ℕ} {to n : ℕ} {r : Came} → Wrote b to (p .form) b₁ n → j ≡ k + optCount (p .type)
+    → Runs j u b₁ n b₂ r → Runs k (partThen p u) b to b₂ r
+run-after p w e (runs {n = i} {m = m} {r = r} q v) = runs {n = optCount (p .type) + i} {m = m} {r = r} (omega (arith, e, q)) (then w v)
 run-after p w e halts = halts
 
 runs-after : {x : Entry Part} (f : ℕ → Run) (at : ℕ) {b b₁ b₂ : List ℕ} {to n next kind k j : ℕ} {r : Came} → Puts x b to b₁ (gone.To next n kind)
-    → j ≡ k + optOf kind → Runs j (f next) b₁ n b₂ r → Runs k (turned f at x) b to b₂ r
+    → j ≡ k + optCount kind → Runs j (f next) b₁ n b₂ r → Runs k (turned f at x) b to b₂ r
 runs-after f at (puts {p = p} w) e d = run-after p w e d
 
 runs-stop : {x : Entry Part} (f : ℕ → Run) {b b₁ : List ℕ} {to at k : ℕ} {g : FaultRead} → Puts x b to b₁ (gone.Faulty g) → Runs k (turned f at x) b to b₁ (came.Stopped at g)
@@ -333,38 +333,38 @@ module _ (records : Bool) (s : List ℕ) (left at : ℕ) {k next to : ℕ} {whol
 
   module _ {x : Gone} {b₁ : List ℕ} (h : 0 < left) (p : Puts (partAt records s at) b next b₁ x) where
     -- one more entry
-    pub onward-more : {j behind n kind : ℕ} → x ≡ gone.To behind n kind → j ≡ k + optOf kind → Onward j (sectionRun records s (left - 1) behind) whole b₀ to b₁ n
+    pub onward-more : {j behind n kind : ℕ} → x ≡ gone.To behind n kind → j ≡ k + optCount kind → Onward j (sectionRun records s (left - 1) behind) whole b₀ to b₁ n
     onward-more q e = record { goes = λ b′ r d. w .goes b′ r (rw (section-next records s left at h) (runs-after (λ i. sectionRun records s (left - 1) i) at (rw q at p) e d)) }
 
     -- a faulty one
     pub onward-stop : {g : FaultRead} → x ≡ gone.Faulty g → Runs 0 whole b₀ to b₁ (came.Stopped at g)
     onward-stop {g} q = w .goes b₁ (came.Stopped at g) (rw (section-next records s left at h) (runs-stop (λ i. sectionRun records s (left - 1) i) (rw q at p)))
 
-pub opt-yes : (kind : ℕ) → kind ≡ 41 → 1 ≡ optOf kind
+pub opt-yes : (kind : ℕ) → kind ≡ 41 → 1 ≡ optCount kind
 opt-yes kind e = rw e
 
-pub opt-no : (kind : ℕ) → (kind ≡ 41 → ⊥) → 0 ≡ optOf kind
+pub opt-no : (kind : ℕ) → (kind ≡ 41 → ⊥) → 0 ≡ optCount kind
 opt-no kind h = rw (ne-eqb kind 41 h)
 
 -- ---- the message
 -- octets before a run, and one run after another, of which the last one's count stays
-abbrev pub joined : List ℕ → Run → Run
-joined l (ran m at n) = ran (l ++ m) at n
-joined l (halted at fault) = halted at fault
+abbrev pub octetsThen : List ℕ → Run → Run
+octetsThen l (ran m at n) = ran (l ++ m) at n
+octetsThen l (halted at fault) = halted at fault
 
 abbrev pub chained : Run → (ℕ → Run) → Run
-chained (ran l at n) f = joined l (f at)
+chained (ran l at n) f = octetsThen l (f at)
 chained (halted at fault) f = halted at fault
 
 -- the header's octets, and the sections by its counts
 unfoldable pub messageRun : List ℕ → Run
 messageRun s =
-    joined (take 12 s)
+    octetsThen (take 12 s)
     (chained (sectionRun false s (twoAt s 4) 12) λ a.
     chained (sectionRun true s (twoAt s 6) a) λ b.
     chained (sectionRun true s (twoAt s 8) b) λ c. sectionRun true s (twoAt s 10) c)
 
-runs-join : {k : ℕ} {l b b₁ b₂ : List ℕ} {to n : ℕ} {u : Run} {r : Came} → Wrote b to l b₁ n → Runs k u b₁ n b₂ r → Runs k (joined l u) b to b₂ r
+runs-join : {k : ℕ} {l b b₁ b₂ : List ℕ} {to n : ℕ} {u : Run} {r : Came} → Wrote b to l b₁ n → Runs k u b₁ n b₂ r → Runs k (octetsThen l u) b to b₂ r
 runs-join p (runs {n = i} {m = m} {r = r} q v) = runs {n = i} {m = m} {r = r} q (then p v)
 runs-join p halts = halts
 

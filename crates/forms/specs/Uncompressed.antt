@@ -1,4 +1,4 @@
--- What `uncompress` answers and leaves, and how it follows from the run over the message. Assumes nothing.
+-- What `uncompress` answers and leaves, and how it follows from the run over the message.
 use mathlib.Core.Path.{_≡_, refl, sym, ap, ap₂, _∙_, subst}
 use mathlib.Core.Bool.{Bool, true, false, cond}
 use mathlib.Core.List.{List, [], _∷_, _++_, append-assoc}
@@ -12,15 +12,15 @@ use Rattle.octets.specs.Lists.{each, count}
 use Rattle.octets.specs.Fields.{two, twoAt, two-same, empty}
 use Rattle.octets.specs.Overlay.{Wrote, overlay-first}
 use Rattle.octets.specs.Answer.{overwritten}
-use Rattle.names.specs.Name.{Fault, number}
-use Rattle.names.specs.Answer.{faultOf, numberOf, number-same}
+use Rattle.names.specs.Name.{Fault, refusalNumber}
+use Rattle.names.specs.Answer.{faultOf, faultNumber, number-same}
 use Rattle.names.specs.declared.Fault.{Fault as FaultRead}
 use Rattle.records.specs.Message.{questionForm, recordForm, headerForm, form, opt?}
 use Rattle.records.specs.Read.{Entry, entry, bad, questionAt, recordAt, Reached, reached, stopped, sectionAt, sectionFrom}
-use Rattle.records.specs.Decode.{headerOf, zOf, sectionsOf, messageOf, Decoded, accepted, refused, decode}
+use Rattle.records.specs.Decode.{headerOf, zOf, sectionsOf, messageRead, Decoded, accepted, refused, decode}
 use Rattle.records.specs.MessageLaws.{section-step, section-stop}
 use Rattle.records.specs.Kept.{header-same}
-use Rattle.forms.specs.Putting.{Part, mapped, questionPart, recordPart, partAt, Run, ran, halted, after, turned, sectionRun, Runs, runs, halts, joined, chained, messageRun}
+use Rattle.forms.specs.Putting.{Part, mapped, questionPart, recordPart, partAt, Run, ran, halted, partThen, turned, sectionRun, Runs, runs, halts, octetsThen, chained, messageRun}
 use Rattle.forms.specs.declared.Came.{Came}
 use Rattle.forms.specs.declared.Came.the-variants as came
 use Rattle.octets.specs.declared.Outcome.the-variants as outcome
@@ -48,7 +48,7 @@ runOf f l (reached at) = ran (each (λ a. f a .form) l) at (count (λ a. eqb (f 
 runOf f l (stopped at fault) = halted at fault
 
 -- one entry more
-run-more : {A : Type 0} (f : A → Part) (a : A) (l : List A) (w : Reached) → after (f a) (runOf f l w) ≡ runOf f (a ∷ l) w
+run-more : {A : Type 0} (f : A → Part) (a : A) (l : List A) (w : Reached) → partThen (f a) (runOf f l w) ≡ runOf f (a ∷ l) w
 unfolding each
 run-more f a l (reached at) = ap (ran (f a .form ++ each (λ b. f b .form) l) at) (go (eqb (f a .type) 41) (count (λ b. eqb (f b .type) 41) l))
   where
@@ -73,7 +73,7 @@ abbrev onto : Reached → (ℕ → Run) → Run
 onto (reached at) f = f at
 onto (stopped at fault) f = halted at fault
 
-chained-run : {A : Type 0} (f : A → Part) (l : List A) (w : Reached) (g : ℕ → Run) → chained (runOf f l w) g ≡ joined (each (λ a. f a .form) l) (onto w g)
+chained-run : {A : Type 0} (f : A → Part) (l : List A) (w : Reached) (g : ℕ → Run) → chained (runOf f l w) g ≡ octetsThen (each (λ a. f a .form) l) (onto w g)
 chained-run f l (reached at) g = refl
 chained-run f l (stopped at fault) g = refl
 
@@ -97,14 +97,14 @@ module _ (s : List ℕ) where
 
   -- a section after another, and what follows it
   from-chained : (n : ℕ) (w : Reached) (g : ℕ → Run) → onto w (λ a. chained (sectionRun true s n a) g)
-      ≡ joined (each recordForm (sectionFrom recordAt s n w .entries)) (onto (sectionFrom recordAt s n w .end) g)
+      ≡ octetsThen (each recordForm (sectionFrom recordAt s n w .entries)) (onto (sectionFrom recordAt s n w .end) g)
   from-chained n w g =
       onto-chained w (λ a. sectionRun true s n a) g ∙ ap (λ (u : Run). chained u g) (from-run n w)
       ∙ chained-run recordPart (sectionFrom recordAt s n w .entries) (sectionFrom recordAt s n w .end) g
 
   -- the run over the message, by its sections
-  message-run : messageRun s ≡ joined (take 12 s) (joined (each questionForm (sectionsOf s .questions .entries)) (joined (each recordForm (sectionsOf s .answers .entries))
-      (joined (each recordForm (sectionsOf s .authority .entries)) (runOf recordPart (sectionsOf s .additional .entries) (sectionsOf s .additional .end)))))
+  message-run : messageRun s ≡ octetsThen (take 12 s) (octetsThen (each questionForm (sectionsOf s .questions .entries)) (octetsThen (each recordForm (sectionsOf s .answers .entries))
+      (octetsThen (each recordForm (sectionsOf s .authority .entries)) (runOf recordPart (sectionsOf s .additional .entries) (sectionsOf s .additional .end)))))
   unfolding messageRun sectionsOf
   message-run =
       let q = sectionAt questionAt s (twoAt s 4) 12 in
@@ -113,14 +113,14 @@ module _ (s : List ℕ) where
       let f₄ : ℕ → Run = λ i. sectionRun true s (twoAt s 10) i in
       let f₃ : ℕ → Run = λ i. chained (sectionRun true s (twoAt s 8) i) f₄ in
       let f₂ : ℕ → Run = λ i. chained (sectionRun true s (twoAt s 6) i) f₃ in
-      ap (joined (take 12 s))
+      ap (octetsThen (take 12 s))
       (ap (λ (u : Run). chained u f₂) (section-run questionAt questionPart false s questions-same (twoAt s 4) 12)
       ∙ chained-run questionPart (q .entries) (q .end) f₂
-      ∙ ap (joined (each questionForm (q .entries)))
+      ∙ ap (octetsThen (each questionForm (q .entries)))
       (from-chained (twoAt s 6) (q .end) f₃
-      ∙ ap (joined (each recordForm (a .entries)))
+      ∙ ap (octetsThen (each recordForm (a .entries)))
       (from-chained (twoAt s 8) (a .end) f₄
-      ∙ ap (joined (each recordForm (n .entries))) (from-run (twoAt s 10) (n .end)))))
+      ∙ ap (octetsThen (each recordForm (n .entries))) (from-run (twoAt s 10) (n .end)))))
 
 -- ---- the answer by the run
 -- the parts of a run
@@ -149,11 +149,11 @@ halted≢ran e = subst Ran (sym e) tt
 
 module _ (s : List ℕ) (small : length s ≤ 65535) (room : 12 ≤ length s) (clear : zOf s ≡ 1 → ⊥) where
   decode-reached : (i : ℕ) → sectionsOf s .additional .end ≡ reached i
-      → decode s ≡ cond (ltb i (length s)) (refused 8 i) (cond (ltb 65535 (length (form (messageOf s)))) (refused 9 0) (accepted (messageOf s)))
+      → decode s ≡ cond (ltb i (length s)) (refused 8 i) (cond (ltb 65535 (length (form (messageRead s)))) (refused 9 0) (accepted (messageRead s)))
   unfolding decode
   decode-reached i e = rw (le-ltb 65535 (length s) small, le-ltb (length s) 12 room, ne-eqb (zOf s) 1 clear, e, decode)
 
-  decode-stopped : (i : ℕ) (fault : Fault) → sectionsOf s .additional .end ≡ stopped i fault → decode s ≡ refused (number (fault .kind)) i
+  decode-stopped : (i : ℕ) (fault : Fault) → sectionsOf s .additional .end ≡ stopped i fault → decode s ≡ refused (refusalNumber (fault .kind)) i
   unfolding decode
   decode-stopped i fault e = rw (le-ltb 65535 (length s) small, le-ltb (length s) 12 room, ne-eqb (zOf s) 1 clear, e, decode)
 
@@ -167,23 +167,23 @@ module _ (s : List ℕ) (small : length s ≤ 65535) (room : 12 ≤ length s) (c
   run-reached j q = message-run s ∙ rw q
 
   -- reading met a fault
-  decode-halted : (i : ℕ) (fault : Fault) → messageRun s ≡ halted i fault → decode s ≡ refused (number (fault .kind)) i
+  decode-halted : (i : ℕ) (fault : Fault) → messageRun s ≡ halted i fault → decode s ≡ refused (refusalNumber (fault .kind)) i
   decode-halted i fault e = go (sectionsOf s .additional .end) refl
     where
-      go : (w : Reached) → sectionsOf s .additional .end ≡ w → decode s ≡ refused (number (fault .kind)) i
+      go : (w : Reached) → sectionsOf s .additional .end ≡ w → decode s ≡ refused (refusalNumber (fault .kind)) i
       go (reached j) q = absurd (halted≢ran (sym e ∙ run-reached j q))
       go (stopped j other) q =
           let same : halted i fault ≡ halted j other = sym e ∙ run-stopped j other q in
-          decode-stopped j other q ∙ ap₂ (λ (f : Fault) (k : ℕ). refused (number (f .kind)) k) (sym (ap (faultIn fault) same)) (sym (ap offsetOf same))
+          decode-stopped j other q ∙ ap₂ (λ (f : Fault) (k : ℕ). refused (refusalNumber (f .kind)) k) (sym (ap (faultIn fault) same)) (sym (ap offsetOf same))
 
   -- all entries were read
   pub record Whole (l : List ℕ) (i n : ℕ) : Type 0 where
-    pub same : form (messageOf s) ≡ l
-    pub opts : count opt? (messageOf s .additional) ≡ n
-    pub gives : decode s ≡ cond (ltb i (length s)) (refused 8 i) (cond (ltb 65535 (length l)) (refused 9 0) (accepted (messageOf s)))
+    pub same : form (messageRead s) ≡ l
+    pub opts : count opt? (messageRead s .additional) ≡ n
+    pub gives : decode s ≡ cond (ltb i (length s)) (refused 8 i) (cond (ltb 65535 (length l)) (refused 9 0) (accepted (messageRead s)))
 
   decode-ran : ((j : ℕ) → getD s j 0 < 256) → (l : List ℕ) (i n : ℕ) → messageRun s ≡ ran l i n → Whole l i n
-  unfolding form messageOf
+  unfolding form messageRead
   decode-ran o l i n e = go (sectionsOf s .additional .end) refl
     where
       go : (w : Reached) → sectionsOf s .additional .end ≡ w → Whole l i n
@@ -195,13 +195,13 @@ module _ (s : List ℕ) (small : length s ≤ 65535) (room : 12 ≤ length s) (c
           let c = each recordForm (sectionsOf s .authority .entries) in
           let d = each recordForm (sectionsOf s .additional .entries) in
           let run : ran l i n ≡ ran (h ++ (a ++ (b ++ (c ++ d)))) j (count opt? (sectionsOf s .additional .entries)) = sym e ∙ run-reached j q in
-          let text : form (messageOf s) ≡ l =
+          let text : form (messageRead s) ≡ l =
           ap (λ (x : List ℕ). x ++ a ++ b ++ c ++ d) (header-same s j o room clear q)
           ∙ append-assoc (h ++ a ++ b) c d ∙ append-assoc (h ++ a) b (c ++ d) ∙ append-assoc h a (b ++ (c ++ d)) ∙ sym (ap textOf run) in
           record {
             same = text;
             opts = sym (ap countOf run);
-            gives = decode-reached j q ∙ ap₂ (λ (k : ℕ) (x : List ℕ). cond (ltb k (length s)) (refused 8 k) (cond (ltb 65535 (length x)) (refused 9 0) (accepted (messageOf s)))) (sym (ap offsetOf run)) text;
+            gives = decode-reached j q ∙ ap₂ (λ (k : ℕ) (x : List ℕ). cond (ltb k (length s)) (refused 8 k) (cond (ltb 65535 (length x)) (refused 9 0) (accepted (messageRead s)))) (sym (ap offsetOf run)) text;
           }
 
 -- ---- the call's ways
@@ -244,11 +244,11 @@ module _ (s b e : List ℕ) (o : (j : ℕ) → getD s j 0 < 256) (small : length
   same-buffer = ap (λ (y : List ℕ). y ++ b) (empty e z)
 
   -- an entry has a fault
-  pub at-fault : {at k : ℕ} {g : FaultRead} {r : Scan} → x ≡ came.Stopped at g → k ≡ numberOf g → r ≡ scanOf (refused k at) → Uncompressed s b r (e ++ b)
+  pub at-fault : {at k : ℕ} {g : FaultRead} {r : Scan} → x ≡ came.Stopped at g → k ≡ faultNumber g → r ≡ scanOf (refused k at) → Uncompressed s b r (e ++ b)
   at-fault {at} {k} q i p =
       let (fault, u, v) = told-halted (rw q at d) in
-      refusing (number (fault .kind)) at (decode-halted s small room clear at fault u)
-      (p ∙ ap (λ (n : ℕ). scanOf (refused n at)) (i ∙ ap numberOf v ∙ number-same (fault .kind) (fault .octet))) same-buffer
+      refusing (refusalNumber (fault .kind)) at (decode-halted s small room clear at fault u)
+      (p ∙ ap (λ (n : ℕ). scanOf (refused n at)) (i ∙ ap faultNumber v ∙ number-same (fault .kind) (fault .octet))) same-buffer
 
   module _ {at size m : ℕ} (q : x ≡ came.To at size m) where
     -- octets after the last record
@@ -274,7 +274,7 @@ module _ (s b e : List ℕ) (o : (j : ℕ) → getD s j 0 < 256) (small : length
             let i : length l ≤ 65535 = omega arith in
             let c : m ≡ n = omega arith in
             let j : size ≡ length l = omega arith in
-            let g : decode s ≡ accepted (messageOf s) = y .gives ∙ rw (le-ltb at (length s) h, le-ltb 65535 (length l) i) in
+            let g : decode s ≡ accepted (messageRead s) = y .gives ∙ rw (le-ltb at (length s) h, le-ltb 65535 (length l) i) in
             record {
               answers = ap₂ (λ (a c : ℕ). record { outcome = outcome.Length a; opts = c }) (j ∙ ap length (sym (y .same))) (c ∙ sym (y .opts)) ∙ ap scanOf (sym g);
               leaves = f ∙ ap (λ (t : List ℕ). cond (leb (length t) (length b)) (overwritten t b) b) (sym (y .same)) ∙ ap (λ (t : Decoded). leftOf t b) (sym g);

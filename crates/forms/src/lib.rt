@@ -19,10 +19,10 @@ ghost use mathlib.Core.List.{_++_};
 ghost use lib.ListN.{length};
 ghost use Rattle.octets.specs.Fields.{two};
 ghost use Rattle.octets.specs.Overlay.{Wrote};
-ghost use Rattle.names.specs.Answer.{numberOf};
+ghost use Rattle.names.specs.Answer.{faultNumber};
 ghost use Rattle.records.specs.Layout.{rdataAt};
 ghost use Rattle.records.specs.Decode.{refused};
-ghost use Rattle.forms.specs.Putting.{Lays, Laying, partAt, Puts, Goes, optOf, sectionRun, Runs, Comes, messageRun};
+ghost use Rattle.forms.specs.Putting.{Lays, Laying, partAt, Puts, Goes, optCount, sectionRun, Runs, Comes, messageRun};
 ghost use Rattle.forms.specs.Uncompressed.{scanOf, Uncompressed};
 
 // The next place of the form, or RDATA's fault.
@@ -108,7 +108,7 @@ fn put_question(s: &[u8], at: usize, out: &mut [u8], to: usize) -> Gone
     }
 }
 
-// Writes the record at an offset: RDATA two octets further on, and then its length in front of it.
+// Writes the record at an offset: RDATA two octets further on, and then its length before it.
 fn put_record(s: &[u8], at: usize, out: &mut [u8], to: usize) -> Gone
     requires { ⌜ (length (now s) ≤ 65535) × (at ≤ length (now s)) × (to ≤ 255 * at) ⌝ }
     ensures { λ r. ⌜ Puts (partAt true (now (s .entry)) at) (now (out .entry)) to (now (out .exit)) r ⌝ }
@@ -149,7 +149,7 @@ fn put_entry(s: &[u8], records: bool, at: usize, out: &mut [u8], to: usize) -> G
 
 // 1 for TYPE 41, else 0.
 fn opt_of(kind: u32) -> usize
-    ensures { λ r. ⌜ r ≡ optOf kind ⌝ }
+    ensures { λ r. ⌜ r ≡ optCount kind ⌝ }
     ensures { λ r. ⌜ r ≤ 1 ⌝ }
 {
     if kind == 41 {
@@ -223,7 +223,7 @@ fn refuse(number: u32, place: usize) -> Scan
 
 // Document 01's number of a fault.
 fn number_of(fault: Fault) -> u32
-    ensures { λ r. ⌜ r ≡ numberOf fault ⌝ }
+    ensures { λ r. ⌜ r ≡ faultNumber fault ⌝ }
 {
     match fault {
         Fault::Cut(_) => 1,

@@ -1,4 +1,4 @@
--- One hexadecimal digit, and octets spelled by `octets::put_hex` read back. Assumes nothing.
+-- One hexadecimal digit, and octets spelled by `octets::put_hex` read back.
 use mathlib.Core.Path.{_≡_, refl, sym, _∙_, subst}
 use mathlib.Core.Bool.{Bool, true, false, cond, _&&_}
 use mathlib.Core.Option.{Option, none, some}
@@ -11,7 +11,7 @@ use Rattle.octets.specs.Bits.{and-left, and-right}
 use Rattle.octets.specs.Decimal.{digit?}
 use Rattle.octets.specs.Hexadecimal.{capital?, hexOf, hexDigit, hexOctet}
 use Rattle.octets.specs.Lists.{Octets, each}
-use Rattle.hex_lines.specs.Hex.{small?, hexValue, unhexed, valueOr16}
+use Rattle.hex_lines.specs.Hex.{below16?, hexValue, unhexed, valueOr16}
 
 -- ---- the ways through the ranges
 module _ (c : ℕ) where
@@ -63,9 +63,9 @@ in-range low high c e =
 
 pub hexValue-digit : (c : ℕ) → Digit (hexValue c)
 unfolding hexValue
-hexValue-digit c = go (digit? c) (capital? c) (small? c) refl refl refl
+hexValue-digit c = go (digit? c) (capital? c) (below16? c) refl refl refl
   where
-    go : (a b d : Bool) → digit? c ≡ a → capital? c ≡ b → small? c ≡ d
+    go : (a b d : Bool) → digit? c ≡ a → capital? c ≡ b → below16? c ≡ d
         → Digit (cond a (some (c - 48)) (cond b (some (c - 55)) (cond d (some (c - 87)) none)))
     go true b d p q r = let h = in-range 48 58 c p in digit {v = c - 48} (omega arith)
     go false true d p q r = let h = in-range 65 71 c q in digit {v = c - 55} (omega arith)

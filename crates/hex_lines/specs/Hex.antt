@@ -1,4 +1,4 @@
--- A line in hexadecimal, in the words of document 01, and what `unhex` promises. Assumes nothing.
+-- A line in hexadecimal, in the words of document 01, and what `unhex` promises.
 use mathlib.Core.Path.{_≡_}
 use mathlib.Core.Bool.{Bool, cond, _&&_}
 use mathlib.Core.Option.{Option, none, some}
@@ -14,25 +14,25 @@ use Rattle.hex_lines.specs.declared.Hex.{Hex}
 use Rattle.hex_lines.specs.declared.Hex.the-variants.{Octets, Bad}
 
 -- a digit from a to f
-abbrev pub small? : ℕ → Bool
-small? c = leb 97 c && ltb c 103
+abbrev pub below16? : ℕ → Bool
+below16? c = leb 97 c && ltb c 103
 
 -- the value of a digit in either letter case
 unfoldable pub hexValue : ℕ → Option ℕ
-hexValue c = cond (digit? c) (some (c - 48)) (cond (capital? c) (some (c - 55)) (cond (small? c) (some (c - 87)) none))
+hexValue c = cond (digit? c) (some (c - 48)) (cond (capital? c) (some (c - 55)) (cond (below16? c) (some (c - 87)) none))
 
 -- the octet of two digits, before the octets of the others
-abbrev pub joined : Option ℕ → Option ℕ → Option (List ℕ) → Option (List ℕ)
-joined (some high) (some low) (some octets) = some ((high * 16 + low) ∷ octets)
-joined (some high) (some low) none = none
-joined (some high) none octets = none
-joined none low octets = none
+abbrev pub octetThen : Option ℕ → Option ℕ → Option (List ℕ) → Option (List ℕ)
+octetThen (some high) (some low) (some octets) = some ((high * 16 + low) ∷ octets)
+octetThen (some high) (some low) none = none
+octetThen (some high) none octets = none
+octetThen none low octets = none
 
 -- the octets of a line of digits, two digits an octet; an odd number of digits or a non-digit has none
 unfoldable pub unhexed : List ℕ → Option (List ℕ)
 unhexed [] = some []
 unhexed (c ∷ []) = none
-unhexed (c ∷ d ∷ line) = joined (hexValue c) (hexValue d) (unhexed line)
+unhexed (c ∷ d ∷ line) = octetThen (hexValue c) (hexValue d) (unhexed line)
 
 -- ---- what `unhex` does
 -- the number of octets, or that there are none
@@ -50,9 +50,9 @@ pub record Unhexed (line before : List ℕ) (answer : Hex) (after : List ℕ) : 
   pub leaves : after ≡ hexLeft (unhexed line) before
 
 -- the number is within the buffer
-abbrev pub Within : Hex → ℕ → Type 0
-Within (Octets n) size = n ≤ size
-Within Bad size = Unit {0}
+abbrev pub OctetsWithin : Hex → ℕ → Type 0
+OctetsWithin (Octets n) size = n ≤ size
+OctetsWithin Bad size = Unit {0}
 
 -- ---- what the functions below it do
 -- a digit's value, 16 for a non-digit
@@ -65,6 +65,6 @@ unfoldable pub hex? : List ℕ → Bool
 hex? line = present? (unhexed line)
 
 -- its octets; none where it isn't hexadecimal
-abbrev pub octetsOf : Option (List ℕ) → List ℕ
-octetsOf (some octets) = octets
-octetsOf none = []
+abbrev pub octetsFound : Option (List ℕ) → List ℕ
+octetsFound (some octets) = octets
+octetsFound none = []

@@ -1,4 +1,4 @@
--- The steps of reading a line of digits, and what follows of what `unhex` promises. Assumes nothing.
+-- The steps of reading a line of digits, and what follows of what `unhex` promises.
 use mathlib.Core.Path.{_≡_, refl, sym, ap, _∙_, subst}
 use mathlib.Core.Bool.{Bool, true, false, false≢true}
 use mathlib.Core.Option.{Option, none, some}
@@ -13,8 +13,8 @@ use lib.Seq.{drop-cons, take-append-seam}
 use Rattle.octets.specs.Lists.{present?}
 use Rattle.octets.specs.Lists as lists
 use Rattle.octets.specs.Overlay.{overlay, Wrote, then, nothing, overlay-first}
-use Rattle.hex_lines.specs.Hex.{hexValue, joined, unhexed, hexAnswer, hexLeft, Unhexed, Within, valueOr16, hex?}
-use Rattle.hex_lines.specs.Hex.{octetsOf}
+use Rattle.hex_lines.specs.Hex.{hexValue, octetThen, unhexed, hexAnswer, hexLeft, Unhexed, OctetsWithin, valueOr16, hex?}
+use Rattle.hex_lines.specs.Hex.{octetsFound}
 use Rattle.hex_lines.specs.Digits.{Digit, digit, other, hexValue-digit, is-digit, no-digit}
 use Rattle.hex_lines.specs.declared.Hex.{Hex}
 use Rattle.hex_lines.specs.declared.Hex.the-variants.{Octets, Bad}
@@ -26,15 +26,15 @@ drop-two s i h =
     rw (e, add-one, drop-cons s i 0 (omega arith)) (ap (λ l. getD s i 0 ∷ l) (drop-cons s (suc i) 0 (omega arith)))
 
 -- what follows two digits
-rest-of : (o : Option (List ℕ)) (v w : ℕ) → present? (joined (some v) (some w) o) ≡ present? o
+rest-of : (o : Option (List ℕ)) (v w : ℕ) → present? (octetThen (some v) (some w) o) ≡ present? o
 rest-of (some l) v w = refl
 rest-of none v w = refl
 
 -- a line that is not hexadecimal: a non-digit, first or second
-none-left : (l o : Option ℕ) (r : Option (List ℕ)) → l ≡ none → joined l o r ≡ none
+none-left : (l o : Option ℕ) (r : Option (List ℕ)) → l ≡ none → octetThen l o r ≡ none
 none-left l o r e = rw e
 
-none-right : (l o : Option ℕ) (r : Option (List ℕ)) → o ≡ none → joined l o r ≡ none
+none-right : (l o : Option ℕ) (r : Option (List ℕ)) → o ≡ none → octetThen l o r ≡ none
 none-right (some v) o r e = rw e
 none-right none o r e = refl
 
@@ -79,12 +79,12 @@ looked-end {s} {i} p h k = go (drop i s) refl (length-drop i s)
 
 -- ---- writing the octets
 -- what is written for the rest makes the whole
-pub record Rest (s b₀ b : List ℕ) (to i : ℕ) : Type 0 where
+pub record HexLoop (s b₀ b : List ℕ) (to i : ℕ) : Type 0 where
   pub good : hex? (drop i s) ≡ true
-  pub goes : {b′ : List ℕ} {r : ℕ} → Wrote b to (octetsOf (unhexed (drop i s))) b′ r
-      → Wrote b₀ 0 (octetsOf (unhexed s)) b′ r
+  pub goes : {b′ : List ℕ} {r : ℕ} → Wrote b to (octetsFound (unhexed (drop i s))) b′ r
+      → Wrote b₀ 0 (octetsFound (unhexed s)) b′ r
 
-pub rest-start : (s b : List ℕ) → hex? s ≡ true → Rest s b b 0 0
+pub rest-start : (s b : List ℕ) → hex? s ≡ true → HexLoop s b b 0 0
 rest-start s b e = record { good = e; goes = λ w. w }
 
 -- one store
@@ -94,12 +94,12 @@ stored b at x = record { place = refl; text = refl }
 
 -- the octets of a line of digits, by its first two
 octets-step : (o : Option (List ℕ)) (v w : ℕ) → present? o ≡ true
-    → octetsOf (joined (some v) (some w) o) ≡ (v * 16 + w) ∷ octetsOf o
+    → octetsFound (octetThen (some v) (some w) o) ≡ (v * 16 + w) ∷ octetsFound o
 octets-step (some l) v w e = refl
 octets-step none v w e = absurd (false≢true e)
 
 -- each part of such a line is good
-goods : (l o : Option ℕ) (r : Option (List ℕ)) → present? (joined l o r) ≡ true
+goods : (l o : Option ℕ) (r : Option (List ℕ)) → present? (octetThen l o r) ≡ true
     → (present? l ≡ true) × (present? o ≡ true) × (present? r ≡ true)
 goods (some v) (some w) (some l) e = (refl, refl, refl)
 goods (some v) (some w) none e = absurd (false≢true e)
@@ -110,7 +110,7 @@ digit-below : (o : Option ℕ) → Digit o → present? o ≡ true → valueOr16
 digit-below (some v) (digit h) e = h
 digit-below none other e = absurd (false≢true e)
 
-module _ {s b₀ b : List ℕ} {to i : ℕ} (p : Rest s b₀ b to i) (h : 2 ≤ length s - i) where
+module _ {s b₀ b : List ℕ} {to i : ℕ} (p : HexLoop s b₀ b to i) (h : 2 ≤ length s - i) where
   two-good : (present? (hexValue (getD s i 0)) ≡ true)
       × (present? (hexValue (getD s (i + 1) 0)) ≡ true)
       × (present? (unhexed (drop (i + 2) s)) ≡ true)
@@ -127,22 +127,22 @@ module _ {s b₀ b : List ℕ} {to i : ℕ} (p : Rest s b₀ b to i) (h : 2 ≤ 
 
   -- one octet
   pub rest-more : {v w : ℕ} → v ≡ valueOr16 (hexValue (getD s i 0)) → w ≡ valueOr16 (hexValue (getD s (i + 1) 0))
-      → Rest s b₀ (set b to (v * 16 + w)) (to + 1) (i + 2)
+      → HexLoop s b₀ (set b to (v * 16 + w)) (to + 1) (i + 2)
   unfolding hex? unhexed
   rest-more {v} {w} d e =
       let r = two-good .2 in
-      let o : octetsOf (unhexed (drop i s)) ≡ (v * 16 + w) ∷ octetsOf (unhexed (drop (i + 2) s)) =
+      let o : octetsFound (unhexed (drop i s)) ≡ (v * 16 + w) ∷ octetsFound (unhexed (drop (i + 2) s)) =
       rw (drop-two s i h, is-digit _ d (first-below d), is-digit _ e (second-below e))
       (octets-step (unhexed (drop (i + 2) s)) v w r) in
       record { good = r; goes = λ z. p .goes (rw o (then (stored b to (v * 16 + w)) z)) }
 
 -- the end
-pub rest-end : {s b₀ b : List ℕ} {to i : ℕ} → Rest s b₀ b to i → length s - i < 2
-    → Wrote b₀ 0 (octetsOf (unhexed s)) b to
+pub rest-end : {s b₀ b : List ℕ} {to i : ℕ} → HexLoop s b₀ b to i → length s - i < 2
+    → Wrote b₀ 0 (octetsFound (unhexed s)) b to
 unfolding hex? unhexed
 rest-end {s} {b₀} {b} {to} {i} p h = go (drop i s) refl (length-drop i s)
   where
-    go : (l : List ℕ) → drop i s ≡ l → length l ≡ length s - i → Wrote b₀ 0 (octetsOf (unhexed s)) b to
+    go : (l : List ℕ) → drop i s ≡ l → length l ≡ length s - i → Wrote b₀ 0 (octetsFound (unhexed s)) b to
     go [] e n = p .goes (rw e (nothing b to))
     go (c ∷ []) e n = p .goes (rw e (nothing b to))
     go (c ∷ d ∷ l) e n = absurd (omega arith)
@@ -157,12 +157,12 @@ module _ {s b : List ℕ} where
       go (some l) q e = absurd (false≢true (sym e))
       go none q e = record { answers = rw q; leaves = rw q }
 
-  pub unhexed-good : {b′ : List ℕ} {n : ℕ} → hex? s ≡ true → n ≤ length b → Wrote b 0 (octetsOf (unhexed s)) b′ n
+  pub unhexed-good : {b′ : List ℕ} {n : ℕ} → hex? s ≡ true → n ≤ length b → Wrote b 0 (octetsFound (unhexed s)) b′ n
       → Unhexed s b (Octets n) b′
   unfolding hex?
   unhexed-good {b′} {n} e h w = go (unhexed s) refl e w
     where
-      go : (o : Option (List ℕ)) → unhexed s ≡ o → present? o ≡ true → Wrote b 0 (octetsOf o) b′ n
+      go : (o : Option (List ℕ)) → unhexed s ≡ o → present? o ≡ true → Wrote b 0 (octetsFound o) b′ n
           → Unhexed s b (Octets n) b′
       go (some l) q e w =
           let k : n ≡ length l = omega (arith, w .place) in
@@ -174,7 +174,7 @@ abbrev AllOctets : Option (List ℕ) → Type 0
 AllOctets (some l) = lists.Octets l
 AllOctets none = Unit {0}
 
-joined-octets : (v w : Option ℕ) (o : Option (List ℕ)) → Digit v → Digit w → AllOctets o → AllOctets (joined v w o)
+joined-octets : (v w : Option ℕ) (o : Option (List ℕ)) → Digit v → Digit w → AllOctets o → AllOctets (octetThen v w o)
 joined-octets (some v) (some w) (some l) (digit h) (digit k) p = (omega arith, p)
 joined-octets (some v) (some w) none d e p = tt
 joined-octets (some v) none o d e p = tt
@@ -189,7 +189,7 @@ unhexed-octets (c ∷ d ∷ s) =
 
 -- ---- what follows of the answer
 -- a number of octets is within the buffer
-pub within : (a : Hex) {n size : ℕ} → Within a size → a ≡ Octets n → n ≤ size
+pub within : (a : Hex) {n size : ℕ} → OctetsWithin a size → a ≡ Octets n → n ≤ size
 within (Octets m) {n} h e = let k : m ≡ n = cc in omega arith
 within Bad h e = let z : _≡_ {A = ℕ} 0 1 = cc in absurd (omega arith)
 

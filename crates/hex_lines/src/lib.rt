@@ -4,7 +4,7 @@ ghost use mathlib.Core.Bool.{true};
 ghost use Prim.Native.Nat.{_*_, _≤_};
 ghost use lib.ListN.{length};
 ghost use Rattle.octets.specs.Overlay.{Wrote};
-ghost use Rattle.hex_lines.specs.Hex.{hexValue, unhexed, valueOr16, hex?, octetsOf, Unhexed, Within};
+ghost use Rattle.hex_lines.specs.Hex.{hexValue, unhexed, valueOr16, hex?, octetsFound, Unhexed, OctetsWithin};
 
 // The number of octets that a line spells, or that it is not hexadecimal.
 pub enum Hex {
@@ -57,7 +57,7 @@ fn is_hex(line: &[u8]) -> bool
 // Writes the octets of a line of digits.
 fn put_octets(line: &[u8], out: &mut [u8]) -> usize
     requires { ⌜ (hex? (now line) ≡ true) × (length (now line) ≤ 2 * length (now out)) ⌝ }
-    ensures { λ r. ⌜ Wrote (now (out .entry)) 0 (octetsOf (unhexed (now (line .entry)))) (now (out .exit)) r ⌝ }
+    ensures { λ r. ⌜ Wrote (now (out .entry)) 0 (octetsFound (unhexed (now (line .entry)))) (now (out .exit)) r ⌝ }
     ensures { λ r. ⌜ r ≤ length (now (out .entry)) ⌝ }
 {
     let mut to = 0;
@@ -74,7 +74,7 @@ fn put_octets(line: &[u8], out: &mut [u8]) -> usize
 pub fn unhex(line: &[u8], out: &mut [u8]) -> Hex
     requires { ⌜ length (now line) ≤ 2 * length (now out) ⌝ }
     ensures { λ r. ⌜ Unhexed (now (line .entry)) (now (out .entry)) r (now (out .exit)) ⌝ }
-    ensures { λ r. ⌜ Within r (length (now (out .entry))) ⌝ }
+    ensures { λ r. ⌜ OctetsWithin r (length (now (out .entry))) ⌝ }
 {
     if is_hex(line) {
         return Hex::Octets(put_octets(line, out));

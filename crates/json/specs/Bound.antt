@@ -1,4 +1,4 @@
--- A message's text is not much longer than its uncompressed form: an octet of the form has at most 10 of text. Assumes nothing.
+-- A message's text is not much longer than its uncompressed form: an octet of the form has at most 10 of text.
 use mathlib.Core.Path.{_≡_, refl, ap}
 use mathlib.Core.Bool.{Bool, true, false, cond, _&&_}
 use mathlib.Core.Option.{Option, none, some}
@@ -9,7 +9,7 @@ use native.Mathlib.Nat.{pow-suc}
 use native.Mathlib.Omega.{arith}
 use lib.Dec.{T, leb, ltb, eqb, leb→le, ltb→lt}
 use lib.ListN.{length, take, drop, length-append, length-take, length-drop}
-use Rattle.octets.specs.Lists.{ascii, all, All, Octets, each, ended, listed, textOf, word?, octet?, key?}
+use Rattle.octets.specs.Lists.{ascii, all, All, Octets, each, ended, listed, rowText, word?, octet?, key?}
 use Rattle.octets.specs.Bits.{and-left, and-right, all→All, All-map, octets-in}
 use Rattle.octets.specs.Fields.{two, twoAt, fourAt, twoAt-word, fourAt-long}
 use Rattle.octets.specs.Decimal.{decimal}
@@ -35,11 +35,11 @@ use Rattle.json.specs.Document.{questionText, recordText, itemText, head
 use Rattle.json.specs.Text.{recordItem, item, documentOf, viewText, text}
 
 -- ---- texts
--- at most so many octets; as a record, so that the text is found from the fact
+-- at most n octets; as a record, so that the text is found from the fact
 record Short (l : List ℕ) (n : ℕ) : Type 0 where
   short : length l ≤ n
 
--- one text behind another
+-- one text after another
 infixl 65 _⊕_
 _⊕_ : {l m : List ℕ} {a b : ℕ} → Short l a → Short m b → Short (l ++ m) (a + b)
 _⊕_ {l} {m} h k = record { short = omega (arith, length-append l m, h .short, k .short) }
@@ -81,12 +81,12 @@ octets-short f stop p l =
     record { short = omega (arith, k, each-one l) }
 
 -- the texts of a table
-textOf-short : (table : List (ℕ × String)) → T (all (λ row. leb (length (ascii (row .1))) 9) table) → (n : ℕ) → Short (textOf n table) 9
-unfolding textOf
+textOf-short : (table : List (ℕ × String)) → T (all (λ row. leb (length (ascii (row .1))) 9) table) → (n : ℕ) → Short (rowText n table) 9
+unfolding rowText
 textOf-short [] h n = record { short = omega arith }
 textOf-short (row ∷ table) h n = go (eqb (row .0) n) (textOf-short table (and-right (leb (length (ascii (row .1))) 9) _ h) n)
   where
-    go : (b : Bool) → Short (textOf n table) 9 → Short (cond b (ascii (row .1)) (textOf n table)) 9
+    go : (b : Bool) → Short (rowText n table) 9 → Short (cond b (ascii (row .1)) (rowText n table)) 9
     go true k = record { short = leb→le (length (ascii (row .1))) 9 (and-left (leb (length (ascii (row .1))) 9) _ h) }
     go false k = k
 
@@ -225,7 +225,7 @@ shape-short extendedError l h = go (leb 2 (length l) && all printable? (drop 2 l
 shape-short unlisted l h = tt
 
 -- an option's member
-members-short : (n : ℕ) → Short (textOf n members) 9
+members-short : (n : ℕ) → Short (rowText n members) 9
 unfolding members rows
 members-short n = textOf-short members tt n
 
@@ -294,11 +294,11 @@ edns-parts rcode e h =
     let h₁ = and-left (a && b) c h₂ in
     (ltb→lt (e .size) 65536 (and-left a b h₁), and-right (a && b && c && d) f h₄)
 
-flags-short : (n : ℕ) → Short (textOf n flags) 9
+flags-short : (n : ℕ) → Short (rowText n flags) 9
 unfolding flags
 flags-short n = textOf-short flags tt n
 
-rcodes-short : (n : ℕ) → Short (textOf n rcodes) 9
+rcodes-short : (n : ℕ) → Short (rowText n rcodes) 9
 unfolding rcodes
 rcodes-short n = textOf-short rcodes tt n
 

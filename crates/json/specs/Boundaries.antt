@@ -1,4 +1,4 @@
--- EDNS records at the limits of document 01's rules, one row each, and one theorem over the table. Assumes nothing.
+-- EDNS records at the limits of document 01's rules, one row each, and one theorem over the table.
 use mathlib.Core.Path.{_≡_, refl}
 use mathlib.Core.Bool.{Bool, true, false}
 use mathlib.Core.List.{List, [], _∷_, _++_, map}
@@ -12,21 +12,21 @@ use Rattle.names.specs.Walk.{walk, nameFrom}
 use Rattle.records.specs.Layout.{layouts, layoutOf, pieces, rdataAt}
 use Rattle.records.specs.Message.{questionForm, recordForm, headerForm, form}
 use Rattle.records.specs.Read.{firstCut, questionAt, recordAt, sectionAt, sectionFrom}
-use Rattle.records.specs.Decode.{headerOf, sectionsOf, messageOf, Decoded, accepted, refused, decode}
+use Rattle.records.specs.Decode.{headerOf, sectionsOf, messageRead, Decoded, accepted, refused, decode}
 use Rattle.edns.specs.Edns.{rising?, divided, optionsOf, rcodes, ednsOf}
 use Rattle.json.specs.View.{Additional, ordinary, edns, additionalOf, viewOf}
 
 -- ---- the EDNS element's conditions, one broken at a time
 -- which entries of the additional section are EDNS elements
-abbrev pub element? : Additional → Bool
-element? (ordinary r) = false
-element? (edns e) = true
+abbrev pub isElement? : Additional → Bool
+isElement? (ordinary r) = false
+isElement? (edns e) = true
 
 abbrev pub elements : Decoded → List Bool
-elements (accepted m) = map element? (viewOf m .additional)
+elements (accepted m) = map isElement? (viewOf m .additional)
 elements (refused number place) = []
 
--- a header with this RCODE, so many answers and so many additional records
+-- a header with this RCODE, answers and additional records
 abbrev pub extended : ℕ → ℕ → ℕ → List ℕ
 extended rcode count additional = hexed "0000" ++ two rcode ++ hexed "0000" ++ two count ++ hexed "0000" ++ two additional
 
@@ -66,5 +66,5 @@ conditions =
     ∷ []
 
 pub conditions-hold : map (λ (c : Condition). elements (decode (c .message))) conditions ≡ map (λ (c : Condition). c .shows) conditions
-unfolding conditions lookup key? nameForm walk nameFrom layouts layoutOf pieces rdataAt questionForm recordForm each headerForm form firstCut questionAt recordAt sectionAt sectionFrom headerOf sectionsOf messageOf decode rising? divided optionsOf rcodes ednsOf additionalOf viewOf
+unfolding conditions lookup key? nameForm walk nameFrom layouts layoutOf pieces rdataAt questionForm recordForm each headerForm form firstCut questionAt recordAt sectionAt sectionFrom headerOf sectionsOf messageRead decode rising? divided optionsOf rcodes ednsOf additionalOf viewOf
 conditions-hold = refl

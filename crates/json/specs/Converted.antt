@@ -1,8 +1,8 @@
--- Message to text: the whole answer. Assumes nothing.
+-- Message to text: the whole answer.
 use mathlib.Core.List.{List}
 use Prim.Native.Nat.{ℕ}
 use Rattle.octets.specs.Lists.{Octets}
-use Rattle.octets.specs.Answer.{Output, output, Left, delivered}
+use Rattle.octets.specs.Answer.{Output, output, Result, delivered}
 use Rattle.octets.specs.Answer as answer
 use Rattle.octets.specs.Calls.{Call, Gives}
 use Rattle.records.specs.Decode.{Decoded, accepted, refused, decode}
@@ -17,7 +17,7 @@ unfoldable pub converted : List ℕ → Output
 converted s = outputOf (decode s)
 
 -- number, place, length and the whole buffer afterwards; 10 where the text is longer than the buffer
-unfoldable pub toText : List ℕ → List ℕ → Left
+unfoldable pub toText : List ℕ → List ℕ → Result
 toText s buffer = delivered 10 (converted s) buffer
 
 -- a call of the converter: its message is octets, as every slice is, and its answer and buffer are those of `toText`

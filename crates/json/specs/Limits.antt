@@ -1,4 +1,4 @@
--- Limits of size, over which refusal 22 is given: RDATA, an option's value or the message over 65,535 octets. Assumes nothing.
+-- Limits of size, over which refusal 22 is given: RDATA, an option's value or the message over 65,535 octets.
 use mathlib.Core.Bool.{Bool, true, _&&_}
 use Rattle.octets.specs.Lists.{all}
 use Rattle.records.specs.Message.{Record, form}

@@ -1,4 +1,4 @@
--- Texts for examples. Assumes nothing.
+-- Texts for examples.
 use mathlib.Core.List.{List, _++_}
 use Prim.Native.Nat.{ℕ}
 use Prim.Native.String.{String}

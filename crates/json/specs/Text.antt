@@ -1,4 +1,4 @@
--- The profile text of a message. Assumes nothing.
+-- The profile text of a message.
 use mathlib.Core.List.{List, map}
 use Prim.Native.Nat.{ℕ}
 use lib.ListN.{length}

@@ -1,4 +1,4 @@
--- Laws of views: a valid message and its view tell each other, and the message's limit of size is the only one that counts. Assumes nothing.
+-- Laws of views: a valid message and its view tell each other, and the message's limit of size is the only one that counts.
 use mathlib.Core.Path.{_≡_, refl, sym, _∙_, ap, ap₂}
 use mathlib.Core.Bool.{Bool, true, false, not, _&&_, cond}
 use mathlib.Core.Option.{Option, none, some}
@@ -30,7 +30,7 @@ abbrev pub entryOf : ℕ → Bool → Record → Additional
 entryOf rcode true r = recognised rcode r
 entryOf rcode false r = ordinary r
 
--- what holds of the entry of a valid record, where so many have TYPE 41
+-- what holds of the entry of a valid record, where n have TYPE 41
 record Entered (rcode n : ℕ) (r : Record) (a : Additional) : Type 0 where
   same : recordOf a ≡ r
   valid : T (additional? rcode a)
@@ -120,7 +120,7 @@ unfolding recordOf ednsRecord opt-entry?
 opt-counted (ordinary r) = refl
 opt-counted (edns e) = refl
 
--- an entry is that of its record, where so many have TYPE 41
+-- an entry is that of its record, where n have TYPE 41
 entry-back : (rcode n : ℕ) (b : Bool) → eqb n 1 ≡ b → (a : Additional) → T (additional? rcode a) → T (settled? rcode n a) → T (small-options? a)
     → entryOf rcode b (recordOf a) ≡ a
 unfolding recordOf additional? settled? small-options? ednsRecord
@@ -175,7 +175,7 @@ valid-additional : (m : Message) → T (valid? m) → T (section? record? (m .ad
 unfolding valid?
 valid-additional m h = and-right (shared? (m .header) (m .questions) (m .answers) (m .authority)) (section? record? (m .additional)) h
 
--- a valid message is told by its view
+-- a valid message is determined by its view
 pub message-view : (m : Message) → T (valid? m) → messageOf (viewOf m) ≡ m
 unfolding messageOf viewOf
 message-view m h =
@@ -200,7 +200,7 @@ pub view-additional : (v : View) → T (view? v) → T (additionals? (v .header 
 unfolding view?
 view-additional v h = and-right (shared? (v .header) (v .questions) (v .answers) (v .authority)) (additionals? (v .header .rcode) (v .additional)) h
 
--- a valid view is told by its message
+-- a valid view is determined by its message
 pub view-message : (v : View) → T (view? v) → T (all small-options? (v .additional)) → viewOf (messageOf v) ≡ v
 unfolding messageOf viewOf
 view-message v h k =

@@ -1,4 +1,4 @@
--- The answer of each line program to a line, in the words of document 01. Assumes nothing.
+-- The answer of each line program to a line, in the words of document 01.
 use mathlib.Core.Bool.{cond}
 use mathlib.Core.Option.{Option, none, some}
 use mathlib.Core.List.{List, [], _∷_, _++_}
@@ -26,13 +26,13 @@ asHex message = each hexOctet message
 
 -- what is printed of a conversion into a buffer of `room` octets: its output or its refusal; without room, refusal
 -- `noRoom` at 0
-unfoldable pub shown : (List ℕ → List ℕ) → ℕ → ℕ → Output → List ℕ
-shown spelled room noRoom (output octets) = cond (leb (length octets) room) (spelled octets) (refusalLine noRoom 0)
-shown spelled room noRoom (refused number place) = refusalLine number place
+unfoldable pub answerText : (List ℕ → List ℕ) → ℕ → ℕ → Output → List ℕ
+answerText spelled room noRoom (output octets) = cond (leb (length octets) room) (spelled octets) (refusalLine noRoom 0)
+answerText spelled room noRoom (refused number place) = refusalLine number place
 
 -- a line over `most` octets is 31, and changes no buffer
-unfoldable pub limited : ℕ → (List ℕ → List ℕ) → List ℕ → List ℕ
-limited most answer line = cond (ltb most (length line)) (refusalLine 31 0) (answer line)
+unfoldable pub withinLine : ℕ → (List ℕ → List ℕ) → List ℕ → List ℕ
+withinLine most answer line = cond (ltb most (length line)) (refusalLine 31 0) (answer line)
 
 unfoldable pub limitedLeft : ℕ → (List ℕ → List ℕ → List ℕ) → List ℕ → List ℕ → List ℕ
 limitedLeft most left line buffer = cond (ltb most (length line)) buffer (left line buffer)
@@ -40,12 +40,12 @@ limitedLeft most left line buffer = cond (ltb most (length line)) buffer (left l
 -- ---- `totext`
 -- the answer to the octets of a line: the text buffer has 65,536 octets
 abbrev pub messageLine : Option (List ℕ) → List ℕ
-messageLine (some message) = shown asText 65536 10 (converted message)
+messageLine (some message) = answerText asText 65536 10 (converted message)
 messageLine none = refusalLine 30 0
 
 -- the answer to a line: over 8,192 characters 31, else not hexadecimal 30
 unfoldable pub textLine : List ℕ → List ℕ
-textLine = limited 8192 (λ line. messageLine (unhexed line))
+textLine = withinLine 8192 (λ line. messageLine (unhexed line))
 
 -- what it leaves in the message buffer: the octets of the line
 unfoldable pub textLeft : List ℕ → List ℕ → List ℕ
@@ -54,7 +54,7 @@ textLeft = limitedLeft 8192 (λ line. hexLeft (unhexed line))
 -- ---- `towire`
 -- the answer to a line: over 65,536 octets 31; the message buffer has 4,096 octets
 unfoldable pub wireLine : List ℕ → List ℕ
-wireLine = limited 65536 (λ line. shown asHex 4096 23 (reading line))
+wireLine = withinLine 65536 (λ line. answerText asHex 4096 23 (reading line))
 
 -- what it leaves in the message buffer: the message
 unfoldable pub wireLeft : List ℕ → List ℕ → List ℕ

@@ -1,4 +1,4 @@
--- What a call of a conversion reports and leaves, and what is printed of it. Assumes nothing.
+-- What a call of a conversion reports and leaves, and what is printed of it.
 use mathlib.Core.Path.{_≡_, refl, sym, ap, _∙_}
 use mathlib.Core.Bool.{Bool, true, false, cond}
 use mathlib.Core.List.{List}
@@ -7,10 +7,10 @@ use borrow.Author.Tests.{leb-true}
 use lib.Dec.{leb}
 use lib.ListN.{length, take, drop}
 use lib.Seq.{take-append-seam}
-use Rattle.octets.specs.Answer.{Output, output, refused, Answer, success, refusal, Left, overwritten, delivered}
+use Rattle.octets.specs.Answer.{Output, output, refused, Answer, success, refusal, Result, overwritten, delivered}
 use Rattle.octets.specs.Calls.{answerOf, Gives}
 use Rattle.octets.specs.declared.Outcome.{Outcome}
-use Rattle.line_answers.specs.Answers.{refusalLine, shown}
+use Rattle.line_answers.specs.Answers.{refusalLine, answerText}
 
 module _ (spelled : List ℕ → List ℕ) where
   -- of what is shown, and of the buffer before and after
@@ -19,11 +19,11 @@ module _ (spelled : List ℕ → List ℕ) where
   Told (refusal k p) x b b′ = (x ≡ refusalLine k p) × (b′ ≡ b)
 
   pub told : (noRoom : ℕ) (o : Output) (b : List ℕ)
-      → Told (delivered noRoom o b .answer) (shown spelled (length b) noRoom o) b (delivered noRoom o b .buffer)
-  unfolding delivered shown
+      → Told (delivered noRoom o b .answer) (answerText spelled (length b) noRoom o) b (delivered noRoom o b .buffer)
+  unfolding delivered answerText
   told noRoom (output l) b = go (leb (length l) (length b)) refl
     where
-      left : Bool → Left
+      left : Bool → Result
       left t = cond t (record { answer = success (length l); buffer = overwritten l b }) (record { answer = refusal noRoom 0; buffer = b })
 
       go : (t : Bool) → leb (length l) (length b) ≡ t
@@ -33,7 +33,7 @@ module _ (spelled : List ℕ → List ℕ) where
   told noRoom (refused k p) b = (refl, refl)
 
   pub told-by : (noRoom : ℕ) (o : Output) (b : List ℕ) {b′ : List ℕ} {r : Outcome} {a : Answer}
-      → Gives (delivered noRoom o b) r b′ → answerOf r ≡ a → Told a (shown spelled (length b) noRoom o) b b′
+      → Gives (delivered noRoom o b) r b′ → answerOf r ≡ a → Told a (answerText spelled (length b) noRoom o) b b′
   told-by noRoom o b g e = rw (sym e ∙ g .answers, g .leaves) (told noRoom o b)
 
   -- the line: the octets up to the reported length, as the call leaves them, or the refusal

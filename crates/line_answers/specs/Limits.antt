@@ -1,20 +1,20 @@
--- A line and its limit. Assumes nothing.
+-- A line and its limit.
 use mathlib.Core.Path.{_≡_}
 use mathlib.Core.List.{List}
 use Prim.Native.Nat.{ℕ, _≤_, _<_}
 use borrow.Author.Tests.{lt-ltb, le-ltb}
 use lib.ListN.{length}
 use Rattle.octets.specs.Overlay.{Wrote}
-use Rattle.line_answers.specs.Answers.{refusalLine, limited, limitedLeft}
+use Rattle.line_answers.specs.Answers.{refusalLine, withinLine, limitedLeft}
 
 -- what is printed for a line
 module _ (most : ℕ) (answer : List ℕ → List ℕ) (s : List ℕ) {b b′ : List ℕ} {r : ℕ} where
-  pub over-limit : most < length s → Wrote b 0 (refusalLine 31 0) b′ r → Wrote b 0 (limited most answer s) b′ r
-  unfolding limited
+  pub over-limit : most < length s → Wrote b 0 (refusalLine 31 0) b′ r → Wrote b 0 (withinLine most answer s) b′ r
+  unfolding withinLine
   over-limit h w = rw (lt-ltb most (length s) h) w
 
-  pub in-limit : length s ≤ most → Wrote b 0 (answer s) b′ r → Wrote b 0 (limited most answer s) b′ r
-  unfolding limited
+  pub in-limit : length s ≤ most → Wrote b 0 (answer s) b′ r → Wrote b 0 (withinLine most answer s) b′ r
+  unfolding withinLine
   in-limit h w = rw (le-ltb most (length s) h) w
 
 -- what is left in a buffer

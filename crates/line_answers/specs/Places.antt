@@ -1,4 +1,4 @@
--- The place of a refusal is within the message; of a text it is 0. Assumes nothing.
+-- The place of a refusal is within the message; of a text it is 0.
 use mathlib.Core.Path.{_≡_, refl, sym, ap, _∙_, subst}
 use mathlib.Core.Bool.{Bool, true, false, cond}
 use mathlib.Core.Option.{Option, none, some}
@@ -10,17 +10,17 @@ use lib.Dec.{leb, ltb, eqb}
 use lib.ListN.{length}
 use Rattle.octets.specs.Lists.{Octets}
 use Rattle.octets.specs.Fields.{twoAt}
-use Rattle.octets.specs.Answer.{Output, output, Answer, success, refusal, Left, overwritten, delivered}
+use Rattle.octets.specs.Answer.{Output, output, Answer, success, refusal, Result, overwritten, delivered}
 use Rattle.octets.specs.Answer as answer
 use Rattle.octets.specs.Parsed.{Parsed, took, stuck}
 use Rattle.octets.specs.Calls.{answerOf, Gives}
 use Rattle.octets.specs.declared.Outcome.{Outcome}
 use Rattle.octets.specs.declared.Outcome.the-variants.{Refused}
-use Rattle.names.specs.Name.{number}
+use Rattle.names.specs.Name.{refusalNumber}
 use Rattle.records.specs.Message.{Message, form}
 use Rattle.records.specs.Read.{Entry, entry, bad, Reached, reached, stopped, questionAt, recordAt, sectionAt}
 use Rattle.records.specs.Read.{sectionFrom}
-use Rattle.records.specs.Decode.{Decoded, accepted, refused, zOf, sectionsOf, messageOf, afterReading, decode}
+use Rattle.records.specs.Decode.{Decoded, accepted, refused, zOf, sectionsOf, messageRead, afterReading, decode}
 use Rattle.records.specs.RecordLaws.{question-read, record-read}
 use Rattle.json.specs.View.{View}
 use Rattle.json.specs.View as view
@@ -84,7 +84,7 @@ unfolding decode
 decode-placed s o =
     let n = length s in
     at-first n (ltb 65535 n) 2 _ λ a. at-first n (ltb n 12) 1 _ λ b. at-first n (eqb (zOf s) 1) 3 _ λ c.
-    ended-placed s (messageOf s) (sectionsOf s .additional .end) (sections-inside s o (ltb-false n 12 b))
+    ended-placed s (messageRead s) (sectionsOf s .additional .end) (sections-inside s o (ltb-false n 12 b))
 
 -- the same for an output and for a call's outcome
 abbrev At : ℕ → Output → Type 0
@@ -123,7 +123,7 @@ delivered-at : (noRoom size : ℕ) (o : Output) (b : List ℕ) → At size o →
 unfolding delivered
 delivered-at noRoom size (output l) b h = go (leb (length l) (length b))
   where
-    left : Bool → Left
+    left : Bool → Result
     left t = cond t (record { answer = success (length l); buffer = overwritten l b }) (record { answer = refusal noRoom 0; buffer = b })
 
     go : (t : Bool) → PlacedAt size (left t .answer)

@@ -12,7 +12,7 @@ ghost use Rattle.octets.specs.Lists.{Octets};
 ghost use Rattle.octets.specs.Overlay.{Wrote};
 ghost use Rattle.json.specs.Converted.{converted};
 ghost use Rattle.strict.specs.Reading.{reading, toWire};
-ghost use Rattle.line_answers.specs.Answers.{refusalLine, shown, asText, asHex, printed};
+ghost use Rattle.line_answers.specs.Answers.{refusalLine, answerText, asText, asHex, printed};
 ghost use Rattle.line_answers.specs.Answers.{textLine, textLeft, wireLine, wireLeft};
 
 // Writes a refusal.
@@ -30,7 +30,7 @@ pub fn put_refusal(out: &mut [u8], to: usize, number: u32, place: u32) -> usize
 // Writes the text of a message or its refusal.
 fn put_message(message: &[u8], text: &mut [u8]) -> usize
     requires { ⌜ Octets (now message) × (length (now message) ≤ 4096) × (length (now text) ≡ 65537) ⌝ }
-    ensures { λ r. ⌜ Wrote (now (text .entry)) 0 (shown asText 65536 10 (converted (now (message .entry))))
+    ensures { λ r. ⌜ Wrote (now (text .entry)) 0 (answerText asText 65536 10 (converted (now (message .entry))))
         (now (text .exit)) r ⌝ }
     ensures { λ r. ⌜ r ≤ 65536 ⌝ }
 {
@@ -70,7 +70,7 @@ pub fn text_line(line: &[u8], message: &mut [u8], text: &mut [u8]) -> usize
 // Writes the message of a text in hexadecimal, or its refusal.
 fn put_wire(line: &[u8], message: &mut [u8], text: &mut [u8]) -> usize
     requires { ⌜ (length (now message) ≡ 4096) × (length (now text) ≡ 65537) ⌝ }
-    ensures { λ r. ⌜ Wrote (now (text .entry)) 0 (shown asHex 4096 23 (reading (now (line .entry))))
+    ensures { λ r. ⌜ Wrote (now (text .entry)) 0 (answerText asHex 4096 23 (reading (now (line .entry))))
         (now (text .exit)) r ⌝ }
     ensures { λ r. ⌜ r ≤ 8192 ⌝ }
     ensures { λ r. ⌜ now (message .exit) ≡ toWire (now (line .entry)) (now (message .entry)) .buffer ⌝ }

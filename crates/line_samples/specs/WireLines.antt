@@ -1,4 +1,4 @@
--- Lines of `towire` and their answers, computed. Assumes nothing.
+-- Lines of `towire` and their answers, computed.
 use mathlib.Core.Path.{_≡_, refl}
 use mathlib.Core.List.{List, [], _∷_, _++_, map}
 use Prim.Native.Nat.{ℕ}
@@ -6,11 +6,11 @@ use lib.ListN.{replicate}
 use Rattle.octets.specs.Decimal.{natural, positive, decimal}
 use Rattle.octets.specs.Hexadecimal.{hex, unhex, hexText}
 use Rattle.octets.specs.Codec.{tried}
-use Rattle.octets.specs.Lists.{ascii, lookup, textOf, key?, each}
+use Rattle.octets.specs.Lists.{ascii, lookup, rowText, key?, each}
 use Rattle.names.specs.Name.{name?, label?, nameForm}
 use Rattle.names.specs.Walk.{walk, nameFrom}
 use Rattle.records.specs.Message.{header?, question?, record?, form, headerForm, questionForm, recordForm}
-use Rattle.records.specs.Layout.{fits?, layouts, layoutOf, pieces, rdataAt}
+use Rattle.records.specs.Layout.{rdataFits?, layouts, layoutOf, pieces, rdataAt}
 use Rattle.edns.specs.Edns.{rcodes, edns?, option?, rising?, divided, optionsOf, ednsOf, ednsRecord, optionForm}
 use Rattle.edns.specs.Edns.{small-option?, flags}
 use Rattle.spelling.specs.Spelling.{plain?, printable?, spelled, stringOctet}
@@ -19,14 +19,14 @@ use Rattle.json.specs.Sample.{textWith}
 use Rattle.json.specs.View.{view?, additionals?, additional?, settled?, opt-entry?, messageOf, recordOf}
 use Rattle.json.specs.Limits.{within?, small-rdata?, small-options?}
 use Rattle.strict.specs.Members.{value?, member?, optionOf, octetsOf}
-use Rattle.strict.specs.Parser.{parse, document, head, question, entry, itemCodec, ednsElement, optionMembers, member}
+use Rattle.strict.specs.Parser.{parse, document, head, questionCodec, recordCodec, itemCodec, ednsElement, optionMembers, member}
 use Rattle.strict.specs.Parser.{knownMember, otherMember, value, expiryNumber}
 use Rattle.strict.specs.Spelt.{name, label, spelledOctet, spelledAt, escape, ddd, leads?, coded-from?, coded?}
 use Rattle.strict.specs.Spelt.{signedNumber, string, stringChar, stringAt, bare?, quoted}
 use Rattle.strict.specs.Reading.{reading}
 use Rattle.strict.specs.Meaning.{meaning, documentView, itemRecord, itemEdns, itemAdditional, unsigned, agrees?}
 use Rattle.strict.specs.Meaning.{counts?, ttl?, ednsItem?, item?}
-use Rattle.line_answers.specs.Answers.{refusalLine, shown, limited, wireLine}
+use Rattle.line_answers.specs.Answers.{refusalLine, answerText, withinLine, wireLine}
 
 -- a line, and its answer
 pub record Sample : Type 0 where
@@ -57,5 +57,5 @@ samples =
 
 -- every row, computed
 pub samples-hold : map (λ (s : Sample). wireLine (s .line)) samples ≡ map (λ (s : Sample). s .answer) samples
-unfolding samples limited wireLine shown refusalLine parse document head natural positive question entry name label spelledOctet spelledAt escape ddd leads? coded-from? coded? plain? signedNumber hex unhex string stringChar stringAt bare? printable? quoted itemCodec ednsElement optionMembers member knownMember otherMember value expiryNumber tried members rows flags rcodes formOf lookup textOf decimal spelled stringOctet hexText reading meaning documentView itemRecord itemEdns itemAdditional unsigned agrees? counts? ttl? ednsItem? item? view? additionals? additional? settled? opt-entry? edns? option? header? question? record? name? label? nameForm fits? walk nameFrom layouts layoutOf pieces rdataAt rising? divided optionsOf ednsOf key? shape words value? member? optionOf octetsOf within? small-rdata? small-option? small-options? messageOf recordOf ednsRecord optionForm each form headerForm questionForm recordForm
+unfolding samples withinLine wireLine answerText refusalLine parse document head natural positive questionCodec recordCodec name label spelledOctet spelledAt escape ddd leads? coded-from? coded? plain? signedNumber hex unhex string stringChar stringAt bare? printable? quoted itemCodec ednsElement optionMembers member knownMember otherMember value expiryNumber tried members rows flags rcodes formOf lookup rowText decimal spelled stringOctet hexText reading meaning documentView itemRecord itemEdns itemAdditional unsigned agrees? counts? ttl? ednsItem? item? view? additionals? additional? settled? opt-entry? edns? option? header? question? record? name? label? nameForm rdataFits? walk nameFrom layouts layoutOf pieces rdataAt rising? divided optionsOf ednsOf key? shape words value? member? optionOf octetsOf within? small-rdata? small-option? small-options? messageOf recordOf ednsRecord optionForm each form headerForm questionForm recordForm
 samples-hold = refl

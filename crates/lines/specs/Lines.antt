@@ -1,4 +1,4 @@
--- The lines of an input and what a program prints for them, in the words of document 01. Assumes nothing.
+-- The lines of an input and what a program prints for them, in the words of document 01.
 use mathlib.Core.Bool.{cond}
 use mathlib.Core.List.{List, [], _∷_, _++_}
 use Prim.Native.Nat.{ℕ}
@@ -15,5 +15,5 @@ abbrev pub linesOf : List ℕ → List (List ℕ)
 linesOf = linesFrom []
 
 -- the answer to each line, and 10 after it
-unfoldable pub outputOf : (List ℕ → List ℕ) → List ℕ → List ℕ
-outputOf answer input = each (printed answer) (linesOf input)
+unfoldable pub programOutput : (List ℕ → List ℕ) → List ℕ → List ℕ
+programOutput answer input = each (printed answer) (linesOf input)

@@ -1,4 +1,4 @@
--- Reading an input octet by octet: the line so far, and what is printed on the way. Assumes nothing.
+-- Reading an input octet by octet: the line so far, and what is printed on the way.
 use mathlib.Core.Path.{_≡_, refl, sym, _∙_}
 use mathlib.Core.Bool.{Bool, true, false, cond}
 use mathlib.Core.List.{List, [], _∷_, _++_, append-assoc, append-nil}
@@ -10,7 +10,7 @@ use lib.ListN.{length, take}
 use lib.Seq.{take-all, take-nil, take-take, take-append-le, length-take-le}
 use Rattle.octets.specs.Lists.{none?, each}
 use Rattle.line_answers.specs.Answers.{printed}
-use Rattle.lines.specs.Lines.{linesFrom, outputOf}
+use Rattle.lines.specs.Lines.{linesFrom, programOutput}
 
 -- the line so far after one octet more, and what is printed there
 unfoldable pub lineAfter : List ℕ → ℕ → List ℕ
@@ -54,8 +54,8 @@ module _ (answer : List ℕ → List ℕ) where
       go false p q = q
 
   pub output-steps : (input : List ℕ)
-      → outputOf answer input ≡ printedOver answer [] input ++ printedLast answer (soFar [] input)
-  unfolding outputOf
+      → programOutput answer input ≡ printedOver answer [] input ++ printedLast answer (soFar [] input)
+  unfolding programOutput
   output-steps input = from-line [] input
 
   -- the input may come in any pieces
@@ -120,7 +120,7 @@ module _ (cap : ℕ) (answer : List ℕ → List ℕ) (same : (line : List ℕ) 
   kept-from line [] = kept-last line
   kept-from line (c ∷ s) = rw (same line, kept-after cap line c, kept-from (lineAfter line c) s, append-assoc)
 
-  pub kept-output : (input : List ℕ) → keptOutput cap answer [] input ≡ outputOf answer input
+  pub kept-output : (input : List ℕ) → keptOutput cap answer [] input ≡ programOutput answer input
   kept-output input =
       let e : take cap [] ≡ [] = take-nil {A = ℕ} cap in
       (rw e at (kept-from [] input)) ∙ sym (output-steps answer input)

@@ -1,4 +1,4 @@
--- What `step` does with one octet of the input, and how such steps go through a part of it. Assumes nothing.
+-- What `step` does with one octet of the input, and how such steps go through a part of it.
 use mathlib.Core.Path.{_≡_, refl, sym, _∙_}
 use mathlib.Core.Bool.{Bool, true, false, cond}
 use mathlib.Core.List.{List, [], _∷_, _++_}
@@ -12,7 +12,7 @@ use lib.Seq.{set-out, take-all, take-nil, take-take, take-append-seam, take-suc-
 use Rattle.octets.specs.Overlay.{Wrote, nothing, overlay-first}
 use Rattle.line_answers.specs.Answers.{printed}
 use Rattle.lines.specs.Reading.{lineAfter, printedAt, soFar, kept-alike}
-use Rattle.lines.specs.Programs.{answerTo, leftBy}
+use Rattle.lines.specs.Programs.{answerTo, messageLeftBy}
 use Rattle.lines.specs.declared.Program.{Program}
 
 -- ---- one octet, of a line of which `used` octets are in the buffer
@@ -23,18 +23,18 @@ usedAfter line used c = cond (eqb c 10) 0 (cond (ltb used (length line)) (used +
 unfoldable pub bufferAfter : List ℕ → ℕ → ℕ → List ℕ
 bufferAfter line used c = cond (eqb c 10) line (cond (ltb used (length line)) (set line used c) line)
 
-pub record Kept (line : List ℕ) (used c : ℕ) (line′ : List ℕ) (used′ : ℕ) : Type 0 where
+pub record LineKept (line : List ℕ) (used c : ℕ) (line′ : List ℕ) (used′ : ℕ) : Type 0 where
   pub count : used′ ≡ usedAfter line used c
   pub buffer : line′ ≡ bufferAfter line used c
 
 -- the message buffer: only an answer changes it
 unfoldable pub messageAfter : Program → List ℕ → ℕ → List ℕ → List ℕ
-messageAfter program line c message = cond (eqb c 10) (leftBy program line message) message
+messageAfter program line c message = cond (eqb c 10) (messageLeftBy program line message) message
 
 -- ---- the ways through `step`
 -- the end of a line
 module _ {c : ℕ} (e : c ≡ 10) where
-  pub end-kept : (line : List ℕ) (used : ℕ) → Kept line used c line 0
+  pub end-kept : (line : List ℕ) (used : ℕ) → LineKept line used c line 0
   unfolding usedAfter bufferAfter
   end-kept line used = record { count = rw (eq-eqb c 10 e); buffer = rw (eq-eqb c 10 e) }
 
@@ -44,17 +44,17 @@ module _ {c : ℕ} (e : c ≡ 10) where
   end-printed answer line used w = let z : used - 0 ≡ used = omega arith in rw (eq-eqb c 10 e) (rw z at w)
 
   pub end-message : (program : Program) (line : List ℕ) (used : ℕ) (m : List ℕ) {m′ : List ℕ}
-      → m′ ≡ leftBy program (take (used - 0) line) m → m′ ≡ messageAfter program (take used line) c m
+      → m′ ≡ messageLeftBy program (take (used - 0) line) m → m′ ≡ messageAfter program (take used line) c m
   unfolding messageAfter
   end-message program line used m q = let z : used - 0 ≡ used = omega arith in rw (eq-eqb c 10 e) (rw z at q)
 
 -- any other octet
 module _ {c : ℕ} (n : c ≡ 10 → ⊥) where
-  pub room-kept : (line : List ℕ) (used : ℕ) → used < length line → Kept line used c (set line used c) (used + 1)
+  pub room-kept : (line : List ℕ) (used : ℕ) → used < length line → LineKept line used c (set line used c) (used + 1)
   unfolding usedAfter bufferAfter
   room-kept line used h = record { count = rw (ne-eqb c 10 n, lt-ltb _ _ h); buffer = rw (ne-eqb c 10 n, lt-ltb _ _ h) }
 
-  pub full-kept : (line : List ℕ) (used : ℕ) → length line ≤ used → Kept line used c line used
+  pub full-kept : (line : List ℕ) (used : ℕ) → length line ≤ used → LineKept line used c line used
   unfolding usedAfter bufferAfter
   full-kept line used h = record { count = rw (ne-eqb c 10 n, le-ltb _ _ h); buffer = rw (ne-eqb c 10 n, le-ltb _ _ h) }
 
@@ -74,7 +74,7 @@ first-octets {b} {b′} {xs} {r} w h =
 
 -- ---- what is kept is the line after the octet, up to the buffer's length
 module _ {line : List ℕ} {used c : ℕ} (h : used ≤ length line) {line′ : List ℕ} {used′ : ℕ} where
-  pub kept-line : Kept line used c line′ used′ → take used′ line′ ≡ take (length line) (lineAfter (take used line) c)
+  pub kept-line : LineKept line used c line′ used′ → take used′ line′ ≡ take (length line) (lineAfter (take used line) c)
   unfolding usedAfter bufferAfter lineAfter
   kept-line k = rw (k .count, k .buffer) (go (eqb c 10) (ltb used (length line)) refl)
     where
@@ -101,7 +101,7 @@ fed-start most line used input = record { same = refl }
 module _ {most : ℕ} {start input line : List ℕ} {used i : ℕ}
     (p : Fed most start input line used i) (k : used ≤ most) where
   pub fed-step : {line′ : List ℕ} {used′ : ℕ} → length line ≡ most → i < length input
-      → Kept line used (getD input i 0) line′ used′
+      → LineKept line used (getD input i 0) line′ used′
       → Fed most start input line′ used′ (i + 1)
   unfolding soFar
   fed-step n h w =

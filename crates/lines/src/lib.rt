@@ -7,8 +7,8 @@ ghost use lib.ListN.{length, take};
 ghost use Rattle.octets.specs.Overlay.{Wrote};
 ghost use Rattle.line_answers.specs.Answers.{printed};
 ghost use Rattle.lines.specs.Reading.{printedAt};
-ghost use Rattle.lines.specs.Programs.{answerTo, leftBy, keptOf};
-ghost use Rattle.lines.specs.Steps.{Kept, messageAfter};
+ghost use Rattle.lines.specs.Programs.{answerTo, messageLeftBy, keptOf};
+ghost use Rattle.lines.specs.Steps.{LineKept, messageAfter};
 
 // The line programs.
 pub enum Program {
@@ -22,7 +22,7 @@ fn answer_line(program: Program, line: &[u8], message: &mut [u8], text: &mut [u8
     ensures { λ r. ⌜ Wrote (now (text .entry)) 0 (printed (answerTo program) (now (line .entry)))
         (now (text .exit)) r ⌝ }
     ensures { λ r. ⌜ r ≤ 65537 ⌝ }
-    ensures { λ r. ⌜ now (message .exit) ≡ leftBy program (now (line .entry)) (now (message .entry)) ⌝ }
+    ensures { λ r. ⌜ now (message .exit) ≡ messageLeftBy program (now (line .entry)) (now (message .entry)) ⌝ }
 {
     match program {
         Program::ToText => text_line(line, message, text),
@@ -48,7 +48,7 @@ pub fn step(
 ) -> StepResult
     requires { ⌜ (used ≤ length (now line)) × (length (now line) ≡ keptOf program) ⌝ }
     requires { ⌜ (length (now message) ≡ 4096) × (length (now text) ≡ 65537) ⌝ }
-    ensures { λ r. ⌜ Kept (now (line .entry)) used c (now (line .exit)) (r .used) ⌝ }
+    ensures { λ r. ⌜ LineKept (now (line .entry)) used c (now (line .exit)) (r .used) ⌝ }
     ensures { λ r. ⌜ Wrote (now (text .entry)) 0 (printedAt (answerTo program) (take used (now (line .entry))) c)
         (now (text .exit)) (r .size) ⌝ }
     ensures { λ r. ⌜ now (message .exit)

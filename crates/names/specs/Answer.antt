@@ -1,9 +1,9 @@
--- What the code answers for a name: its limits, faults and answers beside those of the definitions. Assumes nothing.
+-- What the code answers for a name: its limits, faults and answers beside those of the definitions.
 use mathlib.Core.Path.{_≡_, refl, ap}
 use mathlib.Core.List.{_++_}
 use Prim.Native.Nat.{ℕ, _-_}
 use lib.ListN.{length, replicate}
-use Rattle.names.specs.Name.{Kind, cut, reserved, target, long, short, surplus, number, nameForm}
+use Rattle.names.specs.Name.{Kind, cut, reserved, target, long, short, surplus, refusalNumber, nameForm}
 use Rattle.names.specs.Name as name
 use Rattle.names.specs.Walk.{message, rdata, past, named, faulty}
 use Rattle.names.specs.Walk as walk
@@ -20,16 +20,16 @@ limitOf Message = message
 limitOf (Rdata start end) = rdata start end
 
 -- the code's fault of a kind at an octet
-abbrev pub codeOf : Kind → ℕ → Fault
-codeOf cut octet = Cut octet
-codeOf reserved octet = Reserved octet
-codeOf target octet = Target octet
-codeOf long octet = Long octet
-codeOf short octet = Short octet
-codeOf surplus octet = Surplus octet
+abbrev pub faultCode : Kind → ℕ → Fault
+faultCode cut octet = Cut octet
+faultCode reserved octet = Reserved octet
+faultCode target octet = Target octet
+faultCode long octet = Long octet
+faultCode short octet = Short octet
+faultCode surplus octet = Surplus octet
 
 abbrev pub faultOf : name.Fault → Fault
-faultOf fault = codeOf (fault .kind) (fault .octet)
+faultOf fault = faultCode (fault .kind) (fault .octet)
 
 -- the code's fault of running past the end
 abbrev pub pastOf : Limit → ℕ → Fault
@@ -44,8 +44,8 @@ kindOf (Long octet) = long
 kindOf (Short octet) = short
 kindOf (Surplus octet) = surplus
 
-abbrev pub numberOf : Fault → ℕ
-numberOf fault = number (kindOf fault)
+abbrev pub faultNumber : Fault → ℕ
+faultNumber fault = refusalNumber (kindOf fault)
 
 abbrev pub octetOf : Fault → ℕ
 octetOf (Cut octet) = octet
@@ -56,7 +56,7 @@ octetOf (Short octet) = octet
 octetOf (Surplus octet) = octet
 
 -- they are those of the definitions' fault
-pub kind-same : (kind : Kind) (octet : ℕ) → kindOf (codeOf kind octet) ≡ kind
+pub kind-same : (kind : Kind) (octet : ℕ) → kindOf (faultCode kind octet) ≡ kind
 kind-same cut octet = refl
 kind-same reserved octet = refl
 kind-same target octet = refl
@@ -64,10 +64,10 @@ kind-same long octet = refl
 kind-same short octet = refl
 kind-same surplus octet = refl
 
-pub number-same : (kind : Kind) (octet : ℕ) → numberOf (codeOf kind octet) ≡ number kind
-number-same kind octet = ap number (kind-same kind octet)
+pub number-same : (kind : Kind) (octet : ℕ) → faultNumber (faultCode kind octet) ≡ refusalNumber kind
+number-same kind octet = ap refusalNumber (kind-same kind octet)
 
-pub octet-same : (kind : Kind) (octet : ℕ) → octetOf (codeOf kind octet) ≡ octet
+pub octet-same : (kind : Kind) (octet : ℕ) → octetOf (faultCode kind octet) ≡ octet
 octet-same cut octet = refl
 octet-same reserved octet = refl
 octet-same target octet = refl

@@ -1,4 +1,4 @@
--- Names at the limits of document 01's rules, one row each, and one theorem over the table. Assumes nothing.
+-- Names at the limits of document 01's rules, one row each, and one theorem over the table.
 use mathlib.Core.Path.{_≡_, refl}
 use mathlib.Core.List.{List, [], _∷_, _++_, map}
 use Prim.Native.Nat.{ℕ}
@@ -8,37 +8,37 @@ use Rattle.names.specs.Name.{Kind, cut, reserved, target, long, short}
 use Rattle.names.specs.Walk.{Limit, message, rdata, Named, named, faulty, walk, nameFrom, nameAt}
 
 -- the offset after the name, or the fault's kind and octet
-pub data Verdict : Type 0 where
-  ends : ℕ → Verdict
-  fault : Kind → ℕ → Verdict
+pub data NameVerdict : Type 0 where
+  ends : ℕ → NameVerdict
+  fault : Kind → ℕ → NameVerdict
 
-abbrev pub verdict : Named → Verdict
-verdict (named name next) = ends next
-verdict (faulty f) = fault (f .kind) (f .octet)
+abbrev pub nameVerdict : Named → NameVerdict
+nameVerdict (named name next) = ends next
+nameVerdict (faulty f) = fault (f .kind) (f .octet)
 
 -- octets after a header of 12, where the octets end, and the offset of a name in them
-pub record Boundary : Type 0 where
+pub record NameBoundary : Type 0 where
   pub octets : List ℕ
   pub limit : Limit
   pub at : ℕ
-  pub gives : Verdict
+  pub gives : NameVerdict
 
 -- a label of n octets
-abbrev pub label : ℕ → List ℕ
-label n = n ∷ replicate n 97
+abbrev pub labelOf : ℕ → List ℕ
+labelOf n = n ∷ replicate n 97
 
-unfoldable pub boundaries : List Boundary
-boundaries =
+unfoldable pub nameBoundaries : List NameBoundary
+nameBoundaries =
     -- no octet, the root, labels of 63 and 64, top bits 10
     record { octets = []; limit = message; at = 12; gives = fault cut 12 }
     ∷ record { octets = hexed "00"; limit = message; at = 12; gives = ends 13 }
-    ∷ record { octets = label 63 ++ hexed "00"; limit = message; at = 12; gives = ends 77 }
-    ∷ record { octets = label 64 ++ hexed "00"; limit = message; at = 12; gives = fault reserved 12 }
+    ∷ record { octets = labelOf 63 ++ hexed "00"; limit = message; at = 12; gives = ends 77 }
+    ∷ record { octets = labelOf 64 ++ hexed "00"; limit = message; at = 12; gives = fault reserved 12 }
     ∷ record { octets = hexed "80"; limit = message; at = 12; gives = fault reserved 12 }
     -- names of 255 and 256 octets; past the end comes before past 255
-    ∷ record { octets = label 63 ++ label 63 ++ label 63 ++ label 61 ++ hexed "00"; limit = message; at = 12; gives = ends 267 }
-    ∷ record { octets = label 63 ++ label 63 ++ label 63 ++ label 62 ++ hexed "00"; limit = message; at = 12; gives = fault long 204 }
-    ∷ record { octets = label 63 ++ label 63 ++ label 63 ++ hexed "3E6161"; limit = message; at = 12; gives = fault cut 204 }
+    ∷ record { octets = labelOf 63 ++ labelOf 63 ++ labelOf 63 ++ labelOf 61 ++ hexed "00"; limit = message; at = 12; gives = ends 267 }
+    ∷ record { octets = labelOf 63 ++ labelOf 63 ++ labelOf 63 ++ labelOf 62 ++ hexed "00"; limit = message; at = 12; gives = fault long 204 }
+    ∷ record { octets = labelOf 63 ++ labelOf 63 ++ labelOf 63 ++ hexed "3E6161"; limit = message; at = 12; gives = fault cut 204 }
     -- a pointer without its second octet; targets 11, 12 and the name's own start
     ∷ record { octets = hexed "00C0"; limit = message; at = 13; gives = fault cut 13 }
     ∷ record { octets = hexed "00C00B"; limit = message; at = 13; gives = fault target 13 }
@@ -54,6 +54,6 @@ boundaries =
     ∷ []
 
 -- every row, computed
-pub boundaries-hold : map (λ (b : Boundary). verdict (nameAt (replicate 12 0 ++ b .octets) (b .limit) (b .at))) boundaries ≡ map (λ (b : Boundary). b .gives) boundaries
-unfolding boundaries walk nameFrom
+pub boundaries-hold : map (λ (b : NameBoundary). nameVerdict (nameAt (replicate 12 0 ++ b .octets) (b .limit) (b .at))) nameBoundaries ≡ map (λ (b : NameBoundary). b .gives) nameBoundaries
+unfolding nameBoundaries walk nameFrom
 boundaries-hold = refl

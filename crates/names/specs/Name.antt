@@ -1,4 +1,4 @@
--- A name, its octets without pointers, and the faults that reading one can meet. Assumes nothing.
+-- A name, its octets without pointers, and the faults that reading one can meet.
 use mathlib.Core.Bool.{Bool, _&&_}
 use mathlib.Core.List.{List, [], _∷_, _++_}
 use Prim.Native.Nat.{ℕ}
@@ -38,13 +38,13 @@ pub data Kind : Type 0 where
   surplus : Kind
 
 -- document 01's number for each
-abbrev pub number : Kind → ℕ
-number cut = 1
-number reserved = 4
-number target = 5
-number long = 6
-number short = 7
-number surplus = 7
+abbrev pub refusalNumber : Kind → ℕ
+refusalNumber cut = 1
+refusalNumber reserved = 4
+refusalNumber target = 5
+refusalNumber long = 6
+refusalNumber short = 7
+refusalNumber surplus = 7
 
 -- a fault, with the offset of the octet at fault: the length octet, the pointer's first octet, the first octet of the field
 -- that doesn't fit, RDATA's first octet where it ends inside its layout, the first octet left over. Answers report the offset

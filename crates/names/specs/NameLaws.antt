@@ -1,4 +1,4 @@
--- Laws of reading a name. Assumes nothing.
+-- Laws of reading a name.
 use mathlib.Core.Path.{_≡_, refl, sym, _∙_, ap, ap₂, subst}
 use mathlib.Core.Bool.{Bool, true, false, _&&_, cond}
 use mathlib.Core.List.{List, [], _∷_, _++_, append-assoc}

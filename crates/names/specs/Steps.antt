@@ -1,4 +1,4 @@
--- One step of the walk over a name, a law for each way that the length octet can go. Assumes nothing.
+-- One step of the walk over a name, a law for each way that the length octet can go.
 use mathlib.Core.Path.{_≡_, refl, sym, ap, _∙_}
 use mathlib.Core.Bool.{Bool, true, false}
 use mathlib.Core.List.{List, []}

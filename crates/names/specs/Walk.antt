@@ -1,4 +1,4 @@
--- Reading a name from a message, with pointers. Assumes nothing.
+-- Reading a name from a message, with pointers.
 use mathlib.Core.Bool.{Bool, _&&_, cond}
 use mathlib.Core.List.{List, [], _∷_}
 use Prim.Native.Nat.{ℕ, zero, suc, _+_, _-_, _*_}

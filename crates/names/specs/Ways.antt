@@ -1,4 +1,4 @@
--- The code's walk over a name, way by way: what is read from a length octet on gives the whole answer. Assumes nothing.
+-- The code's walk over a name, way by way: what is read from a length octet on gives the whole answer.
 use mathlib.Core.Path.{_≡_, refl, sym, ap, _∙_}
 use mathlib.Core.Bool.{Bool, true, false, cond}
 use mathlib.Core.List.{List, [], _∷_, _++_, append-assoc}
@@ -103,12 +103,12 @@ finished-jump next total at form (named n end) = read-same (go (eqb next 0) refl
 finished-jump next total at form (faulty fault) = refl
 
 -- v is the whole answer, by the walk from the length octet at `at` on
-pub record From (s : List ℕ) (v : NameRead) (form : List ℕ) (limit : Limit) (run next total at : ℕ) : Type 0 where
+pub record WalkLoop (s : List ℕ) (v : NameRead) (form : List ℕ) (limit : Limit) (run next total at : ℕ) : Type 0 where
   pub goes : v ≡ finished next total form (walkOn s (limitOf limit) run total at)
 
 -- before the first length octet
 pub from-start : (s : List ℕ) (limit : Limit) (at : ℕ) → endOf s (limitOf limit) ≤ length s
-    → From s (nameRead (nameAt s (limitOf limit) at)) (replicate 255 0) limit at 0 0 at
+    → WalkLoop s (nameRead (nameAt s (limitOf limit) at)) (replicate 255 0) limit at 0 0 at
 from-start s limit at h =
     record {
       goes = finished-start (nameAt s (limitOf limit) at) (λ n next e. read-sized s (limitOf limit) at at n next h e .1)
@@ -117,15 +117,15 @@ from-start s limit at h =
 
 -- ---- the octets of a label
 -- octets are written, unless the labels have `more` octets, over 254
-pub record Kept (more : ℕ) (b : List ℕ) (to : ℕ) (xs b′ : List ℕ) (r : ℕ) : Type 0 where
+pub record KeptOctets (more : ℕ) (b : List ℕ) (to : ℕ) (xs b′ : List ℕ) (r : ℕ) : Type 0 where
   pub wrote : more ≤ 254 → Wrote b to xs b′ r
 
 -- none
-pub keep-none : (more : ℕ) (b : List ℕ) (to : ℕ) → Kept more b to [] b to
+pub keep-none : (more : ℕ) (b : List ℕ) (to : ℕ) → KeptOctets more b to [] b to
 keep-none more b to = record { wrote = λ h. nothing b to }
 
 -- x is the length octet of a label
-pub record Label (s : List ℕ) (limit : Limit) (at end x : ℕ) : Type 0 where
+pub record LabelAt (s : List ℕ) (limit : Limit) (at end x : ℕ) : Type 0 where
   pub bound : end ≡ endOf s (limitOf limit)
   pub inside : endOf s (limitOf limit) ≤ length s
   pub within : at < end
@@ -134,9 +134,9 @@ pub record Label (s : List ℕ) (limit : Limit) (at end x : ℕ) : Type 0 where
   pub few : x ≤ 63
 
 -- one octet more, within the end
-pub keep-more : {s : List ℕ} {limit : Limit} {at end x : ℕ} → Label s limit at end x → (k : ℕ) {more : ℕ} {b b₁ b₂ : List ℕ}
-    {to r₁ r₂ : ℕ} → at + 1 + k < end → Kept more b to (part s (at + 1) k) b₁ r₁
-    → Kept more b₁ r₁ (getD s (at + 1 + k) 0 ∷ []) b₂ r₂ → Kept more b to (part s (at + 1) (k + 1)) b₂ r₂
+pub keep-more : {s : List ℕ} {limit : Limit} {at end x : ℕ} → LabelAt s limit at end x → (k : ℕ) {more : ℕ} {b b₁ b₂ : List ℕ}
+    {to r₁ r₂ : ℕ} → at + 1 + k < end → KeptOctets more b to (part s (at + 1) k) b₁ r₁
+    → KeptOctets more b₁ r₁ (getD s (at + 1 + k) 0 ∷ []) b₂ r₂ → KeptOctets more b to (part s (at + 1) (k + 1)) b₂ r₂
 keep-more {s} {at = at} l k h p q =
     let long = length-drop (at + 1) s in
     record {
@@ -146,7 +146,7 @@ keep-more {s} {at = at} l k h p q =
 
 -- ---- the ways
 module _ {s : List ℕ} {v : NameRead} {form : List ℕ} {limit : Limit} {run next total at end : ℕ}
-    (w : From s v form limit run next total at) (b : end ≡ endOf s (limitOf limit)) where
+    (w : WalkLoop s v form limit run next total at) (b : end ≡ endOf s (limitOf limit)) where
   -- the length octet is past the end
   pub name-past : {f : Fault} {r : NameRead} → end ≤ at → f ≡ pastOf limit at → r ≡ failed f → r ≡ v
   unfolding finished
@@ -191,7 +191,7 @@ module _ {s : List ℕ} {v : NameRead} {form : List ℕ} {limit : Limit} {run ne
 
             -- the walk goes on at the target
             pub jump-read : {next′ : ℕ} → (x - 192) * 256 + y < run → next′ ≡ ownEnd next (at + 2)
-                → From s v form Message ((x - 192) * 256 + y) next′ total ((x - 192) * 256 + y)
+                → WalkLoop s v form Message ((x - 192) * 256 + y) next′ total ((x - 192) * 256 + y)
             jump-read p q =
                 let goal = (x - 192) * 256 + y in
                 record {
@@ -201,7 +201,7 @@ module _ {s : List ℕ} {v : NameRead} {form : List ℕ} {limit : Limit} {run ne
 
 -- the ways of a label
 module _ {s : List ℕ} {v : NameRead} {form : List ℕ} {limit : Limit} {run next total at end x : ℕ}
-    (w : From s v form limit run next total at) (l : Label s limit at end x) where
+    (w : WalkLoop s v form limit run next total at) (l : LabelAt s limit at end x) where
   at-label : LengthOctet s (limitOf limit) at x
   at-label = record { within = omega arith; octet = l .octet }
 
@@ -220,9 +220,9 @@ module _ {s : List ℕ} {v : NameRead} {form : List ℕ} {limit : Limit} {run ne
 
     -- the walk goes on after it
     pub label-read : {base form′ : List ℕ} {to to′ : ℕ} → k ≤ x → total + (x + 1) ≤ 254
-        → Kept (total + (x + 1)) form total (getD s at 0 ∷ []) base to
-        → Kept (total + (x + 1)) base to (part s (at + 1) k) form′ to′
-        → From s v form′ limit run next (total + (x + 1)) (at + (x + 1))
+        → KeptOctets (total + (x + 1)) form total (getD s at 0 ∷ []) base to
+        → KeptOctets (total + (x + 1)) base to (part s (at + 1) k) form′ to′
+        → WalkLoop s v form′ limit run next (total + (x + 1)) (at + (x + 1))
     label-read {form′ = form′} k≤x p d f =
         let e = l .octet in
         let same : k ≡ x = omega arith in

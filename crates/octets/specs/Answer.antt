@@ -1,4 +1,4 @@
--- What a call answers and leaves in its lent buffer. Assumes nothing.
+-- What a call answers and leaves in its lent buffer.
 use mathlib.Core.Path.{_≡_, refl, sym, _∙_}
 use mathlib.Core.Bool.{Bool, true, false, cond}
 use mathlib.Core.List.{List, _++_}
@@ -20,17 +20,17 @@ pub data Answer : Type 0 where
   refusal : ℕ → ℕ → Answer
 
 -- the answer, and the whole buffer afterwards
-pub record Left : Type 0 where
+pub record Result : Type 0 where
   pub answer : Answer
   pub buffer : List ℕ
 
--- octets written from the buffer's first octet on; what stands behind them stays
+-- octets written from the buffer's first octet on; what follows them stays
 abbrev pub overwritten : List ℕ → List ℕ → List ℕ
 overwritten l buffer = l ++ drop (length l) buffer
 
 -- Given room the output is written and its length is the answer; without room it is the refusal of this number at 0.
 -- A refusal leaves the buffer as it was.
-unfoldable pub delivered : ℕ → Output → List ℕ → Left
+unfoldable pub delivered : ℕ → Output → List ℕ → Result
 delivered noRoom (output l) buffer =
     cond (leb (length l) (length buffer))
     (record { answer = success (length l); buffer = overwritten l buffer })
@@ -43,7 +43,7 @@ reported (success n) = n
 reported (refusal number place) = 0
 
 -- the octets that were written
-abbrev pub written : Left → List ℕ
+abbrev pub written : Result → List ℕ
 written left = take (reported (left .answer)) (left .buffer)
 
 -- ---- what follows of it, for any output
@@ -64,7 +64,7 @@ module _ (noRoom : ℕ) where
   unfolding delivered
   delivered-same (output l) b b′ e = rw e (go (leb (length l) (length b′)))
     where
-      at : Bool → List ℕ → Left
+      at : Bool → List ℕ → Result
       at t b = cond t (record { answer = success (length l); buffer = overwritten l b }) (record { answer = refusal noRoom 0; buffer = b })
 
       go : (t : Bool) → (at t b .answer ≡ at t b′ .answer) × (written (at t b) ≡ written (at t b′))
@@ -79,7 +79,7 @@ module _ (noRoom : ℕ) where
   unfolding delivered
   delivered-stays (output l) b = go (leb (length l) (length b)) refl
     where
-      at : Bool → Left
+      at : Bool → Result
       at t = cond t (record { answer = success (length l); buffer = overwritten l b }) (record { answer = refusal noRoom 0; buffer = b })
 
       go : (t : Bool) → leb (length l) (length b) ≡ t → (drop (reported (at t .answer)) (at t .buffer) ≡ drop (reported (at t .answer)) b) × (length (at t .buffer) ≡ length b)

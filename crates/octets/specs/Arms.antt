@@ -1,4 +1,4 @@
--- What a `match` on a number knows in its arms, where the arms are the rows of a table. Assumes nothing.
+-- What a `match` on a number knows in its arms, where the arms are the rows of a table.
 use mathlib.Core.Path.{_≡_, refl, sym, ap, _∙_, subst}
 use mathlib.Core.Bool.{Bool, true, false, _||_}
 use mathlib.Core.Option.{none}

@@ -1,5 +1,4 @@
 -- Facts on Boolean tests, and on facts of every element of a list.
--- Assumes nothing.
 use mathlib.Core.Path.{_≡_, refl, sym, subst}
 use mathlib.Core.Logic.{_≢_}
 use mathlib.Core.Bool.{Bool, true, false, not, _&&_}
@@ -72,7 +71,7 @@ module _ {A : Type 0} where
   All-map f [] h = tt
   All-map f (x ∷ l) h = (f x (h .0), All-map f l (h .1))
 
-  -- two lists, one behind the other
+  -- two lists, one after the other
   pub All-append : (P : A → Type 0) (l m : List A) → All P l → All P m → All P (l ++ m)
   All-append P [] m h k = k
   All-append P (x ∷ l) m h k = (h .0, All-append P l m (h .1) k)

@@ -1,11 +1,11 @@
--- Calls of a conversion: what one gives, what it writes, and how that follows from what its runs wrote. Assumes nothing.
+-- Calls of a conversion: what one gives, what it writes, and how that follows from what its runs wrote.
 use mathlib.Core.Path.{_≡_, refl, ap, _∙_}
 use mathlib.Core.List.{List}
 use Prim.Native.Nat.{ℕ, _≤_, _<_}
 use native.Mathlib.Omega.{arith}
 use borrow.Author.Tests.{le-leb, lt-leb}
 use lib.ListN.{length}
-use Rattle.octets.specs.Answer.{output, Answer, success, refusal, Left, written, delivered}
+use Rattle.octets.specs.Answer.{output, Answer, success, refusal, Result, written, delivered}
 use Rattle.octets.specs.Answer as answer
 use Rattle.octets.specs.Overlay.{Wrote, overlay-first}
 use Rattle.octets.specs.declared.Outcome.{Outcome}
@@ -17,7 +17,7 @@ answerOf (Length n) = success n
 answerOf (Refused number place) = refusal number place
 
 -- the call gave this answer and left this buffer
-pub record Gives (left : Left) (r : Outcome) (after : List ℕ) : Type 0 where
+pub record Gives (left : Result) (r : Outcome) (after : List ℕ) : Type 0 where
   pub answers : answerOf r ≡ left .answer
   pub leaves : after ≡ left .buffer
 
@@ -29,12 +29,12 @@ pub record Call : Type 0 where
   pub after : List ℕ
 
 -- what the call answered, in document 01's number and values, and left in its buffer
-abbrev pub leftBy : Call → Left
-leftBy c = record { answer = answerOf (c .answer); buffer = c .after }
+abbrev pub resultOf : Call → Result
+resultOf c = record { answer = answerOf (c .answer); buffer = c .after }
 
 -- what it wrote: the octets of its buffer up to the reported length; a refusal adds nothing
 abbrev pub writtenBy : Call → List ℕ
-writtenBy c = written (leftBy c)
+writtenBy c = written (resultOf c)
 
 -- ---- an output, and the buffer b
 module _ (noRoom : ℕ) (b : List ℕ) where

@@ -1,5 +1,4 @@
 -- Texts with a parser that takes them, and no other.
--- Assumes nothing.
 use mathlib.Core.Path.{_≡_, refl, sym, _∙_, ap, ap₂, subst}
 use mathlib.Core.Logic.{_↔_, _⊎_, inl, inr}
 use mathlib.Core.Bool.{Bool, true, false, not, cond, _&&_}
@@ -9,7 +8,7 @@ use Prim.Native.String.{String}
 use native.Mathlib.Omega.{arith}
 use lib.Dec.{T, T-not, eqb, eqb-refl, eqb→eq}
 use lib.ListN.{length, length-append}
-use Rattle.octets.specs.Lists.{ascii, none?, all, All, key?, textOf, ended, listed}
+use Rattle.octets.specs.Lists.{ascii, none?, all, All, key?, rowText, ended, listed}
 use Rattle.octets.specs.Bits.{is-true, is-false, and-left, and-right}
 use Rattle.octets.specs.Parsed.{Parsed, took, stuck, and-then, or-else, otherwise, strip, Holds, missed, found, took-value, took-rest, held, is-stuck, map-holds, then-holds, or-holds, otherwise-holds, strip-back, strip-sound}
 
@@ -26,12 +25,12 @@ OneOrMore P l = All P l × T (not (none? l))
 pub fronts : {x y : ℕ} {r s : List ℕ} → T (not (eqb x y)) → _≡_ {A = List ℕ} (x ∷ r) (y ∷ s) → ⊥
 fronts {x} {y} t e = T-not (eqb x y) t (subst (λ z. T (eqb x z)) (head-eq-of-cons-eq e) (eqb-refl x))
 
--- what stands before the empty text is empty
+-- what comes before the empty text is empty
 pub nil-left : (l r : List ℕ) → l ++ r ≡ [] → l ≡ []
 nil-left [] r e = refl
 nil-left (x ∷ l) r e = absurd (nil≢cons (sym e))
 
--- a text behind another
+-- a text after another
 pub behind : (l w r : List ℕ) {t u : List ℕ} → w ++ r ≡ u → l ++ u ≡ t → l ++ w ++ r ≡ t
 behind l w r e f = append-assoc l w r ∙ ap (λ z. l ++ z) e ∙ f
 
@@ -64,13 +63,13 @@ module _ {A : Type 0} {I : A → Type 0} {f : A → List ℕ} {F : List ℕ → 
   pub absent : (t : List ℕ) → ((a : A) (r : List ℕ) → I a → f a ++ r ≡ t → ⊥) → (w : List ℕ) × (p .parse t ≡ stuck w)
   absent t h = is-stuck (p .sound t) λ a r k. h a r (k .0) (k .1)
 
-  -- a text and what stands behind it tell what was written
+  -- a text and what follows it determine what was written
   pub unique : (a b : A) (r s : List ℕ) → I a → I b → F r → F s → f a ++ r ≡ f b ++ s → (a ≡ b) × (r ≡ s)
   unique a b r s h k m n e =
       let z : _≡_ {A = Parsed A} (took a r) (took b s) = sym (p .back a r h m) ∙ ap (p .parse) e ∙ p .back b s k n in
       (took-value z, took-rest z)
 
-  -- a text and nothing behind it
+  -- a text and nothing after it
   abbrev pub whole : List ℕ → Parsed A
   whole t = and-then (p .parse t) λ a r. cond (none? r) (took a []) (stuck r)
 
@@ -81,7 +80,7 @@ module _ {A : Type 0} {I : A → Type 0} {f : A → List ℕ} {F : List ℕ → 
       go a [] h = found (h .0, sym (append-nil (f a)) ∙ h .1)
       go a (x ∷ r) h = missed (x ∷ r)
 
-  -- nothing is left behind it
+  -- nothing is left after it
   pub whole-ends : (t : List ℕ) (a : A) (r : List ℕ) → whole t ≡ took a r → r ≡ []
   whole-ends t a r = held (then-holds _ (p .sound t) go)
     where
@@ -89,7 +88,7 @@ module _ {A : Type 0} {I : A → Type 0} {f : A → List ℕ} {F : List ℕ → 
       go a [] h = found refl
       go a (x ∷ r) h = missed (x ∷ r)
 
--- ---- texts that split in one way only: a text and what stands behind it tell what was written
+-- ---- texts that split in one way only: a text and what follows it determine what was written
 abbrev pub Splits : {A : Type 0} → (A → Type 0) → (A → List ℕ) → Type 0
 Splits {A} I f = (a b : A) (r s : List ℕ) → I a → I b → f a ++ r ≡ f b ++ s → (a ≡ b) × (r ≡ s)
 
@@ -121,7 +120,7 @@ module _ {A : Type 0} {I : A → Type 0} {f : A → List ℕ} {F : List ℕ → 
     sound = λ t. then-holds _ (strip-sound (ascii l) t) λ u w e. map-holds (p .sound w) λ a r h. (h .0, behind (ascii l) _ _ (h .1) e);
   }
 
-  -- fixed octets behind, which may follow
+  -- fixed octets after, which may follow
   abbrev pub behind-lit : (l : String) → ((r : List ℕ) → F (ascii l ++ r)) → Codec I f F → Codec I (λ a. f a ++ ascii l) Any
   behind-lit l fits p = record {
     parse = λ t. and-then (p .parse t) λ a w. and-then (strip (ascii l) w) λ u r. took a r;
@@ -210,7 +209,7 @@ module _ {A : Type 0} {I : A → Type 0} {f : A → List ℕ} {F : List ℕ → 
           (then-holds _ (p .sound t) λ a w h. then-holds _ (go-sound n w) λ l r k. found ((h .0, k .0), behind (f a) _ _ (k .1) (h .1)))
 
 module _ {A : Type 0} {I : A → Type 0} {f : A → List ℕ} where
-  -- fixed octets behind a text that ends by itself
+  -- fixed octets after a text that ends by itself
   infixl 65 _◁_
   abbrev pub _◁_ : Codec I f Any → (l : String) → Codec I (λ a. f a ++ ascii l) Any
   p ◁ l = behind-lit l (λ r. tt) p
@@ -220,7 +219,7 @@ module _ {A : Type 0} {I : A → Type 0} {f : A → List ℕ} where
   abbrev pub _⊗_ : {B : Type 0} {J : B → Type 0} {g : B → List ℕ} {G : List ℕ → Type 0} → Codec I f Any → Codec J g G → Codec {A = A × B} (λ t. I (t .0) × J (t .1)) (λ t. f (t .0) ++ g (t .1)) G
   p ⊗ q = joined p q (λ b r h m. tt)
 
-  -- the same, where the first tells what the second is
+  -- the same, where the first decides what the second is
   abbrev pub pair-by : {B : A → Type 0} {J : (a : A) → B a → Type 0} {g : (a : A) → B a → List ℕ} {G : List ℕ → Type 0}
       → Codec I f Any → ((a : A) → Codec (J a) (g a) G) → Codec {A = (a : A) × B a} (λ u. I (u .0) × J (u .0) (u .1)) (λ u. f (u .0) ++ g (u .0) (u .1)) G
   pair-by {g} p q = record {
@@ -339,15 +338,15 @@ apart-texts (x ∷ l) (y ∷ m) r s h e = go (eqb x y) refl h (λ h. apart-texts
 
 -- a key of the rows that a row differs from is not the row's, and its text is apart from the row's
 key-apart : (row : ℕ × String) (rows : List (ℕ × String)) (n : ℕ) → T (all (differs? row) rows) → T (key? n rows)
-    → T (not (eqb (row .0) n)) × T (apart? (ascii (row .1)) (textOf n rows))
-unfolding key? textOf
+    → T (not (eqb (row .0) n)) × T (apart? (ascii (row .1)) (rowText n rows))
+unfolding key? rowText
 key-apart row [] n h k = absurd k
 key-apart row (u ∷ rows) n h k =
     go (eqb (u .0) n) refl k (and-left (differs? row u) (all (differs? row) rows) h) (λ k. key-apart row rows n (and-right (differs? row u) (all (differs? row) rows) h) k)
   where
     go : (b : Bool) → eqb (u .0) n ≡ b → T (cond b true (key? n rows)) → T (differs? row u)
-        → (T (key? n rows) → T (not (eqb (row .0) n)) × T (apart? (ascii (row .1)) (textOf n rows)))
-        → T (not (eqb (row .0) n)) × T (apart? (ascii (row .1)) (cond b (ascii (u .1)) (textOf n rows)))
+        → (T (key? n rows) → T (not (eqb (row .0) n)) × T (apart? (ascii (row .1)) (rowText n rows)))
+        → T (not (eqb (row .0) n)) × T (apart? (ascii (row .1)) (cond b (ascii (u .1)) (rowText n rows)))
     go true d k h f = (
       subst (λ z. T (not (eqb (row .0) z))) (eqb→eq (u .0) n (subst T (sym d) tt)) (and-left (not (eqb (row .0) (u .0))) _ h),
       and-right (not (eqb (row .0) (u .0))) _ h,
@@ -359,23 +358,23 @@ unfoldable pub tried : List (ℕ × String) → List ℕ → Parsed ℕ
 tried [] t = stuck t
 tried (row ∷ rows) t = or-else (and-then (strip (ascii (row .1)) t) λ u r. took (row .0) r) (tried rows t)
 
-pub tried-back : (rows : List (ℕ × String)) → T (distinct rows) → (n : ℕ) (r : List ℕ) → T (key? n rows) → tried rows (textOf n rows ++ r) ≡ took n r
-unfolding key? textOf tried
+pub tried-back : (rows : List (ℕ × String)) → T (distinct rows) → (n : ℕ) (r : List ℕ) → T (key? n rows) → tried rows (rowText n rows ++ r) ≡ took n r
+unfolding key? rowText tried
 tried-back [] d n r k = absurd k
 tried-back (row ∷ rows) d n r k = go (eqb (row .0) n) refl k (λ k. tried-back rows (and-right (all (differs? row) rows) (distinct rows) d) n r k)
   where
-    go : (b : Bool) → eqb (row .0) n ≡ b → T (cond b true (key? n rows)) → (T (key? n rows) → tried rows (textOf n rows ++ r) ≡ took n r)
-        → tried (row ∷ rows) (cond b (ascii (row .1)) (textOf n rows) ++ r) ≡ took n r
+    go : (b : Bool) → eqb (row .0) n ≡ b → T (cond b true (key? n rows)) → (T (key? n rows) → tried rows (rowText n rows ++ r) ≡ took n r)
+        → tried (row ∷ rows) (cond b (ascii (row .1)) (rowText n rows) ++ r) ≡ took n r
     go true e k f = rw (strip-back (ascii (row .1)) r) (ap (λ z. took z r) (eqb→eq (row .0) n (subst T (sym e) tt)))
     go false e k f =
         rw (
-          is-stuck (strip-sound (ascii (row .1)) (textOf n rows ++ r))
-              (λ u s q. apart-texts (ascii (row .1)) (textOf n rows) s r (key-apart row rows n (and-left (all (differs? row) rows) (distinct rows) d) k .1) q) .1,
+          is-stuck (strip-sound (ascii (row .1)) (rowText n rows ++ r))
+              (λ u s q. apart-texts (ascii (row .1)) (rowText n rows) s r (key-apart row rows n (and-left (all (differs? row) rows) (distinct rows) d) k .1) q) .1,
           f k,
         )
 
-pub tried-sound : (rows : List (ℕ × String)) → T (distinct rows) → (t : List ℕ) → Holds (λ n r. T (key? n rows) × (textOf n rows ++ r ≡ t)) (tried rows t)
-unfolding key? textOf tried
+pub tried-sound : (rows : List (ℕ × String)) → T (distinct rows) → (t : List ℕ) → Holds (λ n r. T (key? n rows) × (rowText n rows ++ r ≡ t)) (tried rows t)
+unfolding key? rowText tried
 tried-sound [] d t = missed t
 tried-sound (row ∷ rows) d t = or-holds
     (then-holds _ (strip-sound (ascii (row .1)) t) λ u r e. found (rw (is-true (eqb (row .0) (row .0)) (eqb-refl (row .0))) (tt, e)))
@@ -383,7 +382,7 @@ tried-sound (row ∷ rows) d t = or-holds
     rw (is-false (eqb (row .0) n) (key-apart row rows n (and-left (all (differs? row) rows) (distinct rows) d) (h .0) .0)) h)
 
 -- a row's key, written as its text
-abbrev pub table : (rows : List (ℕ × String)) → T (distinct rows) → Codec (λ n. T (key? n rows)) (λ n. textOf n rows) Any
+abbrev pub table : (rows : List (ℕ × String)) → T (distinct rows) → Codec (λ n. T (key? n rows)) (λ n. rowText n rows) Any
 table rows d = record {
   parse = tried rows;
   back = λ n r h m. tried-back rows d n r h;

@@ -1,5 +1,4 @@
 -- Decimal numbers of any size, with no leading zeros.
--- Assumes nothing.
 use mathlib.Core.Path.{_≡_, refl, sym, _∙_, ap, subst}
 use mathlib.Core.Bool.{Bool, true, false, not, _&&_}
 use mathlib.Core.List.{List, [], _∷_, _++_, append-assoc, nil≢cons, head-eq-of-cons-eq, tail-eq-of-cons-eq}
@@ -73,7 +72,7 @@ decimal-step n h = rw (is-false (ltb n 10) (le→nltb n 10 h)) (go n (omega arit
     go zero k = absurd (omega arith)
     go (suc f) k = ap (λ l. l ++ ((48 + n % 10) ∷ [])) (digits-same f (n / 10) (ltb (n / 10) 10) (n / 10) refl (omega arith) (omega arith))
 
--- one more digit behind a number that is not 0
+-- one more digit after a number that is not 0
 pub decimal-push : (n d : ℕ) → 0 < n → d < 10 → decimal (n * 10 + d) ≡ decimal n ++ ((48 + d) ∷ [])
 decimal-push n d h k =
     let u : (n * 10 + d) / 10 ≡ n = omega arith in
@@ -138,7 +137,7 @@ no-leading-zero n d r s h k e =
     T-not (digit? d) (subst NoDigit (tail-eq-of-cons-eq z) h) k
 
 -- ---- the parser
--- all the digits that come, behind the digits of `n`
+-- all the digits that come, after the digits of `n`
 abbrev pub run : ℕ → List ℕ → Parsed ℕ
 run n [] = took n []
 run n (d ∷ t) = elim (digit? d) [ true ↦ run (n * 10 + (d - 48)) t | false ↦ took n (d ∷ t) ]
@@ -152,7 +151,7 @@ unfoldable pub positive : List ℕ → Parsed ℕ
 positive [] = stuck []
 positive (d ∷ t) = elim (leading? d) [ true ↦ run (d - 48) t | false ↦ stuck (d ∷ t) ]
 
--- 0 alone, or such a number; a digit behind the 0 is left
+-- 0 alone, or such a number; a digit after the 0 is left
 unfoldable pub natural : List ℕ → Parsed ℕ
 natural [] = stuck []
 natural (d ∷ t) = elim (eqb d 48) [ true ↦ took 0 t | false ↦ positive (d ∷ t) ]
@@ -249,7 +248,7 @@ abbrev pub ends? : List ℕ → Bool
 ends? [] = false
 ends? (c ∷ l) = not (digit? c)
 
--- a text that ends with a number, and fixed octets behind it that do not begin with a digit: `till "," tt number`
+-- a text that ends with a number, and fixed octets after it that do not begin with a digit: `till "," tt number`
 abbrev pub till : {A : Type 0} {I : A → Type 0} {f : A → List ℕ} (l : String) → T (ends? (ascii l)) → Codec I f NoDigit → Codec I (λ a. f a ++ ascii l) Any
 till l h p = behind-lit l (go (ascii l) h) p
   where

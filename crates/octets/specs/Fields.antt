@@ -1,5 +1,4 @@
 -- Numbers of 16 and 32 bits in octets, and places in a text.
--- Assumes nothing.
 use mathlib.Core.Path.{_≡_, refl, sym, _∙_, ap, ap₂}
 use mathlib.Core.List.{List, [], _∷_, _++_}
 use Prim.Native.Nat.{ℕ, zero, suc, _+_, _-_, _*_, _/_, _%_, _<_, _≤_}
@@ -40,7 +39,7 @@ empty (x ∷ l) h = absurd (omega arith)
 pub drop-one : (s : List ℕ) (at : ℕ) → at < length s → drop at s ≡ getD s at 0 ∷ drop (at + 1) s
 drop-one s at h = rw (add-one, drop-cons s at 0)
 
--- what stands behind `x`, where `x` stands at a place
+-- what follows `x`, where `x` is at a place
 pub drop-past : (s x r : List ℕ) (at : ℕ) → drop at s ≡ x ++ r → drop (at + length x) s ≡ r
 drop-past s x r at e = sym (drop-drop (length x) at s) ∙ ap (drop (length x)) e ∙ drop-append-seam x r
 

@@ -1,5 +1,4 @@
 -- Octets in hexadecimal, in capitals.
--- Assumes nothing.
 use mathlib.Core.Path.{_≡_, refl, sym, ap, subst}
 use mathlib.Core.Bool.{Bool, true, false, _&&_}
 use mathlib.Core.List.{List, [], _∷_, _++_, head-eq-of-cons-eq}
@@ -26,7 +25,7 @@ hexDigit n = hexOf (ltb n 10) n
 abbrev pub hexOctet : ℕ → List ℕ
 hexOctet x = hexDigit (x / 16) ∷ hexDigit (x % 16) ∷ []
 
--- octets, and the quote behind them
+-- octets, and the quote after them
 unfoldable pub hexText : List ℕ → List ℕ
 hexText = ended hexOctet 34
 

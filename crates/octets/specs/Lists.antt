@@ -1,5 +1,4 @@
 -- Octets of quoted texts, tests over lists, tables, and texts made of the texts of a list.
--- Assumes nothing.
 use mathlib.Core.Bool.{Bool, true, false, cond, _&&_}
 use mathlib.Core.Option.{Option, none, some}
 use mathlib.Core.List.{List, [], _∷_, _++_}
@@ -14,7 +13,7 @@ abbrev pub ascii : String → List ℕ
 ascii S.[] = []
 ascii (S._∷_ c s) = code c ∷ ascii s
 
--- the octets that a quoted text of hexadecimal digits stands for, two digits an octet
+-- the octets of a quoted text of hexadecimal digits, two digits an octet
 abbrev pub digitValue : ℕ → ℕ
 digitValue c = cond (ltb c 58) (c - 48) (c - 55)
 
@@ -76,16 +75,16 @@ key? n [] = false
 key? n (row ∷ rows) = cond (eqb (row .0) n) true (key? n rows)
 
 -- the text of the first row with this key
-unfoldable pub textOf : ℕ → List (ℕ × String) → List ℕ
-textOf n [] = []
-textOf n (row ∷ rows) = cond (eqb (row .0) n) (ascii (row .1)) (textOf n rows)
+unfoldable pub rowText : ℕ → List (ℕ × String) → List ℕ
+rowText n [] = []
+rowText n (row ∷ rows) = cond (eqb (row .0) n) (ascii (row .1)) (rowText n rows)
 
 -- texts, or other octets, one after another
 unfoldable pub each : {A : Type 0} → (A → List ℕ) → List A → List ℕ
 each f [] = []
 each f (a ∷ l) = f a ++ each f l
 
--- the same and an octet behind the last
+-- the same and an octet after the last
 abbrev pub ended : {A : Type 0} → (A → List ℕ) → ℕ → List A → List ℕ
 ended f stop [] = stop ∷ []
 ended f stop (a ∷ l) = f a ++ ended f stop l

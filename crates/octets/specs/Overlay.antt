@@ -1,5 +1,4 @@
 -- A buffer with a text written over it, and what every writer does to one.
--- Assumes nothing.
 use mathlib.Core.Path.{_≡_, refl, sym, ap, _∙_}
 use mathlib.Core.List.{List, [], _∷_, _++_, append-assoc, append-nil}
 use Prim.Native.Nat.{ℕ, suc, _+_, _≤_, _<_}
@@ -43,7 +42,7 @@ overlay-past b at (x ∷ xs) h =
     let e : set b at x ≡ b = set-out b at x h in
     rw e (overlay-past b (at + 1) xs (omega arith))
 
--- given room, the buffer is what stood before the text, the text, and what stood behind it
+-- given room, the buffer is what stood before the text, the text, and what stood after it
 overlay-sets : (b : List ℕ) (at : ℕ) (xs : List ℕ) → overlay b at xs ≡ sets b at xs
 unfolding overlay
 overlay-sets b at [] = refl
@@ -57,7 +56,7 @@ overlay-fits b at xs h = overlay-sets b at xs ∙ sets-eq xs b at h
 pub overlay-first : (b xs : List ℕ) → length xs ≤ length b → overlay b 0 xs ≡ overwritten xs b
 overlay-first b xs h = overlay-fits b 0 xs (omega arith) ∙ rw zero-add
 
--- an octet in front of a text may be written before the text or after it; so may a whole text
+-- an octet before a text may be written before the text or after it; so may a whole text
 set-overlay : (b : List ℕ) (at x n : ℕ) (xs : List ℕ) → at < n → set (overlay b n xs) at x ≡ overlay (set b at x) n xs
 unfolding overlay
 set-overlay b at x n [] h = refl
@@ -70,7 +69,7 @@ overlay-swap b at n (x ∷ xs) ys h =
     let k : at + suc (length xs) ≤ n = h in
     rw (set-overlay b at x n ys (omega arith)) (overlay-swap (set b at x) (at + 1) n xs ys (omega arith))
 
--- What every writer does: it finds the buffer `b`, writes `xs` from the place `at` on, leaves the buffer `b′`, and returns the place behind the text.
+-- What every writer does: it finds the buffer `b`, writes `xs` from the place `at` on, leaves the buffer `b′`, and returns the place after the text.
 -- The place counts what had no room too.
 pub record Wrote (b : List ℕ) (at : ℕ) (xs : List ℕ) (b′ : List ℕ) (r : ℕ) : Type 0 where
   pub place : r ≡ at + length xs
@@ -92,7 +91,7 @@ nothing b at = record { place = omega (arith, add-zero at); text = sym (overlay-
 pub past : (b : List ℕ) (at : ℕ) (xs : List ℕ) {r : ℕ} → length b ≤ at → r ≡ at + length xs → Wrote b at xs b r
 past b at xs h e = record { place = e; text = sym (overlay-past b at xs h) }
 
--- a text written first, and then the octets in front of it
+-- a text written first, and then the octets before it
 pub before : {b b₁ b₂ : List ℕ} {at n r s : ℕ} {xs ys : List ℕ} → n ≡ at + length xs → Wrote b n ys b₁ r → Wrote b₁ at xs b₂ s → Wrote b at (xs ++ ys) b₂ r
 before {b} {at = at} {n = n} {xs = xs} {ys = ys} e p q =
     let s : overlay (overlay b n ys) at xs ≡ overlay (overlay b at xs) n ys = overlay-swap b at n xs ys (omega (arith, e)) in
@@ -117,7 +116,7 @@ module _ {A : Type 0} where
   unfolding each
   each-single f x = append-nil (f x)
 
-  -- with an octet behind the last
+  -- with an octet after the last
   pub each-ended : (f : A → List ℕ) (stop : ℕ) (l : List A) → ended f stop l ≡ each f l ++ (stop ∷ [])
   unfolding each
   each-ended f stop [] = refl

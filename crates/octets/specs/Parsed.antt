@@ -1,5 +1,4 @@
--- What a parser answers: a value with the text behind it, or the text from the octet at which it stopped.
--- Assumes nothing.
+-- What a parser answers: a value with the text after it, or the text from the octet at which it stopped.
 use mathlib.Core.Path.{_≡_, refl, _∙_, ap, ap₂, subst}
 use mathlib.Core.Bool.{Bool, true, false, cond}
 use mathlib.Core.List.{List, [], _∷_, _++_}
@@ -16,7 +15,7 @@ abbrev pub and-then : {A B : Type 0} → Parsed A → (A → List ℕ → Parsed
 and-then (took a r) f = f a r
 and-then (stuck w) f = stuck w
 
--- one parser or another; where both stop, the one that came further tells where
+-- one parser or another; where both stop, the one that came further says where
 abbrev pub or-else : {A : Type 0} → Parsed A → Parsed A → Parsed A
 or-else (took a r) o = took a r
 or-else (stuck w) (took a r) = took a r
@@ -33,7 +32,7 @@ strip [] t = took tt t
 strip (x ∷ l) [] = stuck []
 strip (x ∷ l) (y ∷ t) = cond (eqb x y) (strip l t) (stuck (y ∷ t))
 
--- ---- what holds of the value and the text behind it, if there are any
+-- ---- what holds of the value and the text after it, if there are any
 pub data Holds {A : Type 0} (P : A → List ℕ → Type 0) : Parsed A → Type 0 where
   missed : (w : List ℕ) → Holds P (stuck w)
   found : {a : A} {r : List ℕ} → P a r → Holds P (took a r)

@@ -1,5 +1,4 @@
 -- The steps of the writers of numbers and digits, and how long their texts are.
--- Assumes nothing.
 use mathlib.Core.Path.{_≡_, refl, ap, _∙_}
 use mathlib.Core.Bool.{Bool, true, false}
 use mathlib.Core.List.{List, [], _∷_}

@@ -1,4 +1,4 @@
--- Option values at the limits of their shapes, one row each, and one theorem over the table. Assumes nothing.
+-- Option values at the limits of their shapes, one row each, and one theorem over the table.
 use mathlib.Core.Path.{_≡_, refl}
 use mathlib.Core.Bool.{Bool, true, false}
 use mathlib.Core.List.{List, [], _∷_, map}

@@ -1,4 +1,4 @@
--- The tests of one octet: zero, and 0x20 to 0x7E. Assumes nothing.
+-- The tests of one octet: zero, and 0x20 to 0x7E.
 use mathlib.Core.Path.{_≡_}
 use mathlib.Core.Bool.{true, false}
 use Prim.Native.Nat.{ℕ, _≤_, _<_}

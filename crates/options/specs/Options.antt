@@ -1,4 +1,4 @@
--- EDNS options: the table of document 01, the shapes of their values, and their members. Assumes nothing.
+-- EDNS options: the table of document 01, the shapes of their values, and their members.
 use mathlib.Core.Bool.{Bool, true, false, _&&_, cond}
 use mathlib.Core.Option.{Option, none, some}
 use mathlib.Core.List.{List, [], _∷_, _++_, map}
@@ -6,7 +6,7 @@ use Prim.Native.Nat.{ℕ, _+_, _*_, _%_}
 use Prim.Native.String.{String}
 use lib.Dec.{leb, eqb}
 use lib.ListN.{length, take, drop}
-use Rattle.octets.specs.Lists.{ascii, all, lookup, textOf, listed}
+use Rattle.octets.specs.Lists.{ascii, all, lookup, rowText, listed}
 use Rattle.octets.specs.Fields.{twoAt, fourAt}
 use Rattle.octets.specs.Decimal.{decimal}
 use Rattle.octets.specs.Hexadecimal.{hexText}
@@ -152,5 +152,5 @@ memberOf o = chosen (o .code) (o .value) (shape (formOf (o .code)) (o .value))
 
 -- the text of a member
 unfoldable pub memberText : Member → List ℕ
-memberText (known code v) = ascii "\"" ++ textOf code members ++ ascii "\":" ++ valueText (formOf code) v
+memberText (known code v) = ascii "\"" ++ rowText code members ++ ascii "\":" ++ valueText (formOf code) v
 memberText (other code hex) = ascii "\"OPT" ++ decimal code ++ ascii "\":\"" ++ hexText hex

@@ -1,4 +1,4 @@
--- The code's test of an option's shape, code by code: of most only the length matters. Assumes nothing.
+-- The code's test of an option's shape, code by code: of most only the length matters.
 use mathlib.Core.Path.{_≡_, refl, sym, ap, _∙_}
 use mathlib.Core.Bool.{Bool, true, false, not, _&&_, _||_, cond}
 use mathlib.Core.Option.{none, some}

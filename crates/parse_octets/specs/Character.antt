@@ -1,4 +1,4 @@
--- An octet of a string, as it is spelled in a text. Assumes nothing.
+-- An octet of a string, as it is spelled in a text.
 use mathlib.Core.Path.{_≡_, refl, sym, _∙_, subst}
 use mathlib.Core.Logic.{⊎-elim}
 use mathlib.Core.Bool.{Bool, true, false}

@@ -1,4 +1,4 @@
--- An octet of a label, as it is spelled in a text. Assumes nothing.
+-- An octet of a label, as it is spelled in a text.
 use mathlib.Core.Path.{_≡_, refl, sym, _∙_, subst}
 use mathlib.Core.Logic.{⊎-elim}
 use mathlib.Core.Bool.{Bool, true, false, not, cond, _&&_, and-false, or-false}
@@ -17,8 +17,8 @@ use Rattle.tokens.specs.Many.{le-or-lt}
 use Rattle.tokens.specs.Place.{Byte, inside, from-byte, no-strip}
 use Rattle.parse_octets.specs.declared.Letter.{Letter}
 
--- ---- what a reader tells of a place
--- a value was found and `n` is the place behind it, or nothing goes on at `n`
+-- ---- what a reader reports of a place
+-- a value was found and `n` is the place after it, or nothing goes on at `n`
 pub data Tells {A : Type 0} (t : List ℕ) (P : A → Type 0) (found : Bool) (n : ℕ) : Parsed A → Type 0 where
   missing : found ≡ false → Tells t P found n (stuck (drop n t))
   there : {a : A} → found ≡ true → P a → Tells t P found n (took a (drop n t))
@@ -46,7 +46,7 @@ pub record LetterAt (p : List ℕ → Parsed ℕ) (t : List ℕ) (at : ℕ) (r :
   pub further : r .found ≡ true → at < r .at
   pub none : r .found ≡ false → r .value ≡ 0
 
--- nothing, at this place; an octet, with this place behind it
+-- nothing, at this place; an octet, with this place after it
 abbrev pub nowhere : ℕ → Letter
 nowhere n = record { at = n; found = false; value = 0 }
 
@@ -125,7 +125,7 @@ module _ {v : ℕ} where
         coded-is z = rw (lt-ltb v 256 (omega arith), ← e, k, ne-eqb v 46 d, ne-eqb v 92 z)
 
 -- ---- digits that lead to such an octet, by computation over all digits
--- the least and the greatest second digit behind the first digit n
+-- the least and the greatest second digit after the first digit n
 unfoldable pub lowest : ℕ → ℕ
 lowest n = cond (eqb n 1) 50 48
 
@@ -156,7 +156,7 @@ first-leads x h = same (leads? 2 0 x) (leb 48 x && leb x 50) (below (λ d. same?
 first-over : (x : ℕ) → 50 < x → leads? 2 0 x ≡ false
 first-over x h = ⊎-elim (λ p. leads-high 2 0 x (omega arith)) (λ q. first-leads x q ∙ rw (lt-leb x 50 h) (and-false (leb 48 x))) (le-or-lt 58 x)
 
--- the second is in the range that the first tells
+-- the second is in the range that the first gives
 second-leads : (n x : ℕ) → n < 3 → x < 58 → leads? 1 n x ≡ (leb (lowest n) x && leb x (highest n))
 second-leads n x k h = same (leads? 1 n x) (leb (lowest n) x && leb x (highest n))
     (below (λ d. same? (leads? 1 n d) (leb (lowest n) d && leb d (highest n))) 58

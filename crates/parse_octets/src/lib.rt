@@ -9,7 +9,7 @@ ghost use Rattle.parse_octets.specs.Octet.{Lowest, Highest, LetterAt};
 use octets::wide;
 use tokens::octet_at;
 
-// An octet that was read, and the place behind it; or the place at which nothing goes on.
+// An octet that was read, and the place after it; or the place at which nothing goes on.
 pub struct Letter {
     pub at: usize,
     pub found: bool,
@@ -57,7 +57,7 @@ fn is_coded(v: usize) -> bool
     true
 }
 
-// The least second digit behind the first digit `n`.
+// The least second digit after the first digit `n`.
 fn lowest_second(n: u8) -> u8
     ensures { λ r. ⌜ Lowest n r ⌝ }
 {
@@ -67,7 +67,7 @@ fn lowest_second(n: u8) -> u8
     48
 }
 
-// The greatest second digit behind the first digit `n`.
+// The greatest second digit after the first digit `n`.
 fn highest_second(n: u8) -> u8
     requires { ⌜ n < 3 ⌝ }
     ensures { λ r. ⌜ Highest n r ⌝ }
@@ -81,7 +81,7 @@ fn highest_second(n: u8) -> u8
     53
 }
 
-// The third digit of an octet, behind two digits that make `n`.
+// The third digit of an octet, after two digits that make `n`.
 fn third_digit(text: &[u8], at: usize, n: u8) -> Letter
     requires { ⌜ (at ≤ length (now text)) × (n < 26) ⌝ }
     ensures { λ r. ⌜ LetterAt (ddd 1 n) (now (text .entry)) at r ⌝ }
@@ -109,7 +109,7 @@ fn third_digit(text: &[u8], at: usize, n: u8) -> Letter
     }
 }
 
-// The second digit of an octet, behind the digit `n`.
+// The second digit of an octet, after the digit `n`.
 fn second_digit(text: &[u8], at: usize, n: u8) -> Letter
     requires { ⌜ (at ≤ length (now text)) × (n < 3) ⌝ }
     ensures { λ r. ⌜ LetterAt (ddd 2 n) (now (text .entry)) at r ⌝ }

@@ -11,15 +11,15 @@ ghost use mathlib.Core.Path.{_≡_};
 ghost use mathlib.Core.Bool.{true};
 ghost use Prim.Native.Nat.{_+_, _*_, _^_, _<_, _≤_};
 ghost use lib.ListN.{length};
-ghost use Rattle.octets.specs.Lists.{textOf};
+ghost use Rattle.octets.specs.Lists.{rowText};
 ghost use Rattle.octets.specs.Overlay.{Wrote};
 ghost use Rattle.edns.specs.Edns.{rcodes, flags};
-ghost use Rattle.edns.specs.Element.{optionsRise, optionsText, showsEdns, elementText, headText};
+ghost use Rattle.edns.specs.Element.{optionsRise, optionsText, showsEdns, elementText, ednsHeadText};
 
 // Writes FLAGS by the DO bit.
 fn put_flags(out: &mut [u8], at: usize, bit: u32) -> usize
     requires { ⌜ (at < 2 ^ 38) × (bit < 2) ⌝ }
-    ensures { λ r. ⌜ Wrote (now (out .entry)) at (textOf bit flags) (now (out .exit)) r ⌝ }
+    ensures { λ r. ⌜ Wrote (now (out .entry)) at (rowText bit flags) (now (out .exit)) r ⌝ }
     ensures { λ r. ⌜ r ≤ at + 6 ⌝ }
 {
     if bit == 0 {
@@ -31,7 +31,7 @@ fn put_flags(out: &mut [u8], at: usize, bit: u32) -> usize
 // Writes the name of an RCODE; of one without a name, nothing.
 fn put_rcode(out: &mut [u8], at: usize, n: u32) -> usize
     requires { ⌜ at < 2 ^ 38 ⌝ }
-    ensures { λ r. ⌜ Wrote (now (out .entry)) at (textOf n rcodes) (now (out .exit)) r ⌝ }
+    ensures { λ r. ⌜ Wrote (now (out .entry)) at (rowText n rcodes) (now (out .exit)) r ⌝ }
     ensures { λ r. ⌜ r ≤ at + 9 ⌝ }
 {
     let table = rcode_names();
@@ -47,7 +47,7 @@ fn put_rcode(out: &mut [u8], at: usize, n: u32) -> usize
 // Writes the element up to its RCODE.
 fn put_head(out: &mut [u8], at: usize, bit: u32, rcode: u32) -> usize
     requires { ⌜ (at < 2 ^ 37) × (bit < 2) ⌝ }
-    ensures { λ r. ⌜ Wrote (now (out .entry)) at (headText bit rcode) (now (out .exit)) r ⌝ }
+    ensures { λ r. ⌜ Wrote (now (out .entry)) at (ednsHeadText bit rcode) (now (out .exit)) r ⌝ }
     ensures { λ r. ⌜ r ≤ at + 64 ⌝ }
 {
     let mut to = put_all(out, at, b"{\"EDNS\":{\"Version\":0,\"FLAGS\":");
@@ -56,7 +56,7 @@ fn put_head(out: &mut [u8], at: usize, bit: u32, rcode: u32) -> usize
     put_rcode(out, to, rcode)
 }
 
-// Writes the members of the options, a comma in front of each.
+// Writes the members of the options, a comma before each.
 fn put_options(out: &mut [u8], at: usize, rdata: &[u8]) -> usize
     requires { ⌜ (at < 2 ^ 37) × (length (now rdata) < 65536) × (optionsRise (now rdata) ≡ true) ⌝ }
     ensures { λ r. ⌜ Wrote (now (out .entry)) at (optionsText (now (rdata .entry))) (now (out .exit)) r ⌝ }
@@ -76,7 +76,7 @@ fn put_options(out: &mut [u8], at: usize, rdata: &[u8]) -> usize
     to
 }
 
-// Writes the element of a TYPE 41 record that shows as one: its CLASS, its TTL, the header's RCODE, its RDATA.
+// Writes the element of a TYPE 41 record that is one: its CLASS, its TTL, the header's RCODE, its RDATA.
 pub fn put_edns(out: &mut [u8], at: usize, class: u32, ttl: u32, rcode: u32, rdata: &[u8]) -> usize
     requires { ⌜ (at < 2 ^ 36) × (rcode < 16) × (length (now rdata) < 65536) × (showsEdns true ttl rcode (now rdata) ≡ true) ⌝ }
     ensures { λ r. ⌜ Wrote (now (out .entry)) at (elementText class ttl rcode (now (rdata .entry))) (now (out .exit)) r ⌝ }

@@ -1,4 +1,4 @@
--- The elements of a message's text by the octets of the message: questions and records at their offsets. Assumes nothing.
+-- The elements of a message's text by the octets of the message: questions and records at their offsets.
 use mathlib.Core.Bool.{Bool, true, _&&_, cond}
 use mathlib.Core.List.{List, _++_}
 use Prim.Native.Nat.{ℕ, _+_, _-_, _%_}
@@ -33,16 +33,16 @@ unfoldable pub fieldsText : List ℕ → ℕ → ℕ → ℕ → List ℕ
 fieldsText form type class ttl = startText form type class ++ ascii ",\"TTL\":" ++ signedText (signed ttl) ++ ascii ",\"RDATAHEX\":\""
 
 -- RDATA that ends at an offset
-abbrev pub hexed : ℕ → Laid → Entry (List ℕ)
-hexed end (laid d) = entry (hexText d) end
-hexed end (misfit fault) = bad fault
+abbrev pub hexOfRdata : ℕ → Laid → Entry (List ℕ)
+hexOfRdata end (laid d) = entry (hexText d) end
+hexOfRdata end (misfit fault) = bad fault
 
 unfoldable pub rdataText : List ℕ → ℕ → ℕ → ℕ → Entry (List ℕ)
-rdataText s type start size = hexed (start + size) (rdataAt true s type start size)
+rdataText s type start size = hexOfRdata (start + size) (rdataAt true s type start size)
 
 -- RDATA from the i-th piece of its layout on
 unfoldable pub piecesText : List ℕ → ℕ → ℕ → ℕ → ℕ → ℕ → Entry (List ℕ)
-piecesText s type start size i at = hexed (start + size) (pieces true (drop i (layoutIn type size)) s start (start + size) at)
+piecesText s type start size i at = hexOfRdata (start + size) (pieces true (drop i (layoutIn type size)) s start (start + size) at)
 
 -- a record as it is, by its owner's form and what the code reads of it before RDATA
 unfoldable pub ordinaryText : List ℕ → List ℕ → Head → Entry (List ℕ)
@@ -57,7 +57,7 @@ rcodeOf s = getD s 3 0 % 16
 abbrev pub rdataOf : List ℕ → Head → List ℕ
 rdataOf s h = part s (h .rdata) (h .rdata + h .rdlength - h .rdata)
 
--- it shows as an EDNS element
+-- it is an EDNS element
 unfoldable pub shows? : List ℕ → Head → Bool → Bool
 shows? s h lone = lone && eqb (h .kind) 41 && showsEdns (eqb (h .size) 1) (h .ttl) (rcodeOf s) (rdataOf s h)
 

@@ -1,4 +1,4 @@
--- What a writer of entries promises, and how one writer follows another. Assumes nothing.
+-- What a writer of entries promises, and how one writer follows another.
 use mathlib.Core.Path.{_≡_, refl, ap, subst}
 use mathlib.Core.List.{List, _++_}
 use Prim.Native.Nat.{ℕ, _+_, _*_, _≤_, _<_}
@@ -14,9 +14,9 @@ texts f (entry a next) = entry (f a) next
 texts f (bad fault) = bad fault
 
 -- a text, then the text of what is read from the offset after it
-abbrev pub and-then : Entry (List ℕ) → (ℕ → Entry (List ℕ)) → Entry (List ℕ)
-and-then (entry t next) f = texts (λ u. t ++ u) (f next)
-and-then (bad fault) f = bad fault
+abbrev pub entryThen : Entry (List ℕ) → (ℕ → Entry (List ℕ)) → Entry (List ℕ)
+entryThen (entry t next) f = texts (λ u. t ++ u) (f next)
+entryThen (bad fault) f = bad fault
 
 -- it has no fault
 pub record Readable {A : Type 0} (e : Entry A) : Type 0 where
@@ -28,7 +28,7 @@ pub readable-value : {A : Type 0} (f : A → List ℕ) (e : Entry A) → Readabl
 readable-value f (entry a next) h = record { value = a; next = next; reads = refl }
 readable-value f (bad fault) h = absurd (bad≢entry (h .reads))
 
-pub readable-first : (e : Entry (List ℕ)) (f : ℕ → Entry (List ℕ)) → Readable (and-then e f) → Readable e
+pub readable-first : (e : Entry (List ℕ)) (f : ℕ → Entry (List ℕ)) → Readable (entryThen e f) → Readable e
 readable-first (entry t next) f h = record { value = t; next = next; reads = refl }
 readable-first (bad fault) f h = absurd (bad≢entry (h .reads))
 
@@ -65,21 +65,21 @@ module _ {b b₁ : List ℕ} {to n₁ : ℕ} {t : List ℕ} (w : Wrote b to t b�
 -- ---- what is left to write
 -- From the buffer b and the place `next` the rest is left: it has no fault, and to write it is to write the whole from
 -- the start.
-pub record Rest (whole : Entry (List ℕ)) (b₀ : List ℕ) (to : ℕ) (rest : Entry (List ℕ)) (b : List ℕ) (next : ℕ) : Type 0 where
+pub record PrintLoop (whole : Entry (List ℕ)) (b₀ : List ℕ) (to : ℕ) (rest : Entry (List ℕ)) (b : List ℕ) (next : ℕ) : Type 0 where
   pub readable : Readable rest
   pub goes : (b′ : List ℕ) (at n : ℕ) → Prints rest b next b′ at n → Prints whole b₀ to b′ at n
 
-pub rest-all : {e : Entry (List ℕ)} {b : List ℕ} {to : ℕ} → Readable e → Rest e b to e b to
+pub rest-all : {e : Entry (List ℕ)} {b : List ℕ} {to : ℕ} → Readable e → PrintLoop e b to e b to
 rest-all h = record { readable = h; goes = λ b′ at n p. p }
 
 module _ {whole : Entry (List ℕ)} {b₀ b : List ℕ} {to next : ℕ} where
   -- by an equal rest
-  pub rest-same : {e f : Entry (List ℕ)} → e ≡ f → Rest whole b₀ to e b next → Rest whole b₀ to f b next
-  rest-same q r = subst (λ (x : Entry (List ℕ)). Rest whole b₀ to x b next) q r
+  pub rest-same : {e f : Entry (List ℕ)} → e ≡ f → PrintLoop whole b₀ to e b next → PrintLoop whole b₀ to f b next
+  rest-same q r = subst (λ (x : Entry (List ℕ)). PrintLoop whole b₀ to x b next) q r
 
   -- a text of it is written
-  pub rest-text : {e : Entry (List ℕ)} {t b₁ : List ℕ} {n : ℕ} → Rest whole b₀ to (texts (λ u. t ++ u) e) b next
-      → Wrote b next t b₁ n → Rest whole b₀ to e b₁ n
+  pub rest-text : {e : Entry (List ℕ)} {t b₁ : List ℕ} {n : ℕ} → PrintLoop whole b₀ to (texts (λ u. t ++ u) e) b next
+      → Wrote b next t b₁ n → PrintLoop whole b₀ to e b₁ n
   rest-text {e} {t} r w =
       record {
         readable = readable-value (λ u. t ++ u) e (r .readable);
@@ -88,11 +88,11 @@ module _ {whole : Entry (List ℕ)} {b₀ b : List ℕ} {to next : ℕ} where
 
   -- an entry of it is written
   pub rest-then : {e : Entry (List ℕ)} (f : ℕ → Entry (List ℕ)) {b₁ : List ℕ} {at n : ℕ}
-      → Rest whole b₀ to (and-then e f) b next → Prints e b next b₁ at n → Rest whole b₀ to (f at) b₁ n
-  rest-then {e} f r p = rest-text (rest-same (ap (λ (x : Entry (List ℕ)). and-then x f) (p .reads)) r) (p .wrote)
+      → PrintLoop whole b₀ to (entryThen e f) b next → Prints e b next b₁ at n → PrintLoop whole b₀ to (f at) b₁ n
+  rest-then {e} f r p = rest-text (rest-same (ap (λ (x : Entry (List ℕ)). entryThen x f) (p .reads)) r) (p .wrote)
 
   -- its last text is written
-  pub rest-end : {t b₁ : List ℕ} {at n : ℕ} → Rest whole b₀ to (entry t at) b next → Wrote b next t b₁ n
+  pub rest-end : {t b₁ : List ℕ} {at n : ℕ} → PrintLoop whole b₀ to (entry t at) b next → Wrote b next t b₁ n
       → Prints whole b₀ to b₁ at n
   rest-end r w = r .goes _ _ _ (prints-text w)
 

@@ -1,4 +1,4 @@
--- The ways of the writers of records: as they are, or as an EDNS element. Assumes nothing.
+-- The ways of the writers of records: as they are, or as an EDNS element.
 use mathlib.Core.Path.{_≡_, refl, sym, ap, _∙_, subst}
 use mathlib.Core.Bool.{Bool, true, false, not, _&&_, cond, false≢true}
 use mathlib.Core.Option.{Option, none, some}
@@ -20,7 +20,7 @@ use Rattle.records.specs.Layout as layout
 use Rattle.records.specs.Message.{Record, opt?}
 use Rattle.records.specs.Read.{Entry, entry, recordAt, filled}
 use Rattle.records.specs.RecordLaws.{laid-octets, misfit≢laid}
-use Rattle.records.specs.Parts.{HeadOf, headAt, withRdata, with-rdata, record-head, head-next}
+use Rattle.records.specs.Parts.{HeadOf, recordHeadAt, withRdata, with-rdata, record-head, head-next}
 use Rattle.records.specs.Answer.{padded, headRead, recordRead}
 use Rattle.records.specs.Told.{form-part, headed}
 use Rattle.records.specs.declared.Head.{Head}
@@ -33,7 +33,7 @@ use Rattle.json.specs.ViewLaws.{entryOf}
 use Rattle.json.specs.Document.{recordText, itemText}
 use Rattle.json.specs.Text.{recordItem, item}
 use Rattle.print_entry.specs.Prints.{texts, Readable, readable-value, readable≢bad, Prints, prints-text, prints-between}
-use Rattle.print_entry.specs.Elements.{fieldsText, hexed, rdataText, ordinaryText, rcodeOf, rdataOf, shows?, shownText, questionTextAt, entryText, recordTextAt, textAt}
+use Rattle.print_entry.specs.Elements.{fieldsText, hexOfRdata, rdataText, ordinaryText, rcodeOf, rdataOf, shows?, shownText, questionTextAt, entryText, recordTextAt, textAt}
 use Rattle.print_entry.specs.Writing.{front-text, head-sized}
 use Rattle.print_entry.specs.declared.Element.{Element}
 use Rattle.print_entry.specs.declared.Element.the-variants as element
@@ -64,13 +64,13 @@ unfolding ordinaryText rdataText
 ordinary-text s k h = go (rdataAt true s (k .type) (k .rdata) (k .rdlength))
   where
     go : (w : layout.Laid)
-        → texts (λ t. fieldsText (nameForm (k .name)) (k .type) (k .class) (k .ttl) ++ t ++ ascii "}") (hexed (k .rdata + k .rdlength) w)
+        → texts (λ t. fieldsText (nameForm (k .name)) (k .type) (k .class) (k .ttl) ++ t ++ ascii "}") (hexOfRdata (k .rdata + k .rdlength) w)
         ≡ texts (λ (r : Record). recordText (recordItem r)) (filled (withRdata k) (k .rdata + k .rdlength) w)
     go (laid d) = ap (λ (t : List ℕ). entry t (k .rdata + k .rdlength)) (sym (record-parts (withRdata k d) h))
     go (misfit fault) = refl
 
 -- ---- a record as an element or as it is
--- an EDNS element exactly if it shows as one
+-- an EDNS element exactly if it is one
 abbrev shown? : ℕ → Bool → Record → Bool
 shown? rcode lone r = lone && opt? r && showsEdns (none? (r .name)) (r .ttl) rcode (r .rdata)
 
@@ -124,13 +124,13 @@ module _ (s : List ℕ) (k : HeadOf) (lone : Bool) where
           let g : part s (k .rdata) (k .rdlength) ≡ d = laid-octets (sym (opt-rdata s (k .rdata) (k .rdlength)) ∙ f) in
           rw (p, root-form (k .name), size-same, g)
 
-  -- where it shows as no element, its text is that of the record as it is
+  -- where it is no element, its text is that of the record as it is
   as-is : (w : layout.Laid) → rdataAt true s (k .type) (k .rdata) (k .rdlength) ≡ w → shows? s (headRead k) lone ≡ false
       → texts (entryText (rcodeOf s) lone) (filled (withRdata k) (k .rdata + k .rdlength) w) ≡ texts (λ (r : Record). recordText (recordItem r)) (filled (withRdata k) (k .rdata + k .rdlength) w)
   as-is (laid d) p q = ap (λ (t : List ℕ). entry t (k .rdata + k .rdlength)) (entry-text (rcodeOf s) lone (withRdata k d) ∙ rw (← (head-shows d p), q))
   as-is (misfit fault) p q = refl
 
-  -- where it shows as one, its text is the element's
+  -- where it is one, its text is the element's
   as-element : (w : layout.Laid) → rdataAt true s (k .type) (k .rdata) (k .rdlength) ≡ w
       → w ≡ laid (rdataOf s (headRead k)) → shows? s (headRead k) lone ≡ true
       → texts (entryText (rcodeOf s) lone) (filled (withRdata k) (k .rdata + k .rdlength) w) ≡ entry (elementText (k .class) (k .ttl) (rcodeOf s) (rdataOf s (headRead k))) (k .rdata + k .rdlength)
@@ -150,7 +150,7 @@ unfolding showsEdns
 shows-root true ttl rcode d e = e
 shows-root false ttl rcode d e = absurd (false≢true e)
 
--- the record is of TYPE 41, and shows as an element
+-- the record is of TYPE 41, and is an element
 pub element-shows : (s : List ℕ) (h : Head) (lone : Bool) {t : Bool} {rcode : ℕ} → t ≡ shows? s h lone → t ≡ true
     → rcode ≡ rcodeOf s → showsEdns true (h .ttl) rcode (rdataOf s h) ≡ true
 unfolding shows?
@@ -188,28 +188,28 @@ shows-lone s h false e k c p = absurd (false≢true (sym e))
 
 -- ---- records
 -- the record's text by its head and RDATA
-record-text : (lone : Bool) (s : List ℕ) (at : ℕ) (k : HeadOf) (next : ℕ) → headAt s at ≡ entry k next
+record-text : (lone : Bool) (s : List ℕ) (at : ℕ) (k : HeadOf) (next : ℕ) → recordHeadAt s at ≡ entry k next
     → recordTextAt lone s at ≡ texts (entryText (rcodeOf s) lone) (filled (withRdata k) (k .rdata + k .rdlength) (rdataAt true s (k .type) (k .rdata) (k .rdlength)))
 unfolding recordTextAt
 record-text lone s at k next e =
     ap (texts (entryText (rcodeOf s) lone))
     (record-head s at ∙ ap (with-rdata s) e ∙ ap (λ (i : ℕ). filled (withRdata k) i (rdataAt true s (k .type) (k .rdata) (k .rdlength))) (head-next s at k next e))
 
-module _ (s : List ℕ) (at : ℕ) (lone : Bool) {r : RecordRead} (e : r ≡ recordRead (headAt s at)) where
+module _ (s : List ℕ) (at : ℕ) (lone : Bool) {r : RecordRead} (e : r ≡ recordRead (recordHeadAt s at)) where
   -- one that is readable has no fault
   pub record-faultless : {f : FaultRead} → Readable (recordTextAt lone s at) → r .answer ≡ record′.Faulty f → ⊥
   unfolding recordTextAt
   record-faultless h p =
-      let (fault, u, v) = headed (headAt s at) e p in
+      let (fault, u, v) = headed (recordHeadAt s at) e p in
       readable≢bad (readable-value (entryText (rcodeOf s) lone) (recordAt s at) h) (record-head s at ∙ ap (with-rdata s) u)
 
   -- the text of a record by what was read
   record-same : {h : Head} → r .answer ≡ record′.Read h
       → recordTextAt lone s at ≡ shownText lone s (take (h .size - 0) (r .name)) h
   unfolding shownText
-  record-same {h} p = go (headed (headAt s at) e p)
+  record-same {h} p = go (headed (recordHeadAt s at) e p)
     where
-      go : (z : (k : HeadOf) × (next : ℕ) × (headAt s at ≡ entry k next) × (h ≡ headRead k) × (r .name ≡ padded (nameForm (k .name))))
+      go : (z : (k : HeadOf) × (next : ℕ) × (recordHeadAt s at ≡ entry k next) × (h ≡ headRead k) × (r .name ≡ padded (nameForm (k .name))))
           → recordTextAt lone s at ≡ shownText lone s (take (h .size - 0) (r .name)) h
       go (k, next, u, v, l) =
           record-text lone s at k next u ∙ shown (shows? s (headRead k) lone) refl

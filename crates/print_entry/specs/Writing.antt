@@ -1,4 +1,4 @@
--- The ways of the writers of elements. Assumes nothing.
+-- The ways of the writers of elements.
 use mathlib.Core.Path.{_≡_, refl, sym, ap, _∙_, subst}
 use mathlib.Core.Bool.{Bool, true, false, cond}
 use mathlib.Core.Option.{Option, none, some}
@@ -24,7 +24,7 @@ use Rattle.records.specs.Layout as layout
 use Rattle.records.specs.Message.{Question}
 use Rattle.records.specs.Read.{Entry, entry, bad, with-name, firstCut, questionAt}
 use Rattle.records.specs.RecordLaws.{bad≢entry, entry-value}
-use Rattle.records.specs.Parts.{fitted, begun, begunAt, question-begun, HeadOf, headAt, headed, layoutIn, rdata-pieces, stepAt}
+use Rattle.records.specs.Parts.{fitted, begun, begunAt, question-begun, HeadOf, recordHeadAt, headed, layoutIn, rdata-pieces, stepAt}
 use Rattle.records.specs.Answer.{padded, askedOf, questionRead, stepRead}
 use Rattle.records.specs.declared.Asked.{Asked}
 use Rattle.records.specs.declared.Question.the-variants as question
@@ -35,8 +35,8 @@ use Rattle.spelling.specs.Spelling.{labelText, nameText, signed, signedText}
 use Rattle.spelling.specs.Form.{labels, formText, within-label}
 use Rattle.json.specs.Document.{questionText}
 use Rattle.print_head.specs.Head.{numberText}
-use Rattle.print_entry.specs.Prints.{texts, Readable, readable-value, readable≢bad, Prints, prints-text, Rest, rest-all, rest-same, rest-text, rest-end}
-use Rattle.print_entry.specs.Elements.{startText, fieldsText, hexed, rdataText, piecesText, questionTextAt}
+use Rattle.print_entry.specs.Prints.{texts, Readable, readable-value, readable≢bad, Prints, prints-text, PrintLoop, rest-all, rest-same, rest-text, rest-end}
+use Rattle.print_entry.specs.Elements.{startText, fieldsText, hexOfRdata, rdataText, piecesText, questionTextAt}
 
 -- ---- the first members
 pub wrote-start : (form : List ℕ) (type class : ℕ) {b b₁ b₂ b₃ b₄ : List ℕ} {at r₁ r₂ r₃ r₄ : ℕ}
@@ -97,8 +97,8 @@ question-sized : (s : List ℕ) (at : ℕ) (q : Question) (next : ℕ) → quest
 question-sized s at q next e =
     begun-entry (λ (q : Question). q .name) s (2 ∷ 2 ∷ []) at _ (λ n i a j p. sym (ap (λ (q : Question). q .name) (entry-value p))) q next (sym (question-begun s at) ∙ e)
 
-pub head-sized : (s : List ℕ) (at : ℕ) (h : HeadOf) (next : ℕ) → headAt s at ≡ entry h next → Sized (h .name)
-unfolding headAt
+pub head-sized : (s : List ℕ) (at : ℕ) (h : HeadOf) (next : ℕ) → recordHeadAt s at ≡ entry h next → Sized (h .name)
+unfolding recordHeadAt
 head-sized s at h next e = begun-entry (λ (h : HeadOf). h .name) s (2 ∷ 2 ∷ 4 ∷ 2 ∷ []) at (headed s) same h next e
   where
     room : (n : Name) (b : Bool) (fault : Fault) (k : HeadOf) (i : ℕ) (a : HeadOf) (j : ℕ) → k .name ≡ n
@@ -154,7 +154,7 @@ hex-append [] m = refl
 hex-append (x ∷ l) m = ap (λ (t : List ℕ). hexOctet x ++ t) (hex-append l m) ∙ sym (append-assoc (hexOctet x) (each hexOctet l) (hexText m))
 
 hexed-before : (end : ℕ) (l : List ℕ) (w : layout.Laid)
-    → hexed end (before l w) ≡ texts (λ t. each hexOctet l ++ t) (hexed end w)
+    → hexOfRdata end (before l w) ≡ texts (λ t. each hexOctet l ++ t) (hexOfRdata end w)
 hexed-before end l (laid d) = ap (λ (t : List ℕ). entry t end) (hex-append l d)
 hexed-before end l (misfit fault) = refl
 
@@ -170,29 +170,29 @@ hex-short at n l e = let k = length-take n l in omega arith
 
 -- all of it is left
 pub pieces-all : (s : List ℕ) (kind start size : ℕ) {b : List ℕ} {to : ℕ} → Readable (rdataText s kind start size)
-    → Rest (rdataText s kind start size) b to (piecesText s kind start size 0 start) b to
+    → PrintLoop (rdataText s kind start size) b to (piecesText s kind start size 0 start) b to
 unfolding rdataText piecesText
-pieces-all s kind start size h = rest-same (ap (hexed (start + size)) (rdata-pieces true s kind start size)) (rest-all h)
+pieces-all s kind start size h = rest-same (ap (hexOfRdata (start + size)) (rdata-pieces true s kind start size)) (rest-all h)
 
 module _ (s : List ℕ) (kind start size at i : ℕ) {whole : Entry (List ℕ)} {b₀ b : List ℕ} {to next : ℕ} {r : Stepped}
-    (w : Rest whole b₀ to (piecesText s kind start size i at) b next) (e : r ≡ stepRead (stepAt (drop i (layoutIn kind size)) s start (start + size) at)) where
+    (w : PrintLoop whole b₀ to (piecesText s kind start size i at) b next) (e : r ≡ stepRead (stepAt (drop i (layoutIn kind size)) s start (start + size) at)) where
   -- the pieces from the next on
   after : (xs : List ℕ) (n : ℕ) {b₁ : List ℕ} {n₁ : ℕ}
       → pieces true (drop i (layoutIn kind size)) s start (start + size) at ≡ before xs (pieces true (drop (i + 1) (layoutIn kind size)) s start (start + size) n)
-      → Wrote b next (each hexOctet xs) b₁ n₁ → Rest whole b₀ to (piecesText s kind start size (i + 1) n) b₁ n₁
+      → Wrote b next (each hexOctet xs) b₁ n₁ → PrintLoop whole b₀ to (piecesText s kind start size (i + 1) n) b₁ n₁
   unfolding piecesText
-  after xs n q p = rest-text (rest-same (ap (hexed (start + size)) q ∙ hexed-before (start + size) xs (pieces true (drop (i + 1) (layoutIn kind size)) s start (start + size) n)) w) p
+  after xs n q p = rest-text (rest-same (ap (hexOfRdata (start + size)) q ∙ hexed-before (start + size) xs (pieces true (drop (i + 1) (layoutIn kind size)) s start (start + size) n)) w) p
 
   -- octets as they are
   pub pieces-part : {n : ℕ} {b₁ : List ℕ} {n₁ : ℕ} → r .step ≡ step.Part n
       → Wrote b next (each hexOctet (take (n - at) (drop at s))) b₁ n₁
-      → Rest whole b₀ to (piecesText s kind start size (i + 1) n) b₁ n₁
+      → PrintLoop whole b₀ to (piecesText s kind start size (i + 1) n) b₁ n₁
   pieces-part {n} q p = after (part s at (n - at)) n (pieces-next s (layoutIn kind size) start (start + size) at i (tells _ e q)) p
 
   -- a name
   pub pieces-name : {long n : ℕ} {b₁ : List ℕ} {n₁ : ℕ} → r .step ≡ step.Name long n
       → Wrote b next (each hexOctet (take (long - 0) (r .octets))) b₁ n₁
-      → Rest whole b₀ to (piecesText s kind start size (i + 1) n) b₁ n₁
+      → PrintLoop whole b₀ to (piecesText s kind start size (i + 1) n) b₁ n₁
   pieces-name {long} {n} {b₁} {n₁} q p =
       let (m, x, y, z) = tells _ e q in
       after (nameForm m) n (pieces-next s (layoutIn kind size) start (start + size) at i x)
@@ -202,11 +202,11 @@ module _ (s : List ℕ) (kind start size at i : ℕ) {whole : Entry (List ℕ)} 
   pub pieces-done : {b₁ : List ℕ} {n₁ : ℕ} → r .step ≡ step.Done → Wrote b next (34 ∷ []) b₁ n₁
       → Prints whole b₀ to b₁ (start + size) n₁
   unfolding piecesText hexText
-  pieces-done q p = rest-end (rest-same (ap (hexed (start + size)) (pieces-next s (layoutIn kind size) start (start + size) at i (tells _ e q))) w) p
+  pieces-done q p = rest-end (rest-same (ap (hexOfRdata (start + size)) (pieces-next s (layoutIn kind size) start (start + size) at i (tells _ e q))) w) p
 
   -- no fault is left
   pub pieces-faultless : {f : FaultRead} → r .step ≡ step.Misfit f → ⊥
   unfolding piecesText
   pieces-faultless q =
       let (fault, x, y) = tells _ e q in
-      readable≢bad (w .readable) (ap (hexed (start + size)) (pieces-next s (layoutIn kind size) start (start + size) at i x))
+      readable≢bad (w .readable) (ap (hexOfRdata (start + size)) (pieces-next s (layoutIn kind size) start (start + size) at i x))

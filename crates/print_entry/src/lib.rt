@@ -115,7 +115,7 @@ fn rcode_of(s: &[u8]) -> u32
     rcode as u32
 }
 
-// Whether a record shows as an EDNS element.
+// Whether a record is an EDNS element.
 fn is_element(s: &[u8], head: Head, lone: bool) -> bool
     requires { ⌜ (12 ≤ length (now s)) × (length (now s) ≤ 65535) × (head .rdata + head .rdlength ≤ length (now s)) ⌝ }
     ensures { λ r. ⌜ r ≡ shows? (now (s .entry)) head lone ⌝ }

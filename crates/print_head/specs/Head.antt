@@ -1,4 +1,4 @@
--- Members of the head of a message's text. Assumes nothing.
+-- Members of the head of a message's text.
 use mathlib.Core.Path.{_≡_, refl, ap}
 use mathlib.Core.List.{List, [], _∷_, _++_, append-assoc}
 use Prim.Native.Nat.{ℕ, _/_, _%_}

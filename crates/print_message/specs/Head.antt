@@ -1,4 +1,4 @@
--- The head of a message's text by the message's first 12 octets, in the parts that the writers write. Assumes nothing.
+-- The head of a message's text by the message's first 12 octets, in the parts that the writers write.
 use mathlib.Core.Path.{_≡_, refl, ap}
 use mathlib.Core.List.{List, [], _∷_, _++_}
 use Prim.Native.Nat.{ℕ}
@@ -12,8 +12,8 @@ use Rattle.json.specs.Document.{Document, headText}
 use Rattle.print_head.specs.Head.{numberText, withHigh, withLow, highText, lowText, high-after, low-after}
 
 -- a document with the header and the counts that the octets state
-abbrev pub headOf : List ℕ → Document
-headOf s = record {
+abbrev pub headDocument : List ℕ → Document
+headDocument s = record {
   header = headerOf s;
   qdcount = twoAt s 4;
   ancount = twoAt s 6;
@@ -25,13 +25,13 @@ headOf s = record {
   additional = [];
 }
 
-unfoldable pub headAt : List ℕ → List ℕ
-headAt s = headText (headOf s)
+unfoldable pub headTextAt : List ℕ → List ℕ
+headTextAt s = headText (headDocument s)
 
 -- it is the head of every document with that header and those counts
 pub head-at : (s : List ℕ) (d : Document) → d .header ≡ headerOf s → d .qdcount ≡ twoAt s 4 → d .ancount ≡ twoAt s 6
-    → d .nscount ≡ twoAt s 8 → d .arcount ≡ twoAt s 10 → headText d ≡ headAt s
-unfolding headText headAt
+    → d .nscount ≡ twoAt s 8 → d .arcount ≡ twoAt s 10 → headText d ≡ headTextAt s
+unfolding headText headTextAt
 head-at s d h q a n r = rw (h, q, a, n, r)
 
 -- ---- its parts
@@ -55,13 +55,13 @@ counts-after (y ∷ l) s = ap (λ m. y ∷ m) (counts-after l s)
 
 -- the head is ID with the three parts after it
 head-parts : (s : List ℕ)
-    → headAt s ≡ withCounts (withLow (withHigh (ascii "{\"ID\":" ++ decimal (twoAt s 0)) (getD s 2 0)) (getD s 3 0)) s
-unfolding headText headAt headerOf withHigh withLow withCounts
+    → headTextAt s ≡ withCounts (withLow (withHigh (ascii "{\"ID\":" ++ decimal (twoAt s 0)) (getD s 2 0)) (getD s 3 0)) s
+unfolding headText headTextAt headerOf withHigh withLow withCounts
 head-parts s = refl
 
 -- ---- writing it
 pub wrote-head : (s : List ℕ) {n : ℕ} {b b₁ b₂ b₃ b₄ : List ℕ} {at r₁ r₂ r₃ r₄ : ℕ} → n ≡ twoAt s 0
     → Wrote b at (numberText (ascii "{\"ID\":") n) b₁ r₁ → Wrote b₁ r₁ (highText (getD s 2 0)) b₂ r₂ → Wrote b₂ r₂ (lowText (getD s 3 0)) b₃ r₃ → Wrote b₃ r₃ (countsText s) b₄ r₄
-    → Wrote b at (headAt s) b₄ r₄
+    → Wrote b at (headTextAt s) b₄ r₄
 unfolding numberText
 wrote-head s e t u v w = rw (head-parts s, counts-after, low-after, high-after, ← e) (then (then (then t u) v) w)

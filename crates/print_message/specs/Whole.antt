@@ -1,4 +1,4 @@
--- The text by the octets of an accepted message is the text of the message. Assumes nothing.
+-- The text by the octets of an accepted message is the text of the message.
 use mathlib.Core.Path.{_≡_, refl, sym, ap, _∙_, subst}
 use mathlib.Core.Bool.{Bool, true, false}
 use mathlib.Core.List.{List, [], _∷_, _++_, map, append-assoc}
@@ -10,18 +10,18 @@ use Rattle.octets.specs.Fields.{twoAt}
 use Rattle.octets.specs.Overlay.{Wrote}
 use Rattle.records.specs.Message.{Record, Message, opt?}
 use Rattle.records.specs.Read.{Entry, entry, bad, Reached, reached, stopped, Section, questionAt, recordAt, sectionAt, sectionFrom}
-use Rattle.records.specs.Decode.{headerOf, sectionsOf, messageOf, Decoded, accepted, refused, decode}
+use Rattle.records.specs.Decode.{headerOf, sectionsOf, messageRead, Decoded, accepted, refused, decode}
 use Rattle.records.specs.RecordLaws.{entry-value}
 use Rattle.records.specs.MessageLaws.{section-step, section-stop, from-reached, section-count, from-count, decode-back, stopped≢reached}
 use Rattle.json.specs.View.{Additional, additionalOf, viewOf}
 use Rattle.json.specs.ViewLaws.{entryOf, map-long, additional-map}
 use Rattle.json.specs.Document.{Document, questionText, recordText, itemText, documentText}
 use Rattle.json.specs.Text.{recordItem, item, documentOf, viewText, text}
-use Rattle.print_entry.specs.Prints.{texts, and-then, Readable, Prints}
+use Rattle.print_entry.specs.Prints.{texts, entryThen, Readable, Prints}
 use Rattle.print_entry.specs.Elements.{rcodeOf, questionTextAt, entryText, recordTextAt, textAt}
 use Rattle.print_entry.specs.declared.Element.{Element}
 use Rattle.print_entry.specs.declared.Element.the-variants as element
-use Rattle.print_message.specs.Head.{headAt, head-at}
+use Rattle.print_message.specs.Head.{headTextAt, head-at}
 use Rattle.print_message.specs.Arrays.{comma, restText, arrayText, sectionText, fromAdditional, fromAuthority, fromAnswers, wholeText}
 
 -- ---- sections
@@ -49,7 +49,7 @@ module _ {A : Type 0} (f : A → List ℕ) (read : List ℕ → ℕ → Entry A)
           → ((j k : ℕ) → sectionAt read s n j .end ≡ reached k → restText e s false n j ≡ entry (ended (λ b. 44 ∷ f b) 93 (sectionAt read s n j .entries)) k)
           → restText e s false (suc n) at ≡ entry (ended (λ b. 44 ∷ f b) 93 (sectionAt read s (suc n) at .entries)) i
       go (entry a next) p g =
-          ap (λ (x : Entry (List ℕ)). and-then (texts (λ t. comma false ++ t) x) (restText e s false n)) (same at ∙ ap (texts f) p)
+          ap (λ (x : Entry (List ℕ)). entryThen (texts (λ t. comma false ++ t) x) (restText e s false n)) (same at ∙ ap (texts f) p)
           ∙ ap (texts (λ u. (44 ∷ f a) ++ u)) (g next i (rw (section-step read s n at a next p) at q))
           ∙ ap (λ (x : Section A). entry (ended (λ b. 44 ∷ f b) 93 (x .entries)) i) (sym (section-step read s n at a next p))
       go (bad fault) p g = absurd (stopped≢reached (rw (section-stop read s n at fault p) at q))
@@ -63,7 +63,7 @@ module _ {A : Type 0} (f : A → List ℕ) (read : List ℕ → ℕ → Entry A)
       go : (w : Entry A) → read s at ≡ w
           → arrayText e s (suc n) at ≡ entry (listed f (sectionAt read s (suc n) at .entries)) i
       go (entry a next) p =
-          ap (λ (x : Entry (List ℕ)). texts (λ t. (91 ∷ []) ++ t) (and-then (texts (λ t. comma true ++ t) x) (restText e s false n))) (same at ∙ ap (texts f) p)
+          ap (λ (x : Entry (List ℕ)). texts (λ t. (91 ∷ []) ++ t) (entryThen (texts (λ t. comma true ++ t) x) (restText e s false n))) (same at ∙ ap (texts f) p)
           ∙ ap (λ (x : Entry (List ℕ)). texts (λ t. (91 ∷ []) ++ t) (texts (λ u. f a ++ u) x)) (later-text n next i (rw (section-step read s n at a next p) at q))
           ∙ ap (λ (x : Section A). entry (listed f (x .entries)) i) (sym (section-step read s n at a next p))
       go (bad fault) p = absurd (stopped≢reached (rw (section-stop read s n at fault p) at q))
@@ -118,7 +118,7 @@ joined h t₁ l₁ t₂ l₂ t₃ l₃ t₄ l₄ z = simp append-assoc
 -- the text of a document by its parts
 document-parts : (s : List ℕ) (d : Document) → d .header ≡ headerOf s → d .qdcount ≡ twoAt s 4 → d .ancount ≡ twoAt s 6
     → d .nscount ≡ twoAt s 8 → d .arcount ≡ twoAt s 10
-    → headAt s
+    → headTextAt s
     ++ (ascii ",\"questionRRs\":" ++ listed questionText (d .questions)
     ++ (ascii ",\"answerRRs\":" ++ listed recordText (d .answers)
     ++ (ascii ",\"authorityRRs\":" ++ listed recordText (d .authority)
@@ -126,7 +126,7 @@ document-parts : (s : List ℕ) (d : Document) → d .header ≡ headerOf s → 
     ++ ascii "}")))) ≡ documentText d
 unfolding documentText
 document-parts s d h q a n r =
-    joined (headAt s) (ascii ",\"questionRRs\":") (listed questionText (d .questions)) (ascii ",\"answerRRs\":") (listed recordText (d .answers))
+    joined (headTextAt s) (ascii ",\"questionRRs\":") (listed questionText (d .questions)) (ascii ",\"answerRRs\":") (listed recordText (d .answers))
     (ascii ",\"authorityRRs\":") (listed recordText (d .authority)) (ascii ",\"additionalRRs\":") (listed itemText (d .additional)) (ascii "}")
     ∙ ap (λ (t : List ℕ). t
     ++ ascii ",\"questionRRs\":" ++ listed questionText (d .questions)
@@ -137,15 +137,15 @@ document-parts s d h q a n r =
 
 -- a text, and then another
 on-text : {e : Entry (List ℕ)} (f : ℕ → Entry (List ℕ)) {t u : List ℕ} {i j : ℕ} → e ≡ entry t i → f i ≡ entry u j
-    → and-then e f ≡ entry (t ++ u) j
-on-text f {t} p q = ap (λ (x : Entry (List ℕ)). and-then x f) p ∙ ap (texts (λ v. t ++ v)) q
+    → entryThen e f ≡ entry (t ++ u) j
+on-text f {t} p q = ap (λ (x : Entry (List ℕ)). entryThen x f) p ∙ ap (texts (λ v. t ++ v)) q
 
 -- octets whose sections are read to their end
 sections-text : (s : List ℕ) (i : ℕ) → sectionsOf s .additional .end ≡ reached i
-    → wholeText (eqb (count opt? (messageOf s .additional)) 1) s ≡ entry (text (messageOf s)) i
-unfolding sectionsOf messageOf wholeText text viewText documentOf viewOf headerOf
+    → wholeText (eqb (count opt? (messageRead s .additional)) 1) s ≡ entry (text (messageRead s)) i
+unfolding sectionsOf messageRead wholeText text viewText documentOf viewOf headerOf
 sections-text s i e =
-    let lone = eqb (count opt? (messageOf s .additional)) 1 in
+    let lone = eqb (count opt? (messageRead s .additional)) 1 in
     let f₁ = sectionAt questionAt s (twoAt s 4) 12 in
     let f₂ = sectionFrom recordAt s (twoAt s 6) (f₁ .end) in
     let f₃ = sectionFrom recordAt s (twoAt s 8) (f₂ .end) in
@@ -154,7 +154,7 @@ sections-text s i e =
     let (i₂, p₂, g₃) = from-reached recordAt s (twoAt s 8) (f₂ .end) i₃ p₃ in
     let (i₁, p₁, g₂) = from-reached recordAt s (twoAt s 6) (f₁ .end) i₂ p₂ in
     let asText : Record → List ℕ = λ r. recordText (recordItem r) in
-    let d = documentOf (viewOf (messageOf s)) in
+    let d = documentOf (viewOf (messageRead s)) in
     let l₂ : listed asText (sectionAt recordAt s (twoAt s 6) i₁ .entries) ≡ listed recordText (d .answers) =
     ap (listed asText) (sym (from-entries recordAt s (twoAt s 6) (f₁ .end) i₁ p₁)) ∙ sym (listed-map recordText recordItem (f₂ .entries)) in
     let l₃ : listed asText (sectionAt recordAt s (twoAt s 8) i₂ .entries) ≡ listed recordText (d .authority) =
@@ -166,7 +166,7 @@ sections-text s i e =
     let t₃ = on-text (fromAdditional lone s) (section-text asText recordAt (element.Record false) s (record-same s) (ascii ",\"authorityRRs\":") _ (twoAt s 8) i₂ i₃ g₃ l₃) t₄ in
     let t₂ = on-text (fromAuthority lone s) (section-text asText recordAt (element.Record false) s (record-same s) (ascii ",\"answerRRs\":") _ (twoAt s 6) i₁ i₂ g₂ l₂) t₃ in
     let t₁ = on-text (fromAnswers lone s) (section-text questionText questionAt element.Question s (question-same s) (ascii ",\"questionRRs\":") _ (twoAt s 4) 12 i₁ p₁ refl) t₂ in
-    ap (texts (λ t. headAt s ++ t)) t₁
+    ap (texts (λ t. headTextAt s ++ t)) t₁
     ∙ ap (λ (a : List ℕ). entry a i) (document-parts s d refl
     (section-count questionAt s (twoAt s 4) 12 i₁ p₁)
     (from-count recordAt s (twoAt s 6) (f₁ .end) i₂ p₂)
@@ -179,29 +179,29 @@ abbrev pub textFrom : Decoded → List ℕ
 textFrom (accepted m) = text m
 textFrom (refused number place) = []
 
-unfoldable pub textOf : List ℕ → List ℕ
-textOf s = textFrom (decode s)
+unfoldable pub profileText : List ℕ → List ℕ
+profileText s = textFrom (decode s)
 
 -- the octets are a message's; `lone` says whether its additional section has one TYPE 41 record
-pub record Accepted (s : List ℕ) (lone : Bool) : Type 0 where
+pub record AcceptedMessage (s : List ℕ) (lone : Bool) : Type 0 where
   pub message : Message
   pub decodes : decode s ≡ accepted message
   pub alone : lone ≡ eqb (count opt? (message .additional)) 1
 
-module _ {s : List ℕ} {lone : Bool} (a : Accepted s lone) where
+module _ {s : List ℕ} {lone : Bool} (a : AcceptedMessage s lone) where
   pub accepted-limits : (12 ≤ length s) × (length s ≤ 65535)
   accepted-limits = let k = decode-back s (a .message) (a .decodes) in (k .room, k .small)
 
   -- the text by the octets is the text of the message
-  whole-text : (last : ℕ) × (wholeText lone s ≡ entry (textOf s) last)
-  unfolding textOf
+  whole-text : (last : ℕ) × (wholeText lone s ≡ entry (profileText s) last)
+  unfolding profileText
   whole-text =
       let m = a .message in
       let k = decode-back s m (a .decodes) in
       (k .last, rw (a .alone, a .decodes) (subst (λ (n : Message). wholeText (eqb (count opt? (n .additional)) 1) s ≡ entry (text n) (k .last)) (k .same) (sections-text s (k .last) (k .came))))
 
   pub accepted-readable : Readable (wholeText lone s)
-  accepted-readable = record { value = textOf s; next = whole-text .0; reads = whole-text .1 }
+  accepted-readable = record { value = profileText s; next = whole-text .0; reads = whole-text .1 }
 
-  pub accepted-text : {b b′ : List ℕ} {at n : ℕ} → Prints (wholeText lone s) b 0 b′ at n → Wrote b 0 (textOf s) b′ n
+  pub accepted-text : {b b′ : List ℕ} {at n : ℕ} → Prints (wholeText lone s) b 0 b′ at n → Wrote b 0 (profileText s) b′ n
   accepted-text {b} {b′} {n = n} p = subst (λ (t : List ℕ). Wrote b 0 t b′ n) (entry-value (sym (p .reads) ∙ whole-text .1)) (p .wrote)

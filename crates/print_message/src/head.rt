@@ -2,7 +2,7 @@
 ghost use Prim.Native.Nat.{_+_, _^_, _<_, _≤_};
 ghost use lib.ListN.{length};
 ghost use Rattle.octets.specs.Overlay.{Wrote};
-ghost use Rattle.print_message.specs.Head.{headAt, countsText};
+ghost use Rattle.print_message.specs.Head.{headTextAt, countsText};
 use octets::two_at;
 use print_head::put_high;
 use print_head::put_low;
@@ -23,7 +23,7 @@ fn put_counts(out: &mut [u8], to: usize, s: &[u8]) -> usize
 // Writes the head of the text of a message, whose first 12 octets s has at least.
 pub fn put_head(out: &mut [u8], to: usize, s: &[u8]) -> usize
     requires { ⌜ (to < 2 ^ 38) × (12 ≤ length (now s)) ⌝ }
-    ensures { λ r. ⌜ Wrote (now (out .entry)) to (headAt (now (s .entry))) (now (out .exit)) r ⌝ }
+    ensures { λ r. ⌜ Wrote (now (out .entry)) to (headTextAt (now (s .entry))) (now (out .exit)) r ⌝ }
     ensures { λ r. ⌜ r ≤ to + 251 ⌝ }
 {
     let id = put_number(out, to, b"{\"ID\":", two_at(s, 0));

@@ -5,7 +5,7 @@ ghost use Rattle.octets.specs.Fields.{twoAt};
 ghost use Rattle.octets.specs.Overlay.{Wrote};
 ghost use Rattle.print_entry.specs.Prints.{Readable, Prints};
 ghost use Rattle.print_message.specs.Arrays.{comma, arrayText, sectionText, Arrives, Placed};
-ghost use Rattle.print_message.specs.Whole.{textOf, Accepted};
+ghost use Rattle.print_message.specs.Whole.{profileText, AcceptedMessage};
 use head::put_head;
 use octets::put;
 use octets::put_all;
@@ -78,8 +78,8 @@ fn put_section(
 
 // Writes the text of an accepted message; `lone` says whether its additional section has one TYPE 41 record.
 pub fn put_text(s: &[u8], lone: bool, out: &mut [u8]) -> usize
-    requires { ⌜ Accepted (now s) lone ⌝ }
-    ensures { λ r. ⌜ Wrote (now (out .entry)) 0 (textOf (now (s .entry))) (now (out .exit)) r ⌝ }
+    requires { ⌜ AcceptedMessage (now s) lone ⌝ }
+    ensures { λ r. ⌜ Wrote (now (out .entry)) 0 (profileText (now (s .entry))) (now (out .exit)) r ⌝ }
 {
     let head = Position {
         at: 12,

@@ -1,4 +1,4 @@
--- The text of a member for each row of the table, as its writer puts it together. Assumes nothing.
+-- The text of a member for each row of the table, as its writer puts it together.
 use mathlib.Core.Path.{_≡_, refl, sym, _∙_}
 use mathlib.Core.Bool.{Bool, true, false, not}
 use mathlib.Core.Option.{Option, none, some}
@@ -8,7 +8,7 @@ use native.Mathlib.Omega.{arith}
 use borrow.Author.Tests.{eq-eqb, ne-eqb, le-leb, not-true}
 use lib.ListN.{length, take, drop, length-drop}
 use lib.Seq.{take-all}
-use Rattle.octets.specs.Lists.{ascii, all, lookup, textOf, each, listed, present?}
+use Rattle.octets.specs.Lists.{ascii, all, lookup, rowText, each, listed, present?}
 use Rattle.octets.specs.Fields.{twoAt, fourAt}
 use Rattle.octets.specs.Decimal.{decimal}
 use Rattle.octets.specs.Hexadecimal.{hexOctet, hexText}
@@ -56,42 +56,42 @@ module _ (v : List ℕ) {b b′ : List ℕ} {at r : ℕ} where
 
   -- NSID
   pub nsid-is : {b₁ : List ℕ} {r₁ : ℕ} → Wrote b at (ascii "\"NSID\":{\"HEX\":\"" ++ hexText v) b₁ r₁ → Wrote b₁ r₁ (ascii "}") b′ r → Wrote b at (optionText 3 v) b′ r
-  unfolding lookup textOf rows members formOf shape valueText memberOf memberText
+  unfolding lookup rowText rows members formOf shape valueText memberOf memberText
   nsid-is p q = then p q
 
   -- DAU, DHU, N3U
   pub dau-is : Wrote b at (ascii "\"DAU\":" ++ listed decimal v) b′ r → Wrote b at (optionText 5 v) b′ r
-  unfolding lookup textOf rows members formOf shape valueText memberOf memberText
+  unfolding lookup rowText rows members formOf shape valueText memberOf memberText
   dau-is w = w
 
   pub dhu-is : Wrote b at (ascii "\"DHU\":" ++ listed decimal v) b′ r → Wrote b at (optionText 6 v) b′ r
-  unfolding lookup textOf rows members formOf shape valueText memberOf memberText
+  unfolding lookup rowText rows members formOf shape valueText memberOf memberText
   dhu-is w = w
 
   pub n3u-is : Wrote b at (ascii "\"N3U\":" ++ listed decimal v) b′ r → Wrote b at (optionText 7 v) b′ r
-  unfolding lookup textOf rows members formOf shape valueText memberOf memberText
+  unfolding lookup rowText rows members formOf shape valueText memberOf memberText
   n3u-is w = w
 
   -- EXPIRE
   pub expire-none : length v ≡ 0 → Wrote b at (ascii "\"EXPIRE\":\"NONE\"") b′ r → Wrote b at (optionText 9 v) b′ r
-  unfolding lookup textOf rows members formOf shape valueText memberOf memberText
+  unfolding lookup rowText rows members formOf shape valueText memberOf memberText
   expire-none e w = rw (eq-eqb _ _ e) w
 
   pub expire-is : {n : ℕ} {b₁ : List ℕ} {r₁ : ℕ} → Shaped 9 v → (length v ≡ 0 → ⊥) → n ≡ fourAt v 0
       → Wrote b at (ascii "\"EXPIRE\":") b₁ r₁ → Wrote b₁ r₁ (decimal n) b′ r → Wrote b at (optionText 9 v) b′ r
-  unfolding lookup textOf rows members formOf shape valueText memberOf memberText
+  unfolding lookup rowText rows members formOf shape valueText memberOf memberText
   expire-is s h f p q = rw (expire-four v s h, ← f) (then p q)
 
   -- COOKIE
   pub cookie-client : {b₁ : List ℕ} {r₁ : ℕ} → length v ≡ 8 → Wrote b at (ascii "\"COOKIE\":[\"" ++ hexText v) b₁ r₁ → Wrote b₁ r₁ (ascii "]") b′ r → Wrote b at (optionText 10 v) b′ r
-  unfolding lookup textOf rows members formOf shape valueText memberOf memberText
+  unfolding lookup rowText rows members formOf shape valueText memberOf memberText
   cookie-client e p q = rw e (then p q)
 
   pub cookie-both : {b₁ b₂ : List ℕ} {r₁ r₂ : ℕ} → Shaped 10 v → (length v ≡ 8 → ⊥)
       → Wrote b at (ascii "\"COOKIE\":[\"" ++ hexText (take 8 v)) b₁ r₁
       → Wrote b₁ r₁ (ascii ",\"" ++ hexText (take (length v - 8) (drop 8 v))) b₂ r₂ → Wrote b₂ r₂ (ascii "]") b′ r
       → Wrote b at (optionText 10 v) b′ r
-  unfolding lookup textOf rows members formOf shape valueText memberOf memberText
+  unfolding lookup rowText rows members formOf shape valueText memberOf memberText
   cookie-both f e p q s =
       let (h, k) = cookie-sizes v f e in
       rw (ne-eqb _ _ e, le-leb _ _ h, le-leb _ _ k, ← (append-assoc (hexText (take 8 v)) (ascii ",\"" ++ hexText (drop 8 v)) (ascii "]")))
@@ -100,25 +100,25 @@ module _ (v : List ℕ) {b b′ : List ℕ} {at r : ℕ} where
   -- KEEPALIVE
   pub keepalive-is : {n : ℕ} {b₁ : List ℕ} {r₁ : ℕ} → Shaped 11 v → n ≡ twoAt v 0
       → Wrote b at (ascii "\"KEEPALIVE\":") b₁ r₁ → Wrote b₁ r₁ (decimal n) b′ r → Wrote b at (optionText 11 v) b′ r
-  unfolding lookup textOf rows members formOf shape valueText memberOf memberText
+  unfolding lookup rowText rows members formOf shape valueText memberOf memberText
   keepalive-is s f p q = rw (keepalive-two v s, ← f) (then p q)
 
   -- PADDING
   pub padding-zero : {t : Bool} {b₁ b₂ : List ℕ} {r₁ r₂ : ℕ} → t ≡ true → t ≡ all zero? v
       → Wrote b at (ascii "\"PADDING\":{\"LENGTH\":") b₁ r₁ → Wrote b₁ r₁ (decimal (length v)) b₂ r₂ → Wrote b₂ r₂ (ascii "}") b′ r
       → Wrote b at (optionText 12 v) b′ r
-  unfolding lookup textOf rows members formOf shape valueText memberOf memberText
+  unfolding lookup rowText rows members formOf shape valueText memberOf memberText
   padding-zero e f p q s = rw (← f, e) (then (then p q) s)
 
   pub padding-is : {t : Bool} {b₁ b₂ b₃ : List ℕ} {r₁ r₂ r₃ : ℕ} → t ≡ false → t ≡ all zero? v
       → Wrote b at (ascii "\"PADDING\":{\"LENGTH\":") b₁ r₁ → Wrote b₁ r₁ (decimal (length v)) b₂ r₂
       → Wrote b₂ r₂ (ascii ",\"HEX\":\"" ++ hexText v) b₃ r₃ → Wrote b₃ r₃ (ascii "}") b′ r → Wrote b at (optionText 12 v) b′ r
-  unfolding lookup textOf rows members formOf shape valueText memberOf memberText
+  unfolding lookup rowText rows members formOf shape valueText memberOf memberText
   padding-is e f p q s u = rw (← f, e) (then (then p q) (then s u))
 
   -- KEYTAG
   pub keytag-is : Shaped 14 v → Wrote b at (ascii "\"KEYTAG\":" ++ listed decimal (words v)) b′ r → Wrote b at (optionText 14 v) b′ r
-  unfolding lookup textOf rows members formOf shape valueText memberOf memberText
+  unfolding lookup rowText rows members formOf shape valueText memberOf memberText
   keytag-is s w = rw (keytag-even v s) w
 
   -- EDE
@@ -126,7 +126,7 @@ module _ (v : List ℕ) {b b′ : List ℕ} {at r : ℕ} where
       → Wrote b at (ascii "\"EDE\":{\"CODE\":") b₁ r₁
       → Wrote b₁ r₁ (decimal n) b₂ r₂ → Wrote b₂ r₂ (errorTail (present (take (length v - 2) (drop 2 v)))) b′ r
       → Wrote b at (optionText 15 v) b′ r
-  unfolding lookup textOf rows members formOf shape valueText memberOf memberText
+  unfolding lookup rowText rows members formOf shape valueText memberOf memberText
   error-is f e p q s =
       let (long, text) = error-parts v f in
       rw (le-leb _ _ long, text, ← e) (then (then p q) (rw (rest-is 2 v) at s))

@@ -1,4 +1,4 @@
--- Lists of numbers, entry by entry: a number for each octet, or for each two octets. Assumes nothing.
+-- Lists of numbers, entry by entry: a number for each octet, or for each two octets.
 use mathlib.Core.Path.{_≡_, refl, _∙_}
 use mathlib.Core.Bool.{Bool, true, false, cond}
 use mathlib.Core.List.{List, [], _∷_}
@@ -91,11 +91,11 @@ abbrev pub entries : List ℕ → List ℕ
 entries = ended (λ n. 44 ∷ decimal n) 93
 
 -- to write those left from here is to write all of them from where the loop starts
-pub record Left (whole left : List ℕ) (b₀ : List ℕ) (at : ℕ) (b : List ℕ) (to : ℕ) : Type 0 where
+pub record ListLoop (whole left : List ℕ) (b₀ : List ℕ) (at : ℕ) (b : List ℕ) (to : ℕ) : Type 0 where
   pub goes : (b′ : List ℕ) (r : ℕ) → Wrote b to (entries left) b′ r → Wrote b₀ at (entries whole) b′ r
 
 -- the loop starts
-pub list-start : (l b : List ℕ) (at : ℕ) → Left l l b at b at
+pub list-start : (l b : List ℕ) (at : ℕ) → ListLoop l l b at b at
 list-start l b at = record { goes = λ b′ r w. w }
 
 module _ {w : ℕ} (k : Width w) (s : List ℕ) where
@@ -104,10 +104,10 @@ module _ {w : ℕ} (k : Width w) (s : List ℕ) where
       → Wrote b at (listed decimal (numbers w s)) b′ r
   list-none h v = rw (no-number k s 0 (omega arith)) v
 
-  module _ (i : ℕ) {b₀ b b₁ : List ℕ} {at to r : ℕ} (o : Left (numbers w (drop w s)) (numbers w (drop i s)) b₀ at b to) where
+  module _ (i : ℕ) {b₀ b b₁ : List ℕ} {at to r : ℕ} (o : ListLoop (numbers w (drop w s)) (numbers w (drop i s)) b₀ at b to) where
     -- one entry more
     pub list-next : i + w ≤ length s → Wrote b to (44 ∷ decimal (numberAt w s i)) b₁ r
-        → Left (numbers w (drop w s)) (numbers w (drop (i + w) s)) b₀ at b₁ r
+        → ListLoop (numbers w (drop w s)) (numbers w (drop (i + w) s)) b₀ at b₁ r
     list-next h v = record { goes = λ b′ t u. o .goes b′ t (rw (number-here k s i h) (then v u)) }
 
     -- none is left: the bracket ends the list, whose first number was written before the loop

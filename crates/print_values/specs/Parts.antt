@@ -1,4 +1,4 @@
--- Octets in hexadecimal and the end of EDE, as their writers put them together. Assumes nothing.
+-- Octets in hexadecimal and the end of EDE, as their writers put them together.
 use mathlib.Core.Path.{_≡_, refl}
 use mathlib.Core.List.{List, [], _∷_, _++_}
 use Prim.Native.Nat.{ℕ}

@@ -1,4 +1,4 @@
--- The EDNS element behind its title: what its reader shows. Assumes nothing.
+-- The EDNS element after its title: what its reader shows.
 use mathlib.Core.Path.{_≡_, refl, sym, _∙_, ap, subst}
 use mathlib.Core.Bool.{Bool, true, false, _&&_}
 use mathlib.Core.List.{List, [], _∷_, _++_, map}
@@ -7,7 +7,7 @@ use native.Mathlib.Omega.{arith}
 use borrow.Author.Tests.{eqb-true, lt-ltb}
 use lib.Dec.{T, ltb, eqb, ltb→lt}
 use lib.ListN.{length}
-use Rattle.octets.specs.Lists.{ascii, all, All, each, octet?, key?, textOf}
+use Rattle.octets.specs.Lists.{ascii, all, All, each, octet?, key?, rowText}
 use Rattle.octets.specs.Bits.{is-true, and-left, and-right}
 use Rattle.octets.specs.Fields.{two, four}
 use Rattle.octets.specs.Parsed.{Parsed, took, stuck, and-then, strip}
@@ -19,7 +19,7 @@ use Rattle.records.specs.Message.{recordForm, bit?}
 use Rattle.options.specs.Options.{Member}
 use Rattle.edns.specs.Edns.{rcodes, flags, fullRcode, optionForm, option?, rising?, edns?, ednsRecord, EdnsItem}
 use Rattle.strict.specs.Grammar.{MemberIn, EdnsIn}
-use Rattle.strict.specs.Parser.{flags-distinct, rcodes-distinct, optionsText, options-fit, optionMembers, ednsElement}
+use Rattle.strict.specs.Parser.{flags-distinct, rcodes-distinct, membersEndText, options-fit, optionMembers, ednsElement}
 use Rattle.strict.specs.Members.{optionOf, member?}
 use Rattle.strict.specs.OptionLaws.{key-holds, option-member}
 use Rattle.strict.specs.Meaning.{itemEdns, ednsItem?}
@@ -32,15 +32,15 @@ use Rattle.tokens.specs.Number.{capped, capped-below, capped-is, NumberRead, Ti
 use Rattle.tokens.specs.Rows.{RowRead}
 use Rattle.reader.specs.Options.{options?, OptionsStep}
 
--- ---- the parser behind the title
-abbrev pub Fields : Type 0
-Fields = ℕ × (ℕ × (ℕ × (ℕ × List Member)))
+-- ---- the parser after the title
+abbrev pub EdnsFields : Type 0
+EdnsFields = ℕ × (ℕ × (ℕ × (ℕ × List Member)))
 
-abbrev pub itemOf : Fields → EdnsItem
+abbrev pub itemOf : EdnsFields → EdnsItem
 itemOf (v, (f, (c, (s, o)))) = record { version = v; flags = f; rcode = c; size = s; options = o }
 
 abbrev pub behindText : EdnsItem → List ℕ
-behindText e = (decimal (e .version) ++ ascii ",\"FLAGS\":") ++ (textOf (e .flags) flags ++ ((ascii ",\"RCODE\":\"" ++ (textOf (e .rcode) rcodes ++ ascii "\",\"UDPSIZE\":")) ++ (decimal (e .size) ++ optionsText (e .options))))
+behindText e = (decimal (e .version) ++ ascii ",\"FLAGS\":") ++ (rowText (e .flags) flags ++ ((ascii ",\"RCODE\":\"" ++ (rowText (e .rcode) rcodes ++ ascii "\",\"UDPSIZE\":")) ++ (decimal (e .size) ++ membersEndText (e .options))))
 
 unfoldable pub ednsBehind : Codec EdnsIn behindText Any
 ednsBehind = on (λ e. (e .version, (e .flags, (e .rcode, (e .size, e .options))))) itemOf (λ e h. (h, refl)) (λ e h. (h, refl))
@@ -63,7 +63,7 @@ unfolding ednsElement ednsRest ednsBehind
 edns-parse w = then-thrice (strip (ascii "{\"EDNS\":{\"Version\":") w) (λ u r. till ",\"FLAGS\":" tt number .parse r) _ _
 
 -- ---- its fields
-abbrev pub rcodeCodec : Codec (λ n. T (key? n rcodes)) (λ n. ascii ",\"RCODE\":\"" ++ (textOf n rcodes ++ ascii "\",\"UDPSIZE\":")) Any
+abbrev pub rcodeCodec : Codec (λ n. T (key? n rcodes)) (λ n. ascii ",\"RCODE\":\"" ++ (rowText n rcodes ++ ascii "\",\"UDPSIZE\":")) Any
 rcodeCodec = ",\"RCODE\":\"" ▷ table rcodes rcodes-distinct ◁ "\",\"UDPSIZE\":"
 
 pub record RcodeRead (t : List ℕ) (c : Cursor) (r : Row) : Type 0 where
@@ -74,8 +74,8 @@ pub rcode-read : {t : List ℕ} {c r s : Cursor} {n : Row} → Passed (ascii ",\
 rcode-read q x e = record { found = found-lit q (found-behind (x .found) e); keeps = keeps-then (q .keeps) (keeps-then (x .keeps) (e .keeps)) }
 
 -- ---- what they must be
-abbrev pub fits? : ℕ → ℕ → ℕ → ℕ → Bool
-fits? version full rcode size = eqb version 0 && eqb (full % 16) rcode && ltb size 65536
+abbrev pub ednsFits? : ℕ → ℕ → ℕ → ℕ → Bool
+ednsFits? version full rcode size = eqb version 0 && eqb (full % 16) rcode && ltb size 65536
 
 -- the rest of the conditions follows from the grammar
 abbrev pub element? : ℕ → EdnsItem → Bool
@@ -96,7 +96,7 @@ rcode-octet : (n : ℕ) → T (key? n rcodes) → n / 16 < 256
 unfolding rcodes
 rcode-octet n h = ltb→lt (n / 16) 256 (key-holds (λ n. octet? (n / 16)) rcodes n tt h)
 
-element-is : (rcode : ℕ) (e : EdnsItem) → EdnsIn e → element? rcode e ≡ (options? (e .options) && fits? (e .version) (e .rcode) rcode (e .size))
+element-is : (rcode : ℕ) (e : EdnsItem) → EdnsIn e → element? rcode e ≡ (options? (e .options) && ednsFits? (e .version) (e .rcode) rcode (e .size))
 unfolding ednsItem? edns? itemEdns
 element-is rcode e i =
     rw (lt-ltb (e .rcode / 16) 256 (rcode-octet (e .rcode) (i .1 .1 .0)), lt-ltb (e .flags) 2 (flags-bit (e .flags) (i .1 .0)))
@@ -167,7 +167,7 @@ abbrev pub EdnsStep : ℕ → List ℕ → Cursor → List ℕ → Cursor → Li
 EdnsStep rcode t c b r b′ = Step (element? rcode) elementForm ednsRest t c b r b′
 
 pub edns-read : (rcode : ℕ) {t : List ℕ} {c h o j : Cursor} {b b₁ b₂ : List ℕ} {v s : Amount} {f x : Row} {ok : Bool} {e : ℕ} → TillRead (ascii ",\"FLAGS\":") t c v → RowRead (tried flags) t (v .cursor) f → RcodeRead t (f .cursor) x → NumberRead t (x .cursor) s
-    → Held 11 (s .cursor) h → OptionsStep (optionMembers .parse) t h b o b₁ → ok ≡ fits? (v .value) (x .key) rcode (s .value) → Judged ok o j
+    → Held 11 (s .cursor) h → OptionsStep (optionMembers .parse) t h b o b₁ → ok ≡ ednsFits? (v .value) (x .key) rcode (s .value) → Judged ok o j
     → OptFronted (s .value) (x .key) (f .key) (s .cursor .to) (j .to) b₁ b₂ e → EdnsStep rcode t c b j b₂
 unfolding ednsRest ednsBehind
 edns-read rcode {t} {c} {h} {o} {j} {b} {b₁} {b₂} {v} {s} {f} {x} {ok} {e = end} version row full size places members fit judged front =
@@ -185,7 +185,7 @@ edns-read rcode {t} {c} {h} {o} {j} {b} {b₁} {b₂} {v} {s} {f} {x} {ok} {e = 
     done : (e : EdnsItem) → EdnsIn e → Q e → Put (element? rcode) elementForm c b j b₂ e
     done e i q = put-from (keeps-then (version .keeps) (keeps-then (row .keeps) (keeps-then (full .keeps) (size .keeps)))) (put-as refl (form-is e) (put-before frontOf places refl p before))
       where
-        fits : ok ≡ fits? (e .version) (e .rcode) rcode (e .size)
+        fits : ok ≡ ednsFits? (e .version) (e .rcode) rcode (e .size)
         fits = fit ∙ rw (q .0, capped-is (e .version) 0 (omega arith), q .1 .1 .0, q .1 .1 .1 .0, capped-below (e .size) 65536 (omega arith))
 
         p : Put (element? rcode) rdataOf h b j b₁ e
@@ -194,7 +194,7 @@ edns-read rcode {t} {c} {h} {o} {j} {b} {b₁} {b₂} {v} {s} {f} {x} {ok} {e = 
         before : T (j .meant) → T (j .small) → Wrote b₁ (s .cursor .to) (frontOf e) b₂ end
         before y z =
             let start = s .cursor .to in
-            let w : T (options? (e .options) && fits? (e .version) (e .rcode) rcode (e .size)) = subst T (element-is rcode e i) (and-right (h .meant) (element? rcode e) (subst T (p .meant) y)) in
+            let w : T (options? (e .options) && ednsFits? (e .version) (e .rcode) rcode (e .size)) = subst T (element-is rcode e i) (and-right (h .meant) (element? rcode e) (subst T (p .meant) y)) in
             let l : e .size < 65536 = ltb→lt (e .size) 65536 (and-right (eqb (e .version) 0 && eqb (e .rcode % 16) rcode) (ltb (e .size) 65536) (and-right (options? (e .options)) _ w)) in
             let u : j .to ≡ start + 11 + length (rdataOf e) = omega (arith, places .to (and-left (h .small) _ (subst T (p .small y) z)), p .wrote y z .place) in
             let n : j .to - (start + 11) ≡ length (rdataOf e) = omega (arith, u) in

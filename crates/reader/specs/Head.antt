@@ -1,4 +1,4 @@
--- The head of a text: how its numbers are read, judged and written. Assumes nothing.
+-- The head of a text: how its numbers are read, judged and written.
 use mathlib.Core.Path.{_≡_, refl, sym, _∙_, subst}
 use mathlib.Core.Bool.{Bool, true, false, _&&_}
 use mathlib.Core.List.{List, [], _∷_, _++_}
@@ -51,8 +51,8 @@ pub low-bits : {c : Cursor} {u : Four} {o : ℕ} {x y z : Bool} → o ≡ u .0 %
 low-bits o e f g = record { same = refl; octet = o; fits = g ∙ rw (f, e) }
 
 -- what is known of the flags that were read
-abbrev pub Kept : {A : Type 0} → (A → Bool) → (A → ℕ) → Flags → A → Type 0
-Kept meant? octet r u = (r .fits ≡ meant? u) × (T (r .fits) → r .octet ≡ octet u)
+abbrev pub FlagsKept : {A : Type 0} → (A → Bool) → (A → ℕ) → Flags → A → Type 0
+FlagsKept meant? octet r u = (r .fits ≡ meant? u) × (T (r .fits) → r .octet ≡ octet u)
 
 abbrev pub highParse : List ℕ → Parsed Five
 highParse = (till ",\"Opcode\":" tt number ⊗ till ",\"AA\":" tt number ⊗ till ",\"TC\":" tt number ⊗ till ",\"RD\":" tt number ⊗ till ",\"RA\":" tt number) .parse
@@ -64,7 +64,7 @@ abbrev pub countsParse : List ℕ → Parsed Four
 countsParse = (till ",\"ANCOUNT\":" tt number ⊗ till ",\"NSCOUNT\":" tt number ⊗ till ",\"ARCOUNT\":" tt number ⊗ number) .parse
 
 pub record FlagsRead {A : Type 0} (p : List ℕ → Parsed A) (meant? : A → Bool) (octet : A → ℕ) (t : List ℕ) (c : Cursor) (r : Flags) : Type 0 where
-  pub found : Found p (Kept meant? octet r) t c (r .cursor)
+  pub found : Found p (FlagsKept meant? octet r) t c (r .cursor)
   pub keeps : Keeps t c (r .cursor)
 
 abbrev pub HighRead : List ℕ → Cursor → Flags → Type 0
@@ -86,7 +86,7 @@ bit-in n h = omega (arith, ltb→lt n 2 h)
 four-bits-in : (n : ℕ) → T (four-bits? n) → capped n % 16 ≡ n
 four-bits-in n h = omega (arith, ltb→lt n 16 h)
 
-high-kept : {c : Cursor} {r : Flags} (a b d e f : ℕ) → HighBits c (capped a, (capped b, (capped d, (capped e, capped f)))) r → Kept highMeant? highOctet r (a, (b, (d, (e, f))))
+high-kept : {c : Cursor} {r : Flags} (a b d e f : ℕ) → HighBits c (capped a, (capped b, (capped d, (capped e, capped f)))) r → FlagsKept highMeant? highOctet r (a, (b, (d, (e, f))))
 high-kept a b d e f x = (x .fits ∙ same, λ t. let h = subst T (x .fits ∙ same) t in x .octet ∙ octet h)
   where
     same : highMeant? (capped a, (capped b, (capped d, (capped e, capped f)))) ≡ highMeant? (a, (b, (d, (e, f))))
@@ -99,7 +99,7 @@ high-kept a b d e f x = (x .fits ∙ same, λ t. let h = subst T (x .fits ∙ sa
         let h4 = and-right (bit? d) _ h3 in
         rw (bit-in a (and-left (bit? a) _ h), four-bits-in b (and-left (four-bits? b) _ h2), bit-in d (and-left (bit? d) _ h3), bit-in e (and-left (bit? e) _ h4), bit-in f (and-right (bit? e) _ h4))
 
-low-kept : {c : Cursor} {r : Flags} (a b d e : ℕ) → LowBits c (capped a, (capped b, (capped d, capped e))) r → Kept lowMeant? lowOctet r (a, (b, (d, e)))
+low-kept : {c : Cursor} {r : Flags} (a b d e : ℕ) → LowBits c (capped a, (capped b, (capped d, capped e))) r → FlagsKept lowMeant? lowOctet r (a, (b, (d, e)))
 low-kept a b d e x = (x .fits ∙ same, λ t. let h = subst T (x .fits ∙ same) t in x .octet ∙ octet h)
   where
     same : lowMeant? (capped a, (capped b, (capped d, capped e))) ≡ lowMeant? (a, (b, (d, e)))
@@ -122,7 +122,7 @@ high-read {t} {c} {a} {b} {d} {e} {f} {r} v w x y z k = record {
 }
   where
     kept : (u : Five) → (a .value ≡ capped (u .0)) × ((b .value ≡ capped (u .1 .0)) × ((d .value ≡ capped (u .1 .1 .0)) × ((e .value ≡ capped (u .1 .1 .1 .0)) × (f .value ≡ capped (u .1 .1 .1 .1)))))
-        → Kept highMeant? highOctet r u
+        → FlagsKept highMeant? highOctet r u
     kept u h = high-kept (u .0) (u .1 .0) (u .1 .1 .0) (u .1 .1 .1 .0) (u .1 .1 .1 .1) (rw (h .0, h .1 .0, h .1 .1 .0, h .1 .1 .1 .0, h .1 .1 .1 .1) at k)
 
 pub low-read : {t : List ℕ} {c : Cursor} {a b d e : Amount} {r : Flags}
@@ -134,7 +134,7 @@ low-read {t} {c} {a} {b} {d} {e} {r} v w x y k = record {
   keeps = rw (k .same) (keeps-then (v .keeps) (keeps-then (w .keeps) (keeps-then (x .keeps) (y .keeps))));
 }
   where
-    kept : (u : Four) → (a .value ≡ capped (u .0)) × ((b .value ≡ capped (u .1 .0)) × ((d .value ≡ capped (u .1 .1 .0)) × (e .value ≡ capped (u .1 .1 .1)))) → Kept lowMeant? lowOctet r u
+    kept : (u : Four) → (a .value ≡ capped (u .0)) × ((b .value ≡ capped (u .1 .0)) × ((d .value ≡ capped (u .1 .1 .0)) × (e .value ≡ capped (u .1 .1 .1)))) → FlagsKept lowMeant? lowOctet r u
     kept u h = low-kept (u .0) (u .1 .0) (u .1 .1 .0) (u .1 .1 .1) (rw (h .0, h .1 .0, h .1 .1 .0, h .1 .1 .1) at k)
 
 -- ---- the counts
@@ -155,7 +155,7 @@ counts-read v w x y = record {
 
 -- ---- what is written
 abbrev pub PutFlags : Flags → Flags → Cursor → List ℕ → Cursor → List ℕ → Type 0
-PutFlags high low = Done {A = Five × Four} (λ u. Kept highMeant? highOctet high (u .0) × Kept lowMeant? lowOctet low (u .1)) (λ u. highMeant? (u .0) && lowMeant? (u .1)) (λ u. highOctet (u .0) ∷ lowOctet (u .1) ∷ [])
+PutFlags high low = Done {A = Five × Four} (λ u. FlagsKept highMeant? highOctet high (u .0) × FlagsKept lowMeant? lowOctet low (u .1)) (λ u. highMeant? (u .0) && lowMeant? (u .1)) (λ u. highOctet (u .0) ∷ lowOctet (u .1) ∷ [])
 
 pub put-flags : (high low : Flags) {c d r : Cursor} {b b′ : List ℕ} {f : Bool} → f ≡ (high .fits && low .fits) → Judged f c d → Emits (high .octet ∷ low .octet ∷ []) d b r b′ → PutFlags high low c b r b′
 put-flags high low {c} {f = f} e j m = record {
@@ -188,7 +188,7 @@ pub put-counts : {q a n r : ℕ} {c d e f g : Cursor} {b b₁ b₂ b₃ b₄ : L
 put-counts w x y z = done-then w (done-then x (done-then y z))
 
 -- ---- the head
--- what the head tells: RCODE, if all is meant, and the counts
+-- what the head gives: RCODE, if all is meant, and the counts
 pub record Told (r : Header) (h : Head) : Type 0 where
   pub rcode : T (r .cursor .meant) → r .rcode ≡ h .0 .rcode
   pub counts : Counted (r .counts) (h .1)
@@ -213,14 +213,14 @@ head-read {t} {b} {b₁} {b₂} {b₃} {c} {start} {d} {e} {r} {id} {high} {low}
     (found-pair (found-lit q (i .found)) (found-pair (h .found) (found-pair (l .found) (n .found))))
     (all .at) (all .spelled) (all .room) told)
   where
-    all : Done {A = ℕ × ((Five × Four) × Four)} (λ u. (id .value ≡ capped (u .0)) × ((Kept highMeant? highOctet high (u .1 .0 .0) × Kept lowMeant? lowOctet low (u .1 .0 .1)) × Counted counts (u .1 .1)))
+    all : Done {A = ℕ × ((Five × Four) × Four)} (λ u. (id .value ≡ capped (u .0)) × ((FlagsKept highMeant? highOctet high (u .1 .0 .0) × FlagsKept lowMeant? lowOctet low (u .1 .0 .1)) × Counted counts (u .1 .1)))
         (λ u. word? (u .0) && ((highMeant? (u .1 .0 .0) && lowMeant? (u .1 .0 .1)) && words? (u .1 .1))) (λ u. two (u .0) ++ ((highOctet (u .1 .0 .0) ∷ lowOctet (u .1 .0 .1) ∷ []) ++ fourWords (u .1 .1))) (counts .cursor) b r b₃
     all = done-then w (done-then f g)
 
     keeps : Keeps t c (counts .cursor)
     keeps = keeps-then (q .keeps) (keeps-then (i .keeps) (keeps-then (h .keeps) (keeps-then (l .keeps) (n .keeps))))
 
-    told : (u : Numbers) → (id .value ≡ capped (u .0)) × (Kept highMeant? highOctet high (u .1 .0) × (Kept lowMeant? lowOctet low (u .1 .1 .0) × Counted counts (u .1 .1 .1)))
+    told : (u : Numbers) → (id .value ≡ capped (u .0)) × (FlagsKept highMeant? highOctet high (u .1 .0) × (FlagsKept lowMeant? lowOctet low (u .1 .1 .0) × Counted counts (u .1 .1 .1)))
         → Put headMeant? headOctets c b r b₃ (headFrom u) × Told (record { cursor = r; rcode = rcode; counts = counts }) (headFrom u)
     told u k =
         let p = put-from keeps (all .put (u .0, ((u .1 .0, u .1 .1 .0), u .1 .1 .1)) (k .0, ((k .1 .0, k .1 .1 .0), k .1 .1 .1))) in

@@ -1,4 +1,4 @@
--- Elements of the additional section: an ordinary record, or an EDNS element. Assumes nothing.
+-- Elements of the additional section: an ordinary record, or an EDNS element.
 use mathlib.Core.Path.{_≡_, refl, sym, _∙_}
 use mathlib.Core.Bool.{Bool, true, false}
 use mathlib.Core.List.{List}
@@ -9,7 +9,7 @@ use Rattle.octets.specs.Parsed.{strip-sound, held}
 use Rattle.octets.specs.Codec.{apart-texts}
 use Rattle.edns.specs.Edns.{EdnsItem}
 use Rattle.json.specs.Document.{RecordItem, Item, ordinary, edns}
-use Rattle.strict.specs.Parser.{entry, ednsElement, itemCodec}
+use Rattle.strict.specs.Parser.{recordCodec, ednsElement, itemCodec}
 use Rattle.strict.specs.Meaning.{itemAdditional, item?}
 use Rattle.json.specs.View.{additional?, opt-entry?, recordOf}
 use Rattle.tokens.specs.declared.Cursor.{Cursor}
@@ -45,13 +45,13 @@ module _ {t : List ℕ} {c n m : Cursor} (p : Passed nameTitle t c n) (q : Passe
       go false h = refl
 
   -- both by their titles
-  as-record : {P : RecordItem → Type 0} {r : Cursor} → Found recordRest P t n r → Found (entry .parse) P t c r
-  as-record x = found-same (entry .parse) (λ g. sym (entry-parse _)) (found-lit p x)
+  as-record : {P : RecordItem → Type 0} {r : Cursor} → Found recordRest P t n r → Found (recordCodec .parse) P t c r
+  as-record x = found-same (recordCodec .parse) (λ g. sym (entry-parse _)) (found-lit p x)
 
   as-edns : {P : EdnsItem → Type 0} {r : Cursor} → Found ednsRest P t m r → Found (ednsElement .parse) P t c r
   as-edns x = found-same (ednsElement .parse) (λ g. sym (edns-parse _)) (found-lit q x)
 
-  -- what is told of each
+  -- what is reported of each
   record-told : (rcode : ℕ) {b b′ : List ℕ} {d : Entry} (a : RecordItem) → RecordFacts rcode n b d b′ a → ItemFacts rcode c b d b′ (ordinary a)
   unfolding itemMeant? itemOctets itemOpt? itemShown? itemHides? recordMeant? recordOctets item? additional? itemAdditional recordOf opt-entry?
   record-told rcode a h = record { put = put-as refl refl (put-from (p .keeps) (h .put)); is-opt = h .is-opt; is-shown = h .is-shown; is-hidden = h .is-hidden }
@@ -64,12 +64,12 @@ module _ {t : List ℕ} {c n m : Cursor} (p : Passed nameTitle t c n) (q : Passe
   pub item-edns : (rcode : ℕ) {b b′ : List ℕ} {e r : Cursor} → m .spelled ≡ true → Step (element? rcode) elementForm ednsRest t m b e b′ → Further (n .at) e r
       → ItemRead rcode t c b (record { cursor = r; opt = true; shown = true; hidden = false }) b′
   unfolding itemCodec
-  item-edns rcode {b} {b′} g x f = either-second ordinary edns (entry .parse) (ednsElement .parse) (as-record {P = λ a. Unit {0}} (found-stuck recordRest t n (p .keeps .safe) (not-both g)))
+  item-edns rcode {b} {b′} g x f = either-second ordinary edns (recordCodec .parse) (ednsElement .parse) (as-record {P = λ a. Unit {0}} (found-stuck recordRest t n (p .keeps .safe) (not-both g)))
       (λ z. ItemFacts rcode c b (record { cursor = z; opt = true; shown = true; hidden = false }) b′) (as-edns x) (not-both g) f λ a h. edns-told rcode a h
 
   -- an ordinary record
   pub item-record : (rcode : ℕ) {b b′ : List ℕ} {d : Entry} {r : Cursor} → m .spelled ≡ false → RecordRead rcode t n b d b′ → Further (m .at) (d .cursor) r
       → ItemRead rcode t c b (record { cursor = r; opt = d .opt; shown = d .shown; hidden = d .hidden }) b′
   unfolding itemCodec
-  item-record rcode {b} {b′} {d} g x f = either-further ordinary edns (entry .parse) (ednsElement .parse) (as-record x)
+  item-record rcode {b} {b′} {d} g x f = either-further ordinary edns (recordCodec .parse) (ednsElement .parse) (as-record x)
       (λ z. ItemFacts rcode c b (record { cursor = z; opt = d .opt; shown = d .shown; hidden = d .hidden }) b′) (as-edns {P = λ a. Unit {0}} (found-stuck ednsRest t m (q .keeps .safe) g)) g f λ a h. record-told rcode a h

@@ -1,4 +1,4 @@
--- A label of a text, and its octets in a message. Assumes nothing.
+-- A label of a text, and its octets in a message.
 use mathlib.Core.Path.{_≡_, refl, sym, _∙_, subst}
 use mathlib.Core.Bool.{true, false, not}
 use mathlib.Core.List.{List, [], _∷_, _++_}
@@ -73,7 +73,7 @@ pub record LabelAt (t : List ℕ) (start : ℕ) (b : List ℕ) (to : ℕ) (r : P
   pub further : r .found ≡ true → start + 2 ≤ r .at
   pub long : length b′ ≡ length b
 
--- the octet `v` stands n places behind `to`, unless n is more than 63
+-- the octet `v` is n places after `to`, unless n is more than 63
 pub record Stored (b : List ℕ) (to n v : ℕ) (b′ : List ℕ) : Type 0 where
   pub wrote : n ≤ 63 → Wrote b (to + n) (v ∷ []) b′ (to + n + 1)
   pub long : length b′ ≡ length b
@@ -84,7 +84,7 @@ stored-not b to n v h = record { wrote = λ k. absurd (omega arith); long = refl
 pub stored : {b b′ : List ℕ} {to n v r : ℕ} → Wrote b (to + n) (v ∷ []) b′ r → Stored b to n v b′
 stored w = record { wrote = λ k. record { place = refl; text = w .text }; long = same-long w }
 
--- n octets so far, which stand behind the place of the length
+-- n octets so far, which stand after the place of the length
 pub record Letters (t : List ℕ) (start : ℕ) (b : List ℕ) (to at n : ℕ) (out : List ℕ) : Type 0 where
   pub l : List ℕ
   pub goes : Going (run-of 46 spelledOctet) t (label .parse (drop start t)) at l
@@ -112,7 +112,7 @@ pub label-none : {t : List ℕ} {start x : ℕ} (b : List ℕ) (to : ℕ) → st
 label-none b to h e d = record { tells = tells-missing (label-dot e d) refl; within = h; onward = omega arith; further = λ g. absurd (subst T (sym g) tt); long = refl }
 
 module _ {t : List ℕ} {start : ℕ} {b : List ℕ} {to at n : ℕ} {out : List ℕ} (w : Letters t start b to at n out) where
-  -- the dot behind them
+  -- the dot after them
   module _ {x y : ℕ} (e : Byte t start x) (d : x ≡ 46 → ⊥) (f : Byte t at y) (g : y ≡ 46) where
     ends : label .parse (drop start t) ≡ took (w .l) (drop (at + 1) t)
     ends = going-end spelledOctet 46 dotless octet-empty (w .goes) (inside f (omega arith)) (sym (f .is) ∙ g)

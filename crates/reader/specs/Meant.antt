@@ -1,4 +1,4 @@
--- What is judged and written of the entries of a document, one by one, and that this is what the definitions judge of the whole. Assumes nothing.
+-- What is judged and written of the entries of a document, one by one, and that this is what the definitions judge of the whole.
 use mathlib.Core.Path.{_≡_, refl, sym, _∙_, ap, subst}
 use mathlib.Core.Bool.{Bool, true, false, not, cond, _&&_, _||_}
 use mathlib.Core.List.{List, [], _∷_, _++_, map, append-assoc}

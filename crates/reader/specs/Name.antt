@@ -1,4 +1,4 @@
--- A name of a text, and its octets in a message. Assumes nothing.
+-- A name of a text, and its octets in a message.
 use mathlib.Core.Path.{_≡_, refl, sym, _∙_, ap, subst}
 use mathlib.Core.Logic.{⊎-elim}
 use mathlib.Core.Bool.{Bool, true, false, not, cond, _&&_, and-true}
@@ -91,7 +91,7 @@ pub record Grown (size n r : ℕ) : Type 0 where
   pub most : r ≤ 255
 
 -- the labels so far; their size is 255 where no name has them
-pub record Labels (t : List ℕ) (start : ℕ) (b : List ℕ) (to at size : ℕ) (out : List ℕ) : Type 0 where
+pub record LabelsLoop (t : List ℕ) (start : ℕ) (b : List ℕ) (to at size : ℕ) (out : List ℕ) : Type 0 where
   pub l : Name
   pub goes : Going (run-of 34 label) t (labelList .parse (drop start t)) at l
   pub fit : size ≤ 254 → T (name? l)
@@ -103,7 +103,7 @@ pub record Labels (t : List ℕ) (start : ℕ) (b : List ℕ) (to at size : ℕ)
   pub some : (at ≡ start → ⊥) → (start + 2 ≤ at) × (none? l ≡ false)
   pub long : length out ≡ length b
 
--- labels whose octets are as many as n tells, and more than 255 where no name has them
+-- labels whose octets are as many as n says, and more than 255 where no name has them
 pub record Formed (b : List ℕ) (to n : ℕ) (b′ : List ℕ) (l : Name) : Type 0 where
   pub fits : leb n 255 ≡ name? l
   pub wrote : n ≤ 255 → Wrote b to (nameForm l) b′ (to + n)
@@ -127,7 +127,7 @@ labels-none {t} {start} b to h e d = record {
   long = refl;
 }
 
-pub labels-start : {t : List ℕ} {start x : ℕ} (b : List ℕ) (to : ℕ) → start ≤ length t → Byte t start x → (x ≡ 34 → ⊥) → Labels t start b to start 0 b
+pub labels-start : {t : List ℕ} {start x : ℕ} (b : List ℕ) (to : ℕ) → start ≤ length t → Byte t start x → (x ≡ 34 → ⊥) → LabelsLoop t start b to start 0 b
 unfolding name? nameForm each
 labels-start {t} {start} b to h e d = record {
   l = [];
@@ -142,7 +142,7 @@ labels-start {t} {start} b to h e d = record {
   long = refl;
 }
 
-module _ {t : List ℕ} {start : ℕ} {b : List ℕ} {to at size : ℕ} {out : List ℕ} (w : Labels t start b to at size out) where
+module _ {t : List ℕ} {start : ℕ} {b : List ℕ} {to at size : ℕ} {out : List ℕ} (w : LabelsLoop t start b to at size out) where
   -- the octets of the labels, where they fit
   sized : size ≤ 254 → length (nameForm (w .l)) ≡ size + 1
   sized h = omega (arith, form-length (w .l), w .wrote h .place)
@@ -150,7 +150,7 @@ module _ {t : List ℕ} {start : ℕ} {b : List ℕ} {to at size : ℕ} {out : L
   small : T (name? (w .l)) → size ≤ 254
   small h = ⊎-elim (λ k. k) (λ k. absurd (w .over k h)) (le-or-lt size 254)
 
-  -- the quote behind them
+  -- the quote after them
   pub labels-end : {x y : ℕ} {b′ : List ℕ} {m : ℕ} → Byte t start x → (x ≡ 34 → ⊥) → Byte t at y → y ≡ 34 → Wrote out (to + size) (0 ∷ []) b′ m
       → LabelsAt t start b to (record { at = at + 1; found = true; size = size + 1 }) b′
   labels-end {x} {y} {b′} e d f g v = record {
@@ -204,7 +204,7 @@ module _ {t : List ℕ} {start : ℕ} {b : List ℕ} {to at size : ℕ} {out : L
       got : Got (label .parse (drop at t)) (Lettered out (to + size) (p .size) b′) (drop (p .at) t)
       got = tells-got (q .tells) (not-false _ g)
 
-      pub labels-more : {s : ℕ} → Grown size (p .size) s → Labels t start b to (p .at) s b′
+      pub labels-more : {s : ℕ} → Grown size (p .size) s → LabelsLoop t start b to (p .at) s b′
       labels-more {s} k = record {
         l = w .l ++ (a ∷ []);
         goes = going-more label 34 quoteless label-empty (w .goes) (got .is);

@@ -1,4 +1,4 @@
--- The option members: what each reader shows. Assumes nothing.
+-- The option members: what each reader shows.
 use mathlib.Core.Path.{_≡_, refl, sym, _∙_, ap, subst}
 use mathlib.Core.Logic.{⊎-elim}
 use mathlib.Core.Bool.{Bool, true, false, not, cond, _&&_, and-true, and-assoc}
@@ -8,7 +8,7 @@ use native.Mathlib.Omega.{arith}
 use borrow.Author.Tests.{lt-ltb, le-ltb, le-leb, lt-leb}
 use lib.Dec.{T, leb, ltb, ltb→lt}
 use lib.ListN.{length, take, drop}
-use Rattle.octets.specs.Lists.{ascii, all, each, word?, key?, textOf, paired, present?}
+use Rattle.octets.specs.Lists.{ascii, all, each, word?, key?, rowText, paired, present?}
 use Rattle.octets.specs.Bits.{and-left, and-right}
 use Rattle.octets.specs.Fields.{two}
 use Rattle.octets.specs.Parsed.{Parsed, stuck, held, strip-sound}
@@ -23,7 +23,7 @@ use Rattle.strict.specs.Members.{octetsOf, value?, optionOf, member?}
 use Rattle.strict.specs.OptionLaws.{key-word}
 use Rattle.strict.specs.Parser.{value, members-distinct, member-apart, knownMember, otherMember, member, optionMembers}
 use Rattle.tokens.specs.declared.Cursor.{Cursor}
-use Rattle.tokens.specs.Cursor.{Safe, Keeps, keeps-same, keeps-then, Passed, Came, Reads, stopped, reads-got, clash}
+use Rattle.tokens.specs.Cursor.{Safe, Keeps, keeps-same, keeps-then, Passed, Came, Finds, stopped, reads-got, clash}
 use Rattle.tokens.specs.Step.{Found, Put, Step, Held, Judged, found-as, found-at, found-from, found-by, found-lit, found-behind, found-pair, found-stuck, found-there, put-from, put-to, put-as, put-before, put-judged, put-nothing, put-last, all-last, judged-when, put-when, step-behind}
 use Rattle.tokens.specs.Choice.{Further, either-further, either-second}
 use Rattle.tokens.specs.Many.{le-or-lt}
@@ -40,7 +40,7 @@ use Rattle.tokens.specs.Place.{Byte}
 use Rattle.tokens.specs.Items.{part-of, item-of, Items, items-start, items-end, items-stop, items-far, items-more}
 use Rattle.reader.specs.Values.{run-octets, ValueStep}
 
--- ---- code and length in front of a value
+-- ---- code and length before a value
 -- they were written at `start`, where the value ends at `to`
 pub record Fronted (code start to : ℕ) (b b′ : List ℕ) (r : ℕ) : Type 0 where
   pub wrote : code < 65536 → start + 4 ≤ to → Wrote b start (two code ++ two (to - (start + 4))) b′ r
@@ -69,35 +69,35 @@ put-option {value = value} {c = c} {h = h} {r = r} {b₁ = b₁} {b₂ = b₂} {
 
 -- ---- a member of the table
 -- its name, in quotes, and the colon
-abbrev pub nameCodec : Codec (λ n. T (key? n members)) (λ n. ascii "\"" ++ (textOf n members ++ ascii "\":")) Any
+abbrev pub nameCodec : Codec (λ n. T (key? n members)) (λ n. ascii "\"" ++ (rowText n members ++ ascii "\":")) Any
 nameCodec = "\"" ▷ table members members-distinct ◁ "\":"
 
-pub record NameRead (t : List ℕ) (c : Cursor) (r : Row) : Type 0 where
+pub record MemberNameRead (t : List ℕ) (c : Cursor) (r : Row) : Type 0 where
   pub found : Found (nameCodec .parse) (λ n. r .key ≡ n) t c (r .cursor)
   pub keeps : Keeps t c (r .cursor)
 
-pub name-read : {t : List ℕ} {c r s : Cursor} {n : Row} → Passed (ascii "\"") t c r → RowRead (tried members) t r n → Passed (ascii "\":") t (n .cursor) s → NameRead t c (record { cursor = s; key = n .key })
+pub name-read : {t : List ℕ} {c r s : Cursor} {n : Row} → Passed (ascii "\"") t c r → RowRead (tried members) t r n → Passed (ascii "\":") t (n .cursor) s → MemberNameRead t c (record { cursor = s; key = n .key })
 name-read q x e = record { found = found-lit q (found-behind (x .found) e); keeps = keeps-then (q .keeps) (keeps-then (x .keeps) (e .keeps)) }
 
--- the value behind it
+-- the value after it
 abbrev pub KnownStep : ℕ → List ℕ → Cursor → List ℕ → Cursor → List ℕ → Type 0
 KnownStep code t c b r b′ = Step (value? (formOf code)) (λ v. optionForm (record { code = code; value = octetsOf (formOf code) v })) (value (formOf code) .parse) t c b r b′
 
 pub known-value : (code : ℕ) {t : List ℕ} {c h r : Cursor} {b b₁ b₂ : List ℕ} {e : ℕ} → code < 65536 → Held 4 c h → ValueStep (formOf code) t h b r b₁ → Fronted code (c .to) (r .to) b₁ b₂ e → KnownStep code t c b r b₂
 known-value code k x y f = found-from (x .at) (x .spelled) (found-as y λ v h. put-option code x h f (λ m. (refl, k)))
 
-module _ {t : List ℕ} {c : Cursor} {n : Row} (x : NameRead t c n) (g : n .cursor .spelled ≡ true) where
+module _ {t : List ℕ} {c : Cursor} {n : Row} (x : MemberNameRead t c n) (g : n .cursor .spelled ≡ true) where
   -- where a name was read, the text has it, and its code is a key of the table
-  named : (c .spelled ≡ true) × (T (key? (n .key) members) × (ascii "\"" ++ (textOf (n .key) members ++ ascii "\":") ++ drop (n .cursor .at) t ≡ drop (c .at) t))
+  named : (c .spelled ≡ true) × (T (key? (n .key) members) × (ascii "\"" ++ (rowText (n .key) members ++ ascii "\":") ++ drop (n .cursor .at) t ≡ drop (c .at) t))
   named = go (c .spelled) refl
     where
-      go : (b : Bool) → c .spelled ≡ b → (c .spelled ≡ true) × (T (key? (n .key) members) × (ascii "\"" ++ (textOf (n .key) members ++ ascii "\":") ++ drop (n .cursor .at) t ≡ drop (c .at) t))
+      go : (b : Bool) → c .spelled ≡ b → (c .spelled ≡ true) × (T (key? (n .key) members) × (ascii "\"" ++ (rowText (n .key) members ++ ascii "\":") ++ drop (n .cursor .at) t ≡ drop (c .at) t))
       go true e =
           let y = reads-got (found-there (x .found) e) g in
-          (e, subst (λ (m : ℕ). T (key? m members) × (ascii "\"" ++ (textOf m members ++ ascii "\":") ++ drop (n .cursor .at) t ≡ drop (c .at) t)) (sym (y .holds)) (exact nameCodec (drop (c .at) t) (y .value) (drop (n .cursor .at) t) (y .is)))
+          (e, subst (λ (m : ℕ). T (key? m members) × (ascii "\"" ++ (rowText m members ++ ascii "\":") ++ drop (n .cursor .at) t ≡ drop (c .at) t)) (sym (y .holds)) (exact nameCodec (drop (c .at) t) (y .value) (drop (n .cursor .at) t) (y .is)))
       go false e = absurd (no (rw e at (x .found .reads)))
         where
-          no : {w : List ℕ} → Reads t (λ m. n .key ≡ m) (n .cursor) (stuck w) → ⊥
+          no : {w : List ℕ} → Finds t (λ m. n .key ≡ m) (n .cursor) (stuck w) → ⊥
           no (stopped h) = clash h g
 
   pub name-word : n .key < 65536
@@ -129,10 +129,10 @@ module _ {t : List ℕ} {h : Span} {n : ℕ} where
   }
 
 -- the code, if it is a number of 16 bits
-abbrev pub codeOf : ℕ → ℕ
-codeOf n = cond (ltb n 65536) n 0
+abbrev pub optionCode : ℕ → ℕ
+optionCode n = cond (ltb n 65536) n 0
 
-code-of-word : (n k : ℕ) → n ≡ capped k → k < 65536 → codeOf n ≡ k
+code-of-word : (n k : ℕ) → n ≡ capped k → k < 65536 → optionCode n ≡ k
 code-of-word n k e h = rw (lt-ltb n 65536 (omega (arith, e))) (omega (arith, e))
 
 meant-word : (k : ℕ) (test : List ℕ → Bool) {wire : List ℕ → List ℕ} {c r : Cursor} {b b′ l : List ℕ} → Put (λ l. word? k && test l) wire c b r b′ l → T (r .meant) → k < 65536
@@ -143,7 +143,7 @@ abbrev pub OtherHex : ℕ → List ℕ → Cursor → List ℕ → Cursor → Li
 OtherHex n t c b r b′ = Found (hex .parse) (λ l. (k : ℕ) → n ≡ capped k → Put (λ l. word? k && not (present? (shape (formOf k) l))) (λ l. optionForm (record { code = k; value = l })) c b r b′ l) t c r
 
 pub other-hex : {n code : ℕ} {t : List ℕ} {c i v r : Cursor} {b b₁ b₂ : List ℕ} {h : Span} {ok : Bool} {e : ℕ} → HexRead t c h → Held 4 (h .cursor) i → Done (HexRun t h) (λ l. true) (λ l. l) i b v b₁
-    → OtherFits t h n ok → Judged ok v r → code ≡ codeOf n → Fronted code (h .cursor .to) (r .to) b₁ b₂ e → OtherHex n t c b r b₂
+    → OtherFits t h n ok → Judged ok v r → code ≡ optionCode n → Fronted code (h .cursor .to) (r .to) b₁ b₂ e → OtherHex n t c b r b₂
 other-hex {n} y x d f j z w = found-at (y .found) (j .at ∙ d .at ∙ x .at) (j .spelled ∙ d .spelled ∙ x .spelled) (omega (arith, j .to, d .room)) λ l u k m.
     let p = put-judged {ok′ = λ l. word? k && not (present? (shape (formOf k) l))} (d .put l u) j (f .fits k l m u) in
     put-from (y .keeps) (put-option k x p w λ g.
@@ -158,7 +158,7 @@ pub record OtherRead (t : List ℕ) (c : Cursor) (b : List ℕ) (r : Coded) (b�
   pub found : Found (otherMember .parse) (OtherOption t c b r b′) t c (r .cursor)
 
 pub other-read : {t : List ℕ} {c o e r : Cursor} {b b′ : List ℕ} {n : Amount} {code : ℕ} → Passed (ascii "\"OPT") t c o → NumberRead t o n → Passed (ascii "\":\"") t (n .cursor) e → OtherHex (n .value) t e b r b′
-    → code ≡ codeOf (n .value) → OtherRead t c b (record { cursor = r; code = code }) b′
+    → code ≡ optionCode (n .value) → OtherRead t c b (record { cursor = r; code = code }) b′
 unfolding otherMember member? optionOf
 other-read {n = n} q x e y z = record {
   found = found-as (found-pair (found-lit q (found-behind (x .found) e)) y) λ u h.
@@ -181,15 +181,15 @@ leftMember u = known (u .0) (u .1)
 abbrev rightMember : ℕ × List ℕ → Member
 rightMember u = other (u .0) (u .1)
 
-module _ {t : List ℕ} {c : Cursor} {n : Row} {b : List ℕ} (x : NameRead t c n) where
-  -- a name and the value behind it
+module _ {t : List ℕ} {c : Cursor} {n : Row} {b : List ℕ} (x : MemberNameRead t c n) where
+  -- a name and the value after it
   known-read : {r : Cursor} {b′ : List ℕ} → KnownStep (n .key) t (n .cursor) b r b′
       → Found (knownMember .parse) (λ u. (n .key ≡ u .0) × Put (value? (formOf (u .0))) (λ v. optionForm (record { code = u .0; value = octetsOf (formOf (u .0)) v })) c b r b′ (u .1)) t c r
   unfolding knownMember
   known-read {r} {b′} y = found-as (found-by (λ code. value (formOf code) .parse) (λ code. Put (value? (formOf code)) (λ v. optionForm (record { code = code; value = octetsOf (formOf code) v })) (n .cursor) b r b′) (n .key) (x .found) y)
       λ u h. (h .0, put-from (x .keeps) (h .1))
 
-  -- the name stands there, and so `OPT` does not
+  -- the name is there, and so `OPT` is not
   pub member-known : {r o z : Cursor} {b′ : List ℕ} → n .cursor .spelled ≡ true → KnownStep (n .key) t (n .cursor) b r b′ → Passed (ascii "\"OPT") t c o → Further (o .at) r z → MemberRead t c b (record { cursor = z; code = n .key }) b′
   unfolding member otherMember member? optionOf
   member-known {r} {o} {z} {b′} g y q f = record {
@@ -198,7 +198,7 @@ module _ {t : List ℕ} {c : Cursor} {n : Row} {b : List ℕ} (x : NameRead t c 
         (name-apart x g q) f λ u h. (put-as refl refl (h .1), λ m. h .0);
   }
 
-  -- no name stands there
+  -- no name is there
   pub member-other : {o : Coded} {z : Cursor} {b′ : List ℕ} → n .cursor .spelled ≡ false → OtherRead t c b o b′ → Further (n .cursor .at) (o .cursor) z → MemberRead t c b (record { cursor = z; code = o .code }) b′
   unfolding member knownMember member? optionOf
   member-other {o} {z} {b′} g y f = record {
@@ -208,7 +208,7 @@ module _ {t : List ℕ} {c : Cursor} {n : Row} {b : List ℕ} (x : NameRead t c 
   }
 
 -- ---- the members of an object, codes strictly rising
--- the lowest code that may come behind these members
+-- the lowest code that may come after these members
 abbrev pub least-of : ℕ → List Member → ℕ
 least-of k [] = k
 least-of k (m ∷ l) = least-of (optionOf m .code + 1) l

@@ -1,4 +1,4 @@
--- What the strict reader promises, and how it follows from a run that judges and a run that writes. Assumes nothing.
+-- What the strict reader promises, and how it follows from a run that judges and a run that writes.
 use mathlib.Core.Path.{_≡_, refl, sym, _∙_, ap, subst}
 use mathlib.Core.Bool.{Bool, true, false, not, _&&_}
 use mathlib.Core.Option.{none, some}
@@ -26,7 +26,7 @@ use Rattle.strict.specs.Meaning.{documentView, counts?, meaning}
 use Rattle.strict.specs.Parser.{document, parse}
 use Rattle.strict.specs.Reading.{meant, reading, toWire}
 use Rattle.tokens.specs.declared.Cursor.{Cursor}
-use Rattle.tokens.specs.Cursor.{Reads, reads-bad, reads-got, Got}
+use Rattle.tokens.specs.Cursor.{Finds, reads-bad, reads-got, Got}
 use Rattle.tokens.specs.Step.{found-there, Put, Step}
 use Rattle.reader.specs.Meant.{documentMeant?, documentOctets, document-meant, document-octets, headMeant?, sectionsMeant?}
 use Rattle.reader.specs.Whole.{start}
@@ -77,7 +77,7 @@ module _ (t b l : List ℕ) (z : length l ≡ 0) {c : Cursor} (x : Step document
     got : Got (document .parse t) (Put documentMeant? documentOctets start [] c l) (drop (c .at) t)
     got = reads-got (found-there x refl) (not-false (c .spelled) g)
 
-    -- octets are left behind it
+    -- octets are left after it
     pub read-left : c .at < length t → Gives (toWire t b) (Refused 20 0) (l ++ b)
     unfolding reading parse
     read-left h = refuses 20 (rw (got .is, drop-one t (c .at) h))
@@ -138,7 +138,7 @@ module _ (t b l : List ℕ) (z : length l ≡ 0) {c : Cursor} (x : Step document
                   let j : T (c′ .small) = subst T (sym (q .small i)) (subst T (got .holds .small holds) small) in
                   q .wrote i j
 
-              good : (v : Bool) → c′ .spelled ≡ v → Reads t (Put documentMeant? documentOctets start b c′ b′) c′ (document .parse t) → Wrote b 0 (documentOctets (got .value)) b′ (c′ .to)
+              good : (v : Bool) → c′ .spelled ≡ v → Finds t (Put documentMeant? documentOctets start b c′ b′) c′ (document .parse t) → Wrote b 0 (documentOctets (got .value)) b′ (c′ .to)
               good true e r = let o = reads-got r e in same (o .value) (took-value (sym (o .is) ∙ got .is)) (o .holds)
               good false e r = absurd (took≢stuck (sym (got .is) ∙ reads-bad r e))
 

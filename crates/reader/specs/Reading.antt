@@ -1,4 +1,4 @@
--- How questions, records and elements are read, judged and written. Assumes nothing.
+-- How questions, records and elements are read, judged and written.
 use mathlib.Core.Path.{_≡_, refl, sym, _∙_, ap, subst}
 use mathlib.Core.Bool.{Bool, true, false, not, cond, _&&_, and-true, and-assoc}
 use mathlib.Core.Option.{none}
@@ -16,7 +16,7 @@ use Rattle.octets.specs.Codec.{_▷_, _⊗_, _◁_}
 use Rattle.octets.specs.Decimal.{natural, number, till}
 use Rattle.octets.specs.Hexadecimal.{hex}
 use Rattle.names.specs.Name.{Name, name?, nameForm}
-use Rattle.records.specs.Layout.{layouts, layoutOf, rdataAt, fits?}
+use Rattle.records.specs.Layout.{layouts, layoutOf, rdataAt, rdataFits?}
 use Rattle.records.specs.Pieces.{layout-beyond}
 use Rattle.records.specs.Message.{record?, question?, questionForm, recordForm, opt?}
 use Rattle.spelling.specs.Spelling.{Signed}
@@ -24,7 +24,7 @@ use Rattle.edns.specs.Element.{showsEdns, shows-edns}
 use Rattle.json.specs.Document.{RecordItem}
 use Rattle.strict.specs.Grammar.{SignedNumber}
 use Rattle.strict.specs.Spelt.{name, signedNumber}
-use Rattle.strict.specs.Parser.{question, entry}
+use Rattle.strict.specs.Parser.{questionCodec, recordCodec}
 use Rattle.strict.specs.Meaning.{itemRecord, ttl?, unsigned}
 use Rattle.strict.specs.MeaningLaws.{unsigned-back}
 use Rattle.tokens.specs.declared.Cursor.{Cursor}
@@ -34,7 +34,7 @@ use Rattle.tokens.specs.declared.Ttl.{Ttl}
 use Rattle.tokens.specs.Cursor.{Passed}
 use Rattle.tokens.specs.Step.{Found, found-as, found-sound, found-lit, found-map, found-behind, found-pair, found-at, Put, put-then, put-from, put-to, put-as, put-nothing, put-judged, put-emit, Step, step-lit, step-pair, step-behind, step-on, Judged, Emits}
 use Rattle.tokens.specs.Number.{capped, capped-is, NumberRead}
-use Rattle.tokens.specs.Signed.{Kept, SignedRead}
+use Rattle.tokens.specs.Signed.{TtlKept, SignedRead}
 use Rattle.tokens.specs.Hex.{HexRun, HexRead}
 use Rattle.tokens.specs.Fields.{Done}
 use Rattle.reader.specs.Name.{NameRead}
@@ -52,8 +52,8 @@ word-read x w = found-at (x .found) (w .at) (w .spelled) (w .room) λ m e. (put-
 -- ---- questions
 pub question-read : {t b b₁ b₂ b₃ : List ℕ} {c d e f g r : Cursor} {k l : Amount}
     → Passed (ascii "{\"NAME\":\"") t c d → NameRead t d b e b₁ → Passed (ascii ",\"TYPE\":") t e f → WordRead t f b₁ k b₂ → Passed (ascii ",\"CLASS\":") t (k .cursor) g
-    → WordRead t g b₂ l b₃ → Passed (ascii "}") t (l .cursor) r → Step question? questionForm (question .parse) t c b r b₃
-unfolding question question? questionForm
+    → WordRead t g b₂ l b₃ → Passed (ascii "}") t (l .cursor) r → Step question? questionForm (questionCodec .parse) t c b r b₃
+unfolding questionCodec question? questionForm
 question-read p n q k s l z =
     step-on {ok = λ u. name? (u .0) && (word? (u .1 .0) && word? (u .1 .1))} {wire = λ u. nameForm (u .0) ++ (two (u .1 .0) ++ two (u .1 .1))}
     (λ (n, (t, c)). record { name = n; type = t; class = c })
@@ -62,45 +62,45 @@ question-read p n q k s l z =
 
 -- ---- RDATA
 -- the TYPE as the code judges it
-abbrev pub kindOf : ℕ → ℕ
-kindOf value = cond (ltb 65535 value) 0 value
+abbrev pub typeOr0 : ℕ → ℕ
+typeOr0 value = cond (ltb 65535 value) 0 value
 
 pub record RdataRead (kind : ℕ) (t : List ℕ) (c : Cursor) (b : List ℕ) (r : Span) (b′ : List ℕ) : Type 0 where
-  pub found : Found (hex .parse) (λ l. ((n : ℕ) → kind ≡ capped n → Put (fits? n) (λ l. two (length l) ++ l) c b (r .cursor) b′ l) × HexRun t r l) t c (r .cursor)
+  pub found : Found (hex .parse) (λ l. ((n : ℕ) → kind ≡ capped n → Put (rdataFits? n) (λ l. two (length l) ++ l) c b (r .cursor) b′ l) × HexRun t r l) t c (r .cursor)
   pub so-far : List ℕ
   pub run : HexRun t r so-far
   pub still : T (r .cursor .meant) → T (c .meant)
 
-pub kind-over : {v : ℕ} → 65535 < v → 0 ≡ kindOf v
+pub kind-over : {v : ℕ} → 65535 < v → 0 ≡ typeOr0 v
 kind-over {v} h = rw (lt-ltb 65535 v h)
 
-pub kind-in : {v : ℕ} → v ≤ 65535 → v ≡ kindOf v
+pub kind-in : {v : ℕ} → v ≤ 65535 → v ≡ typeOr0 v
 kind-in {v} h = rw (le-ltb 65535 v h)
 
 -- a TYPE that is out of range is not listed, so any RDATA fits
 unlisted : (n : ℕ) → 65535 < n → layoutOf n ≡ none
 unlisted n h = layout-beyond n (omega arith)
 
-fits-same : (n m : ℕ) (l : List ℕ) → layoutOf n ≡ layoutOf m → fits? n l ≡ fits? m l
-unfolding fits? rdataAt
+fits-same : (n m : ℕ) (l : List ℕ) → layoutOf n ≡ layoutOf m → rdataFits? n l ≡ rdataFits? m l
+unfolding rdataFits? rdataAt
 fits-same n m l e = rw e
 
 zero-unlisted : layoutOf 0 ≡ none
 unfolding layoutOf layouts lookup
 zero-unlisted = refl
 
-pub kind-fits : (n : ℕ) (l : List ℕ) → fits? (kindOf (capped n)) l ≡ fits? n l
+pub kind-fits : (n : ℕ) (l : List ℕ) → rdataFits? (typeOr0 (capped n)) l ≡ rdataFits? n l
 kind-fits n l = go (ltb 65535 (capped n)) refl
   where
-    go : (b : Bool) → ltb 65535 (capped n) ≡ b → fits? (cond b 0 (capped n)) l ≡ fits? n l
+    go : (b : Bool) → ltb 65535 (capped n) ≡ b → rdataFits? (cond b 0 (capped n)) l ≡ rdataFits? n l
     go true e = fits-same 0 n l (zero-unlisted ∙ sym (unlisted n (omega (arith, ltb→lt 65535 (capped n) (subst T (sym e) tt)))))
-    go false e = let k : capped n ≡ n = omega (arith, nltb→le 65535 (capped n) (subst (λ b. T (not b)) (sym e) tt)) in ap (λ m. fits? m l) k
+    go false e = let k : capped n ≡ n = omega (arith, nltb→le 65535 (capped n) (subst (λ b. T (not b)) (sym e) tt)) in ap (λ m. rdataFits? m l) k
 
 -- the same digits, with the cursor elsewhere
 run-at : {t l : List ℕ} {s : Span} (r : Cursor) → HexRun t s l → HexRun t (record { cursor = r; from = s .from; end = s .end }) l
 run-at r h = record { digits = h .digits; octets = h .octets; ordered = h .ordered; within = h .within; long = h .long }
 
-pub rdata-read : {kind f n : ℕ} {t b b₁ b₂ h : List ℕ} {c d e r : Cursor} {s : Span} {ok : Bool} → HexRead t c s → h ≡ take (s .end - s .from) (drop (s .from) t) → f ≡ kindOf kind → ok ≡ fits? f (paired h)
+pub rdata-read : {kind f n : ℕ} {t b b₁ b₂ h : List ℕ} {c d e r : Cursor} {s : Span} {ok : Bool} → HexRead t c s → h ≡ take (s .end - s .from) (drop (s .from) t) → f ≡ typeOr0 kind → ok ≡ rdataFits? f (paired h)
     → Judged ok (s .cursor) d → n ≡ sizeOf s → Emits ((n / 256 % 256) ∷ (n % 256) ∷ []) d b e b₁ → Done (HexRun t s) (λ l. true) (λ l. l) e b₁ r b₂
     → RdataRead kind t c b (record { cursor = r; from = s .from; end = s .end }) b₂
 rdata-read {kind} {f} {n} {t} {b} {b₁} {b₂} {h} {c} {d} {e} {r} {s} {ok} x g k o j i y z = record {
@@ -110,7 +110,7 @@ rdata-read {kind} {f} {n} {t} {b} {b₁} {b₂} {h} {c} {d} {e} {r} {s} {ok} x g
   still = λ m. subst T (x .keeps .meant) (and-left (s .cursor .meant) ok (subst T (y .meant ∙ j .meant) (and-left (e .meant) true (subst T (z .put (x .so-far) (x .run) .meant) m))));
 }
   where
-    told : (l : List ℕ) → HexRun t s l → ((m : ℕ) → kind ≡ capped m → Put (fits? m) (λ l. two (length l) ++ l) c b r b₂ l) × HexRun t (record { cursor = r; from = s .from; end = s .end }) l
+    told : (l : List ℕ) → HexRun t s l → ((m : ℕ) → kind ≡ capped m → Put (rdataFits? m) (λ l. two (length l) ++ l) c b r b₂ l) × HexRun t (record { cursor = r; from = s .from; end = s .end }) l
     told l v = (put, run-at r v)
       where
         octets : paired h ≡ l
@@ -119,11 +119,11 @@ rdata-read {kind} {f} {n} {t} {b} {b₁} {b₂} {h} {c} {d} {e} {r} {s} {ok} x g
         size : n ≡ length l
         size = omega (arith, i, v .long)
 
-        judged : (m : ℕ) → kind ≡ capped m → ok ≡ fits? m l
+        judged : (m : ℕ) → kind ≡ capped m → ok ≡ rdataFits? m l
         judged m q = o ∙ rw (k, octets, q) (kind-fits m l)
 
-        put : (m : ℕ) → kind ≡ capped m → Put (fits? m) (λ l. two (length l) ++ l) c b r b₂ l
-        put m q = put-as (sym (and-true (fits? m l))) (rw (← size)) (put-then (put-emit {wire = λ l. []} (put-judged {wire = λ l. []} {ok = λ l. true} {ok′ = fits? m} (put-nothing b {a = l} (x .keeps) refl refl) j (sym (judged m q))) y) (z .put l v))
+        put : (m : ℕ) → kind ≡ capped m → Put (rdataFits? m) (λ l. two (length l) ++ l) c b r b₂ l
+        put m q = put-as (sym (and-true (rdataFits? m l))) (rw (← size)) (put-then (put-emit {wire = λ l. []} (put-judged {wire = λ l. []} {ok = λ l. true} {ok′ = rdataFits? m} (put-nothing b {a = l} (x .keeps) refl refl) j (sym (judged m q))) y) (z .put l v))
 
 -- ---- records
 abbrev pub tailParse : List ℕ → Parsed (Signed × List ℕ)
@@ -131,7 +131,7 @@ tailParse = (till ",\"RDATAHEX\":\"" tt signedNumber ⊗ hex ◁ "}") .parse
 
 -- TTL and RDATA were read, of a record of a TYPE whose owner is the root or not
 pub record Tail (kind : ℕ) (root : Bool) (rcode : ℕ) (c : Cursor) (b : List ℕ) (r : Entry) (b′ : List ℕ) (u : Signed × List ℕ) : Type 0 where
-  pub put : (n : ℕ) → kind ≡ capped n → Put (λ u. ttl? (u .0) && fits? n (u .1)) (λ u. four (unsigned (u .0)) ++ (two (length (u .1)) ++ u .1)) c b (r .cursor) b′ u
+  pub put : (n : ℕ) → kind ≡ capped n → Put (λ u. ttl? (u .0) && rdataFits? n (u .1)) (λ u. four (unsigned (u .0)) ++ (two (length (u .1)) ++ u .1)) c b (r .cursor) b′ u
   pub signed : SignedNumber (u .0)
   pub octets : Octets (u .1)
   pub opt : r .opt ≡ eqb kind 41
@@ -141,28 +141,28 @@ pub record Tail (kind : ℕ) (root : Bool) (rcode : ℕ) (c : Cursor) (b : List 
 abbrev pub TailRead : ℕ → Bool → ℕ → List ℕ → Cursor → List ℕ → Entry → List ℕ → Type 0
 TailRead kind root rcode t c b r b′ = Found tailParse (Tail kind root rcode c b r b′) t c (r .cursor)
 
--- whether the RDATA of a span, of a record of this TYPE, shows as an EDNS element
-pub record Shows (kind : ℕ) (root : Bool) (bits rcode : ℕ) (t : List ℕ) (s : Span) (r : Bool) : Type 0 where
+-- whether the RDATA of a span, of a record of this TYPE, is an EDNS element
+pub record CouldBeElement (kind : ℕ) (root : Bool) (bits rcode : ℕ) (t : List ℕ) (s : Span) (r : Bool) : Type 0 where
   pub shows : r ≡ (eqb kind 41 && showsEdns root bits rcode (paired (take (s .end - s .from) (drop (s .from) t))))
 
-pub shows-not : {kind bits rcode : ℕ} {root : Bool} {t : List ℕ} {s : Span} → (kind ≡ 41 → ⊥) → Shows kind root bits rcode t s false
+pub shows-not : {kind bits rcode : ℕ} {root : Bool} {t : List ℕ} {s : Span} → (kind ≡ 41 → ⊥) → CouldBeElement kind root bits rcode t s false
 shows-not {kind} h = record { shows = rw (ne-eqb kind 41 h) }
 
-pub shows-edns-of : {kind bits rcode : ℕ} {root r : Bool} {t : List ℕ} {s : Span} → kind ≡ 41 → r ≡ showsEdns root bits rcode (paired (take (s .end - s .from) (drop (s .from) t))) → Shows kind root bits rcode t s r
+pub shows-edns-of : {kind bits rcode : ℕ} {root r : Bool} {t : List ℕ} {s : Span} → kind ≡ 41 → r ≡ showsEdns root bits rcode (paired (take (s .end - s .from) (drop (s .from) t))) → CouldBeElement kind root bits rcode t s r
 shows-edns-of {kind} e f = record { shows = f ∙ rw (eq-eqb kind 41 e) }
 
 pub tail-read : {kind rcode : ℕ} {root h : Bool} {t b b₁ b₂ : List ℕ} {c d e r : Cursor} {v : Ttl} {s : Span}
-    → SignedRead t c v → Done (Kept (v .fits) (v .bits)) ttl? (λ s. four (unsigned s)) (v .cursor) b d b₁ → Passed (ascii ",\"RDATAHEX\":\"") t d e → RdataRead kind t e b₁ s b₂
-    → Passed (ascii "}") t (s .cursor) r → Shows kind root (v .bits) rcode t s h
+    → SignedRead t c v → Done (TtlKept (v .fits) (v .bits)) ttl? (λ s. four (unsigned s)) (v .cursor) b d b₁ → Passed (ascii ",\"RDATAHEX\":\"") t d e → RdataRead kind t e b₁ s b₂
+    → Passed (ascii "}") t (s .cursor) r → CouldBeElement kind root (v .bits) rcode t s h
     → TailRead kind root rcode t c b (record { cursor = r; opt = eqb kind 41; shown = false; hidden = h }) b₂
 tail-read {kind} {rcode} {root} {h} {t} {b} {b₁} {b₂} {c} {d} {e} {r} {v} {s} x w q y z g =
     found-as (found-pair (found-behind (found-sound signedNumber ttl) q) (found-behind (y .found) z)) told
   where
-    ttl : Found (signedNumber .parse) (λ a. Put ttl? (λ s. four (unsigned s)) c b d b₁ a × Kept (v .fits) (v .bits) a) t c d
+    ttl : Found (signedNumber .parse) (λ a. Put ttl? (λ s. four (unsigned s)) c b d b₁ a × TtlKept (v .fits) (v .bits) a) t c d
     ttl = found-at (x .found) (w .at) (w .spelled) (w .room) λ a k. (put-from (x .keeps) (w .put a k), k)
 
-    told : (u : Signed × List ℕ) → (SignedNumber (u .0) × (Put ttl? (λ s. four (unsigned s)) c b d b₁ (u .0) × Kept (v .fits) (v .bits) (u .0)))
-        × (((n : ℕ) → kind ≡ capped n → Put (fits? n) (λ l. two (length l) ++ l) e b₁ (s .cursor) b₂ (u .1)) × HexRun t s (u .1))
+    told : (u : Signed × List ℕ) → (SignedNumber (u .0) × (Put ttl? (λ s. four (unsigned s)) c b d b₁ (u .0) × TtlKept (v .fits) (v .bits) (u .0)))
+        × (((n : ℕ) → kind ≡ capped n → Put (rdataFits? n) (λ l. two (length l) ++ l) e b₁ (s .cursor) b₂ (u .1)) × HexRun t s (u .1))
         → Tail kind root rcode c b (record { cursor = r; opt = eqb kind 41; shown = false; hidden = h }) b₂ u
     told u k = record {
       put = all;
@@ -173,7 +173,7 @@ tail-read {kind} {rcode} {root} {h} {t} {b} {b₁} {b₂} {c} {d} {e} {r} {v} {s
       hidden = λ m. g .shows ∙ rw (run-octets (k .1 .1), k .0 .1 .1 .1 (in-range m));
     }
       where
-        all : (n : ℕ) → kind ≡ capped n → Put (λ u. ttl? (u .0) && fits? n (u .1)) (λ u. four (unsigned (u .0)) ++ (two (length (u .1)) ++ u .1)) c b r b₂ u
+        all : (n : ℕ) → kind ≡ capped n → Put (λ u. ttl? (u .0) && rdataFits? n (u .1)) (λ u. four (unsigned (u .0)) ++ (two (length (u .1)) ++ u .1)) c b r b₂ u
         all n i = put-then (k .0 .1 .0) (put-to (put-from (q .keeps) (k .1 .0 n i)) (z .keeps))
 
         in-range : T (r .meant) → T (v .fits)
@@ -194,8 +194,8 @@ fieldsParse = (name ⊗ ",\"TYPE\":" ▷ till ",\"CLASS\":" tt number ⊗ till "
 unfoldable pub recordRest : List ℕ → Parsed RecordItem
 recordRest w = and-then (fieldsParse w) λ u r. took (recordFrom u) r
 
-pub entry-parse : (w : List ℕ) → entry .parse w ≡ and-then (strip (ascii "{\"NAME\":\"") w) (λ u r. recordRest r)
-unfolding entry recordRest
+pub entry-parse : (w : List ℕ) → recordCodec .parse w ≡ and-then (strip (ascii "{\"NAME\":\"") w) (λ u r. recordRest r)
+unfolding recordCodec recordRest
 entry-parse w = go (strip (ascii "{\"NAME\":\"") w)
   where
     go : (o : Parsed (Unit {0})) → and-then (and-then (and-then o (λ u r. name .parse r))
@@ -204,7 +204,7 @@ entry-parse w = go (strip (ascii "{\"NAME\":\"") w)
     go (took u r) = refl
     go (stuck r) = refl
 
--- what is told of an entry
+-- what is reported of an entry
 pub record Facts {A : Type 0} (ok : A → Bool) (wire : A → List ℕ) (opt shown hides : A → Bool) (c : Cursor) (b : List ℕ) (r : Entry) (b′ : List ℕ) (a : A) : Type 0 where
   pub put : Put ok wire c b (r .cursor) b′ a
   pub is-opt : r .opt ≡ opt a
@@ -219,10 +219,10 @@ RecordRead rcode t c b r b′ = Found recordRest (RecordFacts rcode c b r b′) 
 
 -- a record in the grammar, judged part by part
 record-judged : (u : Fields) → SignedNumber (u .1 .1 .1 .0) → Octets (u .1 .1 .1 .1)
-    → recordMeant? (recordFrom u) ≡ (name? (u .0) && (word? (u .1 .0) && (word? (u .1 .1 .0) && (ttl? (u .1 .1 .1 .0) && fits? (u .1 .0) (u .1 .1 .1 .1)))))
+    → recordMeant? (recordFrom u) ≡ (name? (u .0) && (word? (u .1 .0) && (word? (u .1 .1 .0) && (ttl? (u .1 .1 .1 .0) && rdataFits? (u .1 .0) (u .1 .1 .1 .1)))))
 unfolding recordMeant? record? itemRecord
 record-judged (n, (t, (c, (s, l)))) i o =
-    rw (is-true (all octet? l) (octets-test l o)) (go (name? n) (word? t) (word? c) (ttl? s) (fits? t l) (λ h. is-true (long? (unsigned s)) (lt→ltb (unsigned s) 4294967296 (unsigned-back s i h .1))))
+    rw (is-true (all octet? l) (octets-test l o)) (go (name? n) (word? t) (word? c) (ttl? s) (rdataFits? t l) (λ h. is-true (long? (unsigned s)) (lt→ltb (unsigned s) 4294967296 (unsigned-back s i h .1))))
   where
     go : (a b c d e : Bool) → (T d → long? (unsigned s) ≡ true) → d && (a && b && c && long? (unsigned s) && true && e) ≡ (a && (b && (c && (d && e))))
     go a b c true e h = rw (h tt) (all a b c)
@@ -270,6 +270,6 @@ record-read {rcode} {root} {t} {b} {b₁} {b₂} {b₃} {b₄} {c} {d} {f} {g} {
       is-hidden = λ m. v .1 .1 .1 .hidden m ∙ hides u (v .0 .1 ∙ sym (two-behind (c .at) (d .at) (n .moves .onward)) ∙ sym e) (v .1 .0 .1);
     }
       where
-        all : Put {A = Fields} (λ u. name? (u .0) && (word? (u .1 .0) && (word? (u .1 .1 .0) && (ttl? (u .1 .1 .1 .0) && fits? (u .1 .0) (u .1 .1 .1 .1)))))
+        all : Put {A = Fields} (λ u. name? (u .0) && (word? (u .1 .0) && (word? (u .1 .1 .0) && (ttl? (u .1 .1 .1 .0) && rdataFits? (u .1 .0) (u .1 .1 .1 .1)))))
             (λ u. nameForm (u .0) ++ (two (u .1 .0) ++ (two (u .1 .1 .0) ++ (four (unsigned (u .1 .1 .1 .0)) ++ (two (length (u .1 .1 .1 .1)) ++ u .1 .1 .1 .1))))) c b (r .cursor) b₄ u
         all = put-as refl refl (put-then (v .0 .0) (put-then (put-to (put-from (p .keeps) (v .1 .0 .0)) (q .keeps)) (put-then (put-to (v .1 .1 .0 .0) (s .keeps)) (v .1 .1 .1 .put (u .1 .0) (v .1 .0 .1)))))

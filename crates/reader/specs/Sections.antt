@@ -1,4 +1,4 @@
--- Arrays of entries: how a loop reads them, and what it tells of them. Assumes nothing.
+-- Arrays of entries: how a loop reads them, and what it reports of them.
 use mathlib.Core.Path.{_≡_, refl, sym, _∙_, ap, subst}
 use mathlib.Core.Bool.{Bool, true, false, not, cond, _||_, or-false, or-assoc}
 use mathlib.Core.List.{List, [], _∷_, _++_}
@@ -14,7 +14,7 @@ use Rattle.octets.specs.Codec.{Any, Codec, Avoids, fronts}
 use Rattle.records.specs.Message.{Question, question?, questionForm, opt?}
 use Rattle.json.specs.Document.{RecordItem, Item, questionText, recordText, itemText}
 use Rattle.strict.specs.Grammar.{QuestionIn, RecordIn, ItemIn}
-use Rattle.strict.specs.Parser.{question, entry, itemCodec, question-avoids, entry-avoids, item-avoids}
+use Rattle.strict.specs.Parser.{questionCodec, recordCodec, itemCodec, question-avoids, entry-avoids, item-avoids}
 use Rattle.strict.specs.Meaning.{itemRecord}
 use Rattle.tokens.specs.declared.Cursor.{Cursor}
 use Rattle.tokens.specs.Cursor.{Safe, keeps-same, Passed, Came}
@@ -41,31 +41,31 @@ In Questions = QuestionIn
 In Records = RecordIn
 In Additionals = ItemIn
 
-abbrev pub textOf : (e : Element) → Thing e → List ℕ
-textOf Questions = questionText
-textOf Records = recordText
-textOf Additionals = itemText
+abbrev pub thingText : (e : Element) → Thing e → List ℕ
+thingText Questions = questionText
+thingText Records = recordText
+thingText Additionals = itemText
 
-abbrev pub codecOf : (e : Element) → Codec (In e) (textOf e) Any
-codecOf Questions = question
-codecOf Records = entry
+abbrev pub codecOf : (e : Element) → Codec (In e) (thingText e) Any
+codecOf Questions = questionCodec
+codecOf Records = recordCodec
 codecOf Additionals = itemCodec
 
--- what is judged and written of an entry, and what is told of it
+-- what is judged and written of an entry, and what is reported of it
 abbrev pub meantOf : ℕ → (e : Element) → Thing e → Bool
 meantOf rcode Questions = question?
 meantOf rcode Records = recordMeant?
 meantOf rcode Additionals = itemMeant? rcode
 
-abbrev pub octetsOf : (e : Element) → Thing e → List ℕ
-octetsOf Questions = questionForm
-octetsOf Records = recordOctets
-octetsOf Additionals = itemOctets
+abbrev pub thingForm : (e : Element) → Thing e → List ℕ
+thingForm Questions = questionForm
+thingForm Records = recordOctets
+thingForm Additionals = itemOctets
 
-abbrev pub optOf : (e : Element) → Thing e → Bool
-optOf Questions q = false
-optOf Records r = opt? (itemRecord r)
-optOf Additionals i = itemOpt? i
+abbrev pub thingOpt : (e : Element) → Thing e → Bool
+thingOpt Questions q = false
+thingOpt Records r = opt? (itemRecord r)
+thingOpt Additionals i = itemOpt? i
 
 abbrev pub shownOf : (e : Element) → Thing e → Bool
 shownOf Questions q = false
@@ -78,7 +78,7 @@ hidesOf rcode Records r = hides? rcode r
 hidesOf rcode Additionals i = itemHides? rcode i
 
 abbrev pub OneFacts : (e : Element) → ℕ → Cursor → List ℕ → Entry → List ℕ → Thing e → Type 0
-OneFacts e rcode = Facts (meantOf rcode e) (octetsOf e) (optOf e) (shownOf e) (hidesOf rcode e)
+OneFacts e rcode = Facts (meantOf rcode e) (thingForm e) (thingOpt e) (shownOf e) (hidesOf rcode e)
 
 abbrev pub OneRead : Element → ℕ → List ℕ → Cursor → List ℕ → Entry → List ℕ → Type 0
 OneRead e rcode t c b r b′ = Found (codecOf e .parse) (OneFacts e rcode c b r b′) t c (r .cursor)
@@ -90,11 +90,11 @@ AskedRead = OneRead Questions 0
 abbrev pub TitledRead : ℕ → List ℕ → Cursor → List ℕ → Entry → List ℕ → Type 0
 TitledRead = OneRead Records
 
-pub asked-read : {t b b′ : List ℕ} {c r : Cursor} → Step question? questionForm (question .parse) t c b r b′ → AskedRead t c b (record { cursor = r; opt = false; shown = false; hidden = false }) b′
+pub asked-read : {t b b′ : List ℕ} {c r : Cursor} → Step question? questionForm (questionCodec .parse) t c b r b′ → AskedRead t c b (record { cursor = r; opt = false; shown = false; hidden = false }) b′
 asked-read x = found-as x λ a h. record { put = h; is-opt = refl; is-shown = refl; is-hidden = λ k. refl }
 
 pub titled-read : (rcode : ℕ) {t b b′ : List ℕ} {c d : Cursor} {r : Entry} → Passed (ascii "{\"NAME\":\"") t c d → RecordRead rcode t d b r b′ → TitledRead rcode t c b r b′
-titled-read rcode q x = found-same (entry .parse) (λ g. sym (entry-parse _)) (found-lit q (found-as x λ a h. record { put = put-from (q .keeps) (h .put); is-opt = h .is-opt; is-shown = h .is-shown; is-hidden = h .is-hidden }))
+titled-read rcode q x = found-same (recordCodec .parse) (λ g. sym (entry-parse _)) (found-lit q (found-as x λ a h. record { put = put-from (q .keeps) (h .put); is-opt = h .is-opt; is-shown = h .is-shown; is-hidden = h .is-hidden }))
 
 pub one-asked : {e : Element} (rcode : ℕ) {t b b′ : List ℕ} {c : Cursor} {r : Entry} → e ≡ Questions → AskedRead t c b r b′ → OneRead e rcode t c b r b′
 one-asked rcode {t} {b} {b′} {c} {r} h x = subst (λ e. OneRead e rcode t c b r b′) (sym h) x
@@ -113,24 +113,24 @@ pub next-read : (e : Element) (first : Bool) (rcode : ℕ) {t b b′ : List ℕ}
 next-read e first rcode q x = found-lit q (found-as x λ a h. record { put = put-from (q .keeps) (h .put); is-opt = h .is-opt; is-shown = h .is-shown; is-hidden = h .is-hidden })
 
 -- ---- counting
--- 65,536 stands for every number above
-abbrev pub limited : ℕ → ℕ
-limited n = min n 65536
+-- 65,536 counts for every number above
+abbrev pub atMost65536 : ℕ → ℕ
+atMost65536 n = min n 65536
 
 abbrev pub bit : Bool → ℕ
 bit b = cond b 1 0
 
-pub tally-none : {n : ℕ} (more : Bool) → n ≤ 65536 → not more ≡ true → n ≡ limited (n + bit more)
+pub tally-none : {n : ℕ} (more : Bool) → n ≤ 65536 → not more ≡ true → n ≡ atMost65536 (n + bit more)
 tally-none more h e = rw (not-true more e) (omega arith)
 
-pub tally-full : {n : ℕ} (more : Bool) → n ≤ 65536 → 65535 < n → n ≡ limited (n + bit more)
+pub tally-full : {n : ℕ} (more : Bool) → n ≤ 65536 → 65535 < n → n ≡ atMost65536 (n + bit more)
 tally-full {n} more h k = go more
   where
-    go : (b : Bool) → n ≡ limited (n + bit b)
+    go : (b : Bool) → n ≡ atMost65536 (n + bit b)
     go true = omega arith
     go false = omega arith
 
-pub tally-more : {n : ℕ} (more : Bool) → not more ≡ false → n ≤ 65535 → n + 1 ≡ limited (n + bit more)
+pub tally-more : {n : ℕ} (more : Bool) → not more ≡ false → n ≤ 65535 → n + 1 ≡ atMost65536 (n + bit more)
 tally-more more e h = rw (not-false more e) (omega arith)
 
 count-snoc : {A : Type 0} (p : A → Bool) (l : List A) (a : A) → count p (l ++ (a ∷ [])) ≡ count p l + bit (p a)
@@ -156,11 +156,11 @@ insideParse e = part-of (codecOf e) 93 true
 abbrev pub arrayParse : (e : Element) → List ℕ → Parsed (List (Thing e))
 arrayParse e w = and-then (strip (91 ∷ []) w) λ u r. insideParse e r
 
--- what is told of its entries
+-- what is reported of its entries
 pub record SectionFacts (e : Element) (rcode : ℕ) (c : Cursor) (b : List ℕ) (r : Section) (b′ : List ℕ) (l : List (Thing e)) : Type 0 where
-  pub put : Put (all (meantOf rcode e)) (each (octetsOf e)) c b (r .cursor) b′ l
-  pub counted : r .count ≡ limited (length l)
-  pub opts : r .opts ≡ limited (count (optOf e) l)
+  pub put : Put (all (meantOf rcode e)) (each (thingForm e)) c b (r .cursor) b′ l
+  pub counted : r .count ≡ atMost65536 (length l)
+  pub opts : r .opts ≡ atMost65536 (count (thingOpt e) l)
   pub shown : r .shown ≡ any (shownOf e) l
   pub hidden : T (r .cursor .meant) → r .hidden ≡ any (hidesOf rcode e) l
 
@@ -170,7 +170,7 @@ InsideRead e rcode t c b r b′ = Found (insideParse e) (SectionFacts e rcode c 
 abbrev pub SectionRead : Element → ℕ → List ℕ → Cursor → List ℕ → Section → List ℕ → Type 0
 SectionRead e rcode t c b r b′ = Found (arrayParse e) (SectionFacts e rcode c b r b′) t c (r .cursor)
 
--- the loop: entries were read from c to d and told of
+-- the loop: entries were read from c to d and counted
 pub record Gathered (e : Element) (rcode : ℕ) (t : List ℕ) (c : Cursor) (b : List ℕ) (d : Cursor) (first : Bool) (n o : ℕ) (s h : Bool) (b′ : List ℕ) : Type 0 where
   pub items : Items (codecOf e) 93 (SectionFacts e rcode c b (record { cursor = d; count = n; opts = o; shown = s; hidden = h }) b′) t c true d first
   pub few : n ≤ 65536
@@ -178,12 +178,12 @@ pub record Gathered (e : Element) (rcode : ℕ) (t : List ℕ) (c : Cursor) (b :
   pub long : length b′ ≡ length b
 
 -- no entry begins with the bracket, nor does a comma
-avoids : (e : Element) → Avoids (In e) (textOf e) 93
+avoids : (e : Element) → Avoids (In e) (thingText e) 93
 avoids Questions = question-avoids
 avoids Records = entry-avoids
 avoids Additionals = item-avoids
 
-apart : (e : Element) → Avoids (In e) (λ a. 44 ∷ textOf e a) 93
+apart : (e : Element) → Avoids (In e) (λ a. 44 ∷ thingText e a) 93
 apart e a r s h q = fronts tt q
 
 pub inside-stopped : {e : Element} (rcode : ℕ) {t b : List ℕ} {c : Cursor} → Safe t c → not (c .spelled) ≡ true → InsideRead e rcode t c b (record { cursor = c; count = 0; opts = 0; shown = false; hidden = false }) b
@@ -216,7 +216,7 @@ module _ {e : Element} (rcode : ℕ) {t b : List ℕ} {c : Cursor} (g : not (c .
         gathered-far = items-far (codecOf e) 93 (avoids e) (apart e) t g (w .items) z j
 
         -- one more
-        pub gathered-more : {n′ o′ : ℕ} {s′ h′ : Bool} → n′ ≡ limited (n + bit true) → o′ ≡ limited (o + bit (y .opt)) → s′ ≡ (s || y .shown) → h′ ≡ (h || y .hidden) → length b″ ≡ length b′
+        pub gathered-more : {n′ o′ : ℕ} {s′ h′ : Bool} → n′ ≡ atMost65536 (n + bit true) → o′ ≡ atMost65536 (o + bit (y .opt)) → s′ ≡ (s || y .shown) → h′ ≡ (h || y .hidden) → length b″ ≡ length b′
             → Gathered e rcode t c b (y .cursor) false n′ o′ s′ h′ b″
         gathered-more {n′} {o′} {s′} {h′} en eo es eh same = record {
           items = items-more (codecOf e) 93 (avoids e) (apart e) t g (w .items) z j more;
@@ -230,12 +230,12 @@ module _ {e : Element} (rcode : ℕ) {t b : List ℕ} {c : Cursor} (g : not (c .
             more l a x f = record {
               put = put-last l a (all-last (meantOf rcode e) l a) (x .put) (f .put);
               counted = omega (arith, en, x .counted, length-append l (a ∷ []));
-              opts = eo ∙ ap (λ v. limited (o + bit v)) (f .is-opt) ∙ tallied (bit (optOf e a)) (count-snoc (optOf e) l a);
+              opts = eo ∙ ap (λ v. atMost65536 (o + bit v)) (f .is-opt) ∙ tallied (bit (thingOpt e a)) (count-snoc (thingOpt e) l a);
               shown = es ∙ rw (x .shown, f .is-shown) (sym (any-snoc (shownOf e) l a));
               hidden = λ m. eh ∙ rw (x .hidden (and-left (d .meant) _ (subst T (f .put .meant) m)), f .is-hidden m) (sym (any-snoc (hidesOf rcode e) l a));
             }
               where
-                tallied : (m : ℕ) → count (optOf e) (l ++ (a ∷ [])) ≡ count (optOf e) l + m → limited (o + m) ≡ limited (count (optOf e) (l ++ (a ∷ [])))
+                tallied : (m : ℕ) → count (thingOpt e) (l ++ (a ∷ [])) ≡ count (thingOpt e) l + m → atMost65536 (o + m) ≡ atMost65536 (count (thingOpt e) (l ++ (a ∷ [])))
                 tallied m q = omega (arith, q, x .opts)
 
 pub section-read : (e : Element) (rcode : ℕ) {t b b′ : List ℕ} {c d : Cursor} {r : Section} → Passed (ascii "[") t c d → InsideRead e rcode t d b r b′ → SectionRead e rcode t c b r b′

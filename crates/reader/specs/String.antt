@@ -1,4 +1,4 @@
--- A string of a text, and its octets in a message. Assumes nothing.
+-- A string of a text, and its octets in a message.
 use mathlib.Core.Path.{_≡_, refl, sym, _∙_, ap}
 use mathlib.Core.Bool.{Bool, true, false, not}
 use mathlib.Core.List.{List, [], _∷_, _++_}
@@ -61,7 +61,7 @@ chars-start t c b h g = record {
 }
 
 module _ {t : List ℕ} {c : Cursor} {b : List ℕ} {d : Cursor} {out : List ℕ} (w : Chars t c b d out) (g : not (c .spelled) ≡ false) {y : ℕ} (f : Byte t (d .at) y) where
-  -- the quote behind them
+  -- the quote after them
   pub chars-end : {r : Cursor} → y ≡ 34 → Came d (d .at + 1) r → StringRead t c b r out
   chars-end {r} k s =
       let h = inside f (omega arith) in

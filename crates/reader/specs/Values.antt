@@ -1,4 +1,4 @@
--- The values of option members: what each reader shows. Assumes nothing.
+-- The values of option members: what each reader shows.
 use mathlib.Core.Path.{_≡_, refl, sym, _∙_, ap, subst}
 use mathlib.Core.Logic.{⊎-elim}
 use mathlib.Core.Bool.{Bool, true, false, not, cond, _&&_, and-true, and-assoc}
@@ -37,17 +37,17 @@ use Rattle.either.specs.Digits.{Hexes, hexes, paired-hexes}
 use Rattle.tokens.specs.Place.{Byte}
 use Rattle.tokens.specs.Items.{comma-of, part-of, item-of, Items, items-start, items-end, items-stop, items-far, items-more}
 
--- ---- octets in hexadecimal, where they stand in the text
+-- ---- octets in hexadecimal, in place in the text
 -- digits, two an octet, from one place of the text to another
-pub record Digits (t : List ℕ) (h : Span) : Type 0 where
+pub record HexSpan (t : List ℕ) (h : Span) : Type 0 where
   pub low : h .from ≤ h .end
   pub high : h .end ≤ length t
   pub digits : Hexes (take (h .end - h .from) (drop (h .from) t))
 
-pub run-digits : {t : List ℕ} {h : Span} {l : List ℕ} → HexRun t h l → Digits t h
+pub run-digits : {t : List ℕ} {h : Span} {l : List ℕ} → HexRun t h l → HexSpan t h
 run-digits x = record { low = x .ordered; high = x .within; digits = subst Hexes (sym (x .digits)) (hexes _ (x .octets)) }
 
-pub hex-digits : {t : List ℕ} {c : Cursor} {h : Span} → HexRead t c h → Digits t h
+pub hex-digits : {t : List ℕ} {c : Cursor} {h : Span} → HexRead t c h → HexSpan t h
 hex-digits x = run-digits (x .run)
 
 pub run-octets : {t : List ℕ} {h : Span} {l : List ℕ} → HexRun t h l → paired (take (h .end - h .from) (drop (h .from) t)) ≡ l
@@ -59,7 +59,7 @@ sizeOf h = (h .end - h .from) / 2
 
 -- written from a place on, unless they go past the limit
 module _ {t : List ℕ} {h : Span} {c r : Cursor} {size : ℕ} (e : size ≡ sizeOf h) (k : Held size c r) where
-  pub hex-room : Digits t h → not (r .small) ≡ false → c .to + length (take (h .end - h .from) (drop (h .from) t)) < 2 ^ 40
+  pub hex-room : HexSpan t h → not (r .small) ≡ false → c .to + length (take (h .end - h .from) (drop (h .from) t)) < 2 ^ 40
   hex-room d z = omega (arith, e, held-room k z, length-take (h .end - h .from) (drop (h .from) t))
 
   pub hex-past : {b : List ℕ} → not (r .small) ≡ true → Done (HexRun t h) (λ l. true) (λ l. l) c b r b
@@ -85,7 +85,7 @@ module _ {wide : Bool} {t : List ℕ} {c r : Cursor} {n : Amount} {b b′ : List
   pub numeral-narrow : wide ≡ false → Done (λ k. n .value ≡ capped k) octet? (λ k. k ∷ []) (n .cursor) b r b′ → Step (numeral? wide) (numeralForm wide) natural t c b r b′
   numeral-narrow e d = rw e (found-done (x .found) (x .keeps) d)
 
--- numbers with commas between, and the bracket behind them
+-- numbers with commas between, and the bracket after them
 abbrev pub numeralsParse : List ℕ → Parsed (List ℕ)
 numeralsParse = part-of number 93 true
 
@@ -289,19 +289,19 @@ abbrev pub parts? : ℕ → List (List ℕ) → Bool
 parts? i [] = true
 parts? i (h ∷ l) = part? i (length h) && parts? (next-part i) l
 
-abbrev pub after : ℕ → List (List ℕ) → ℕ
-after i [] = i
-after i (h ∷ l) = after (next-part i) l
+abbrev pub partAfter : ℕ → List (List ℕ) → ℕ
+partAfter i [] = i
+partAfter i (h ∷ l) = partAfter (next-part i) l
 
-parts-last : (i : ℕ) (l : List (List ℕ)) (a : List ℕ) → parts? i (l ++ (a ∷ [])) ≡ (parts? i l && part? (after i l) (length a))
+parts-last : (i : ℕ) (l : List (List ℕ)) (a : List ℕ) → parts? i (l ++ (a ∷ [])) ≡ (parts? i l && part? (partAfter i l) (length a))
 parts-last i [] a = and-true (part? i (length a))
-parts-last i (h ∷ l) a = rw (parts-last (next-part i) l a) (sym (and-assoc (part? i (length h)) (parts? (next-part i) l) (part? (after (next-part i) l) (length a))))
+parts-last i (h ∷ l) a = rw (parts-last (next-part i) l a) (sym (and-assoc (part? i (length h)) (parts? (next-part i) l) (part? (partAfter (next-part i) l) (length a))))
 
-after-last : (i : ℕ) (l : List (List ℕ)) (a : List ℕ) → after i (l ++ (a ∷ [])) ≡ next-part (after i l)
+after-last : (i : ℕ) (l : List (List ℕ)) (a : List ℕ) → partAfter i (l ++ (a ∷ [])) ≡ next-part (partAfter i l)
 after-last i [] a = refl
 after-last i (h ∷ l) a = after-last (next-part i) l a
 
-cookie-parts : (l : List (List ℕ)) → cookie? l ≡ (parts? 0 l && ltb 0 (after 0 l))
+cookie-parts : (l : List (List ℕ)) → cookie? l ≡ (parts? 0 l && ltb 0 (partAfter 0 l))
 cookie-parts [] = refl
 cookie-parts (a ∷ []) = sym (and-true _ ∙ and-true _)
 cookie-parts (a ∷ h ∷ []) = go (eqb (length a) 8) (leb 8 (length h)) (leb (length h) 32)
@@ -313,7 +313,7 @@ cookie-parts (a ∷ h ∷ []) = go (eqb (length a) 8) (leb 8 (length h)) (leb (l
     go false y z = refl
 cookie-parts (a ∷ h ∷ x ∷ l) = go (eqb (length a) 8) (leb 8 (length h) && leb (length h) 32)
   where
-    go : (x y : Bool) → false ≡ ((x && (y && false)) && ltb 0 (after 2 l))
+    go : (x y : Bool) → false ≡ ((x && (y && false)) && ltb 0 (partAfter 2 l))
     go true true = refl
     go true false = refl
     go false y = refl
@@ -334,7 +334,7 @@ cookie-string i q x d e f k = step-lit q (found-at (x .found) (k .at ∙ d .at) 
 
 -- the strings found from c to d
 pub record Cookies (t : List ℕ) (c : Cursor) (b : List ℕ) (d : Cursor) (first : Bool) (i : ℕ) (out : List ℕ) : Type 0 where
-  pub items : Items cookieCodec 93 (λ l. Put (parts? 0) (each (λ h. h)) c b d out l × (i ≡ after 0 l)) t c true d first
+  pub items : Items cookieCodec 93 (λ l. Put (parts? 0) (each (λ h. h)) c b d out l × (i ≡ partAfter 0 l)) t c true d first
   pub few : i ≤ 2
   pub long : length out ≡ length b
 
@@ -352,7 +352,7 @@ module _ {t : List ℕ} {c : Cursor} {b : List ℕ} (g : not (c .spelled) ≡ fa
   module _ {d : Cursor} {first : Bool} {i : ℕ} {out : List ℕ} (w : Cookies t c b d first i out) where
     pub cookies-end : {x : ℕ} {r j : Cursor} → Byte t (d .at) x → x ≡ 93 → Came d (d .at + 1) r → Judged (ltb 0 i) r j → Step cookie? (each (λ h. h)) cookieParse t c b j out
     cookies-end {x} {r} {j} k e s q =
-        let y = items-end cookieCodec 93 cookie-avoids cookie-apart t g (w .items) {R = λ l. Put (parts? 0) (each (λ h. h)) c b r out l × (i ≡ after 0 l)} k e (omega arith) s (λ z l h. (put-to (h .0) z, h .1)) in
+        let y = items-end cookieCodec 93 cookie-avoids cookie-apart t g (w .items) {R = λ l. Put (parts? 0) (each (λ h. h)) c b r out l × (i ≡ partAfter 0 l)} k e (omega arith) s (λ z l h. (put-to (h .0) z, h .1)) in
         found-at y (q .at) (q .spelled) (omega (arith, q .to, y .moves .safe .room)) λ l h. put-judged (h .0) q (cookie-parts l ∙ ap (λ (n : ℕ). parts? 0 l && ltb 0 n) (sym (h .1)))
 
     module _ {e r : Cursor} {out′ : List ℕ} (q : Passed (comma-of first) t d e) (s : CookieStep i t e out r out′) where

@@ -1,4 +1,4 @@
--- The whole text: head, four arrays, and what is judged over all of them. Assumes nothing.
+-- The whole text: head, four arrays, and what is judged over all of them.
 use mathlib.Core.Path.{_≡_, refl, sym, _∙_, ap, ap₂, subst}
 use mathlib.Core.Bool.{Bool, true, false, _&&_}
 use mathlib.Core.List.{List, _++_}
@@ -23,7 +23,7 @@ use Rattle.reader.specs.declared.entries.Element.{Element}
 use Rattle.reader.specs.declared.entries.Element.the-variants.{Question as Questions, Record as Records, Additional as Additionals}
 use Rattle.reader.specs.declared.entries.Section.{Section}
 use Rattle.reader.specs.Meant.{settledBy, headMeant?, headOctets, recordMeant?, recordOctets, itemMeant?, itemOctets, itemOpt?, settledItems?, documentMeant?, documentOctets, head-numbers}
-use Rattle.reader.specs.Sections.{Thing, limited, arrayParse, SectionFacts, SectionRead}
+use Rattle.reader.specs.Sections.{Thing, atMost65536, arrayParse, SectionFacts, SectionRead}
 use Rattle.reader.specs.declared.head.Counts.{Counts}
 use Rattle.reader.specs.declared.head.Header.{Header}
 use Rattle.reader.specs.Head.{Told, HeadRead}
@@ -51,19 +51,19 @@ abbrev pub settledSection : Section → Bool
 settledSection s = settledBy (eqb (s .opts) 1) (s .shown) (s .hidden)
 
 -- a number of 16 bits is a length exactly if what was kept of both is equal
-count-same : (n m : ℕ) → T (word? n) → eqb (capped n) (limited m) ≡ eqb n m
+count-same : (n m : ℕ) → T (word? n) → eqb (capped n) (atMost65536 m) ≡ eqb n m
 count-same n m h = go (eqb n m) refl
   where
-    go : (b : Bool) → eqb n m ≡ b → eqb (capped n) (limited m) ≡ b
-    go true e = eq-eqb (capped n) (limited m) (omega (arith, ltb→lt n 65536 h, eqb→eq n m (subst T (sym e) tt)))
-    go false e = ne-eqb (capped n) (limited m) (λ d. eqb-false n m e (omega (arith, ltb→lt n 65536 h, d)))
+    go : (b : Bool) → eqb n m ≡ b → eqb (capped n) (atMost65536 m) ≡ b
+    go true e = eq-eqb (capped n) (atMost65536 m) (omega (arith, ltb→lt n 65536 h, eqb→eq n m (subst T (sym e) tt)))
+    go false e = ne-eqb (capped n) (atMost65536 m) (λ d. eqb-false n m e (omega (arith, ltb→lt n 65536 h, d)))
 
-lone-same : (n : ℕ) → eqb (limited n) 1 ≡ eqb n 1
+lone-same : (n : ℕ) → eqb (atMost65536 n) 1 ≡ eqb n 1
 lone-same n = go (eqb n 1) refl
   where
-    go : (b : Bool) → eqb n 1 ≡ b → eqb (limited n) 1 ≡ b
-    go true e = eq-eqb (limited n) 1 (omega (arith, eqb→eq n 1 (subst T (sym e) tt)))
-    go false e = ne-eqb (limited n) 1 (λ d. eqb-false n 1 e (omega (arith, d)))
+    go : (b : Bool) → eqb n 1 ≡ b → eqb (atMost65536 n) 1 ≡ b
+    go true e = eq-eqb (atMost65536 n) 1 (omega (arith, eqb→eq n 1 (subst T (sym e) tt)))
+    go false e = ne-eqb (atMost65536 n) 1 (λ d. eqb-false n 1 e (omega (arith, d)))
 
 -- ---- the whole
 abbrev Parts : Type 0

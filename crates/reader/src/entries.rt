@@ -3,12 +3,12 @@ ghost use mathlib.Core.Path.{_≡_};
 ghost use Prim.Native.Nat.{_+_, _≤_, _<_};
 ghost use Rattle.tokens.specs.Cursor.{Safe};
 ghost use Rattle.tokens.specs.Step.{Step};
-ghost use Rattle.reader.specs.Values.{Digits};
+ghost use Rattle.reader.specs.Values.{HexSpan};
 ghost use Rattle.records.specs.Message.{question?, questionForm};
-ghost use Rattle.strict.specs.Parser.{question};
-ghost use Rattle.reader.specs.Reading.{WordRead, kindOf, RdataRead, Shows, TailRead, RecordRead};
+ghost use Rattle.strict.specs.Parser.{questionCodec};
+ghost use Rattle.reader.specs.Reading.{WordRead, typeOr0, RdataRead, CouldBeElement, TailRead, RecordRead};
 ghost use Rattle.reader.specs.Items.{ItemRead};
-ghost use Rattle.reader.specs.Sections.{AskedRead, TitledRead, OneRead, NextRead, InsideRead, SectionRead, limited, bit};
+ghost use Rattle.reader.specs.Sections.{AskedRead, TitledRead, OneRead, NextRead, InsideRead, SectionRead, atMost65536, bit};
 use crate::labels::name;
 use crate::members::edns;
 use crate::members::put_hex;
@@ -55,7 +55,7 @@ fn word(text: &[u8], c: Cursor, out: &mut [u8]) -> Amount
 // A question.
 fn question(text: &[u8], c: Cursor, out: &mut [u8]) -> Cursor
     requires { ⌜ Safe (now text) c ⌝ }
-    ensures { λ r. ⌜ Step question? questionForm (question .parse) (now (text .entry)) c (now (out .entry)) r (now (out .exit)) ⌝ }
+    ensures { λ r. ⌜ Step question? questionForm (questionCodec .parse) (now (text .entry)) c (now (out .entry)) r (now (out .exit)) ⌝ }
 {
     let start = literal(text, c, b"{\"NAME\":\"");
     let owner = name(text, start, out);
@@ -68,7 +68,7 @@ fn question(text: &[u8], c: Cursor, out: &mut [u8]) -> Cursor
 
 // A TYPE as it is judged; one that is out of range has no layout.
 fn kind_of(value: u64) -> u32
-    ensures { λ r. ⌜ r ≡ kindOf value ⌝ }
+    ensures { λ r. ⌜ r ≡ typeOr0 value ⌝ }
 {
     if value > 65535 {
         return 0;
@@ -76,7 +76,7 @@ fn kind_of(value: u64) -> u32
     value as u32
 }
 
-// RDATA of a TYPE: judged, and written behind its length.
+// RDATA of a TYPE: judged, and written after its length.
 fn rdata(text: &[u8], c: Cursor, kind: u64, out: &mut [u8]) -> Span
     requires { ⌜ Safe (now text) c ⌝ }
     ensures { λ r. ⌜ RdataRead kind (now (text .entry)) c (now (out .entry)) r (now (out .exit)) ⌝ }
@@ -96,8 +96,8 @@ fn rdata(text: &[u8], c: Cursor, kind: u64, out: &mut [u8]) -> Span
 
 // Whether a record with these fields and the RDATA of this span could be an EDNS element.
 fn shows_edns(text: &[u8], span: Span, kind: u64, root: bool, bits: u32, rcode: u32) -> bool
-    requires { ⌜ Digits (now text) span × (rcode < 16) ⌝ }
-    ensures { λ r. ⌜ Shows kind root bits rcode (now (text .entry)) span r ⌝ }
+    requires { ⌜ HexSpan (now text) span × (rcode < 16) ⌝ }
+    ensures { λ r. ⌜ CouldBeElement kind root bits rcode (now (text .entry)) span r ⌝ }
 {
     if kind != 41 {
         return false;
@@ -172,7 +172,7 @@ pub enum Element {
     Additional,
 }
 
-// The entries of an array: how many, how many of TYPE 41 (65,536 stands for every number above), whether an EDNS element is there, whether a record that could be one is.
+// The entries of an array: how many, how many of TYPE 41 (65,536 counts for every number above), whether an EDNS element is there, whether a record that could be one is.
 pub struct Section {
     pub cursor: Cursor,
     pub count: u64,
@@ -218,7 +218,7 @@ fn one(text: &[u8], c: Cursor, element: Element, rcode: u32, out: &mut [u8]) -> 
 // One more, or not.
 fn tally(n: u64, more: bool) -> u64
     requires { ⌜ n ≤ 65536 ⌝ }
-    ensures { λ r. ⌜ r ≡ limited (n + bit more) ⌝ }
+    ensures { λ r. ⌜ r ≡ atMost65536 (n + bit more) ⌝ }
 {
     if !more {
         return n;
@@ -237,7 +237,7 @@ fn next(text: &[u8], c: Cursor, first: bool, element: Element, rcode: u32, out: 
     one(text, comma(text, c, first), element, rcode, out)
 }
 
-// The entries of an array, and the bracket behind them.
+// The entries of an array, and the bracket after them.
 fn inside(text: &[u8], c: Cursor, element: Element, rcode: u32, out: &mut [u8]) -> Section
     requires { ⌜ Safe (now text) c × (rcode < 16) ⌝ }
     ensures { λ r. ⌜ InsideRead element rcode (now (text .entry)) c (now (out .entry)) r (now (out .exit)) ⌝ }

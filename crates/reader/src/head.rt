@@ -26,7 +26,7 @@ pub struct Counts {
     pub additional: u64,
 }
 
-// What the head tells of the rest: RCODE and the counts.
+// What the rest needs of the head: RCODE and the counts.
 pub struct Header {
     pub cursor: Cursor,
     pub rcode: u32,

@@ -20,14 +20,14 @@ use tokens::literal;
 use tokens::octet_at;
 use tokens::stop;
 
-// What was read, the place behind it, and its size; or the place at which nothing goes on.
+// What was read, the place after it, and its size; or the place at which nothing goes on.
 struct Part {
     at: usize,
     found: bool,
     size: usize,
 }
 
-// Writes `v` at the place `n` behind `to`, unless n is more than 63.
+// Writes `v` at the place `n` after `to`, unless n is more than 63.
 fn store(out: &mut [u8], to: usize, n: usize, v: u8) -> usize
     requires { ⌜ to < 2 ^ 32 ⌝ }
     ensures { λ r. ⌜ Stored (now (out .entry)) to n v (now (out .exit)) ⌝ }
@@ -38,7 +38,7 @@ fn store(out: &mut [u8], to: usize, n: usize, v: u8) -> usize
     put(out, to + n, v)
 }
 
-// A label and the dot behind it. Its length and its octets are written from `to` on, unless it is too long.
+// A label and the dot after it. Its length and its octets are written from `to` on, unless it is too long.
 fn label_at(text: &[u8], start: usize, out: &mut [u8], to: usize) -> Part
     requires { ⌜ (start ≤ length (now text)) × (to < 2 ^ 32) ⌝ }
     ensures { λ r. ⌜ LabelAt (now (text .entry)) start (now (out .entry)) to r (now (out .exit)) ⌝ }
@@ -99,7 +99,7 @@ fn grow(size: usize, label: usize) -> usize
     s
 }
 
-// Labels and the quote behind them. Their octets and the root octet are written from `to` on, unless they are too many; the size is then 256.
+// Labels and the quote after them. Their octets and the root octet are written from `to` on, unless they are too many; the size is then 256.
 fn labels_at(text: &[u8], start: usize, out: &mut [u8], to: usize) -> Part
     requires { ⌜ (start ≤ length (now text)) × (to ≤ 65535) ⌝ }
     ensures { λ r. ⌜ LabelsAt (now (text .entry)) start (now (out .entry)) to r (now (out .exit)) ⌝ }
@@ -137,7 +137,7 @@ fn labels_at(text: &[u8], start: usize, out: &mut [u8], to: usize) -> Part
     }
 }
 
-// The root and the quote behind it.
+// The root and the quote after it.
 fn root(text: &[u8], c: Cursor, out: &mut [u8]) -> Cursor
     requires { ⌜ Safe (now text) c × ((c .spelled ≡ true) × Byte (now text) (c .at) 46) ⌝ }
     ensures { λ r. ⌜ NameRead (now (text .entry)) c (now (out .entry)) r (now (out .exit)) ⌝ }
@@ -149,7 +149,7 @@ fn root(text: &[u8], c: Cursor, out: &mut [u8]) -> Cursor
     emit(r, &[0], out)
 }
 
-// A name and the quote behind it.
+// A name and the quote after it.
 pub fn name(text: &[u8], c: Cursor, out: &mut [u8]) -> Cursor
     requires { ⌜ Safe (now text) c ⌝ }
     ensures { λ r. ⌜ NameRead (now (text .entry)) c (now (out .entry)) r (now (out .exit)) ⌝ }
@@ -180,7 +180,7 @@ fn add(c: Cursor, at: usize, v: u8, out: &mut [u8]) -> Cursor
     emit(came(c, at), &[v], out)
 }
 
-// A string and the quote behind it. Its octets are written as they are read.
+// A string and the quote after it. Its octets are written as they are read.
 pub fn string(text: &[u8], c: Cursor, out: &mut [u8]) -> Cursor
     requires { ⌜ Safe (now text) c ⌝ }
     ensures { λ r. ⌜ StringRead (now (text .entry)) c (now (out .entry)) r (now (out .exit)) ⌝ }

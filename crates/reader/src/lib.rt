@@ -25,7 +25,7 @@ mod head;
 mod labels;
 mod members;
 
-// A title and the array behind it.
+// A title and the array after it.
 fn array(
     text: &[u8],
     c: Cursor,

@@ -13,9 +13,9 @@ ghost use Rattle.tokens.specs.Cursor.{Safe};
 ghost use Rattle.tokens.specs.Step.{Step};
 ghost use Rattle.tokens.specs.Fields.{Done};
 ghost use Rattle.tokens.specs.Hex.{HexRun};
-ghost use Rattle.reader.specs.Values.{Digits, sizeOf, numeral?, numeralForm, numeralsParse, ValueStep, part?, next-part, CookieStep, cookieParse, Zeros, PaddingFits, PaddingHex, PaddingEnd, ErrorText, errorEnd};
-ghost use Rattle.reader.specs.Options.{NameRead, Fronted, KnownStep, OtherFits, codeOf, OtherHex, OtherRead, MemberRead, RisingRead, OptionsStep, membersParse};
-ghost use Rattle.reader.specs.Element.{RcodeRead, fits?, OptFronted, EdnsStep};
+ghost use Rattle.reader.specs.Values.{HexSpan, sizeOf, numeral?, numeralForm, numeralsParse, ValueStep, part?, next-part, CookieStep, cookieParse, Zeros, PaddingFits, PaddingHex, PaddingEnd, ErrorText, errorEnd};
+ghost use Rattle.reader.specs.Options.{MemberNameRead, Fronted, KnownStep, OtherFits, optionCode, OtherHex, OtherRead, MemberRead, RisingRead, OptionsStep, membersParse};
+ghost use Rattle.reader.specs.Element.{RcodeRead, ednsFits?, OptFronted, EdnsStep};
 use crate::labels::string;
 use digits::put_octets;
 use octets::put;
@@ -59,7 +59,7 @@ pub fn size_of(h: Span) -> usize
 
 // Writes the octets of the digits that were read, unless they go past the limit.
 pub fn put_hex(text: &[u8], h: Span, c: Cursor, out: &mut [u8]) -> Cursor
-    requires { ⌜ Digits (now text) h × (c .to ≤ 65535) ⌝ }
+    requires { ⌜ HexSpan (now text) h × (c .to ≤ 65535) ⌝ }
     ensures { λ r. ⌜ Done (HexRun (now (text .entry)) h) (λ l. true) (λ l. l) c (now (out .entry)) r (now (out .exit)) ⌝ }
 {
     let r = hold(c, size_of(h));
@@ -88,7 +88,7 @@ fn numeral(text: &[u8], c: Cursor, wide: bool, out: &mut [u8]) -> Cursor
     put_octet(d, value, out)
 }
 
-// Numbers with commas between, and the bracket behind them.
+// Numbers with commas between, and the bracket after them.
 fn numerals(text: &[u8], c: Cursor, wide: bool, out: &mut [u8]) -> Cursor
     requires { ⌜ Safe (now text) c ⌝ }
     ensures { λ r. ⌜ Step (all (numeral? wide)) (each (numeralForm wide)) numeralsParse (now (text .entry)) c (now (out .entry)) r (now (out .exit)) ⌝ }
@@ -191,7 +191,7 @@ fn cookie_string(text: &[u8], c: Cursor, i: usize, out: &mut [u8]) -> Cursor
     judge(d, cookie_part(i, size_of(h)))
 }
 
-// Strings with commas between, and the bracket behind them.
+// Strings with commas between, and the bracket after them.
 fn cookie_strings(text: &[u8], c: Cursor, out: &mut [u8]) -> Cursor
     requires { ⌜ Safe (now text) c ⌝ }
     ensures { λ r. ⌜ Step cookie? (each (λ h. h)) cookieParse (now (text .entry)) c (now (out .entry)) r (now (out .exit)) ⌝ }
@@ -256,7 +256,7 @@ fn zeros(c: Cursor, n: u64, out: &mut [u8]) -> Cursor
 
 // HEX has as many octets as LENGTH says, and not all of them are zero.
 fn padding_fits(text: &[u8], h: Span, n: u64) -> bool
-    requires { ⌜ Digits (now text) h ⌝ }
+    requires { ⌜ HexSpan (now text) h ⌝ }
     ensures { λ r. ⌜ PaddingFits (now (text .entry)) h n r ⌝ }
 {
     if n != size_of(h) as u64 {
@@ -299,7 +299,7 @@ fn padding(text: &[u8], c: Cursor, out: &mut [u8]) -> Cursor
 }
 
 // ---- EDE
-// TEXT, which is not empty, and the brace behind it.
+// TEXT, which is not empty, and the brace after it.
 fn error_text(text: &[u8], c: Cursor, out: &mut [u8]) -> Cursor
     requires { ⌜ Safe (now text) c ⌝ }
     ensures { λ r. ⌜ ErrorText (now (text .entry)) c (now (out .entry)) r (now (out .exit)) ⌝ }
@@ -361,7 +361,7 @@ struct Coded {
 // The name of a member of the table, in quotes, and the colon.
 fn member_name(text: &[u8], c: Cursor) -> Row
     requires { ⌜ Safe (now text) c ⌝ }
-    ensures { λ r. ⌜ NameRead (now (text .entry)) c r ⌝ }
+    ensures { λ r. ⌜ MemberNameRead (now (text .entry)) c r ⌝ }
 {
     let open = literal(text, c, b"\"");
     let n = option_name(text, open);
@@ -372,7 +372,7 @@ fn member_name(text: &[u8], c: Cursor) -> Row
     }
 }
 
-// Writes an option's code and the length of its value in front of the value, which ends at `to`.
+// Writes an option's code and the length of its value before the value, which ends at `to`.
 fn put_front(out: &mut [u8], start: usize, to: usize, code: u32) -> usize
     requires { ⌜ (start ≤ 65535) × (to ≤ 65535) ⌝ }
     ensures { λ r. ⌜ Fronted code start to (now (out .entry)) (now (out .exit)) r ⌝ }
@@ -398,7 +398,7 @@ fn known(text: &[u8], c: Cursor, code: u32, out: &mut [u8]) -> Cursor
 
 // `OPTn` only where its value doesn't have the shape of a row of that code.
 fn other_fits(text: &[u8], h: Span, n: u64) -> bool
-    requires { ⌜ Digits (now text) h ⌝ }
+    requires { ⌜ HexSpan (now text) h ⌝ }
     ensures { λ r. ⌜ OtherFits (now (text .entry)) h n r ⌝ }
 {
     if n > 65535 {
@@ -412,7 +412,7 @@ fn other_fits(text: &[u8], h: Span, n: u64) -> bool
 
 // The code, if it is a number of 16 bits.
 fn code_of(n: u64) -> u32
-    ensures { λ r. ⌜ r ≡ codeOf n ⌝ }
+    ensures { λ r. ⌜ r ≡ optionCode n ⌝ }
 {
     if n < 65536 {
         return n as u32;
@@ -484,7 +484,7 @@ fn rising_member(text: &[u8], c: Cursor, least: u64, out: &mut [u8]) -> Coded
     }
 }
 
-// Members with a comma before each, codes strictly rising, and the brace behind them.
+// Members with a comma before each, codes strictly rising, and the brace after them.
 fn option_members(text: &[u8], c: Cursor, out: &mut [u8]) -> Cursor
     requires { ⌜ Safe (now text) c ⌝ }
     ensures { λ r. ⌜ OptionsStep membersParse (now (text .entry)) c (now (out .entry)) r (now (out .exit)) ⌝ }
@@ -534,7 +534,7 @@ fn full_rcode(text: &[u8], c: Cursor) -> Row
 
 // Version is 0, RCODE modulo 16 is the header's, and UDPSIZE is a number of 16 bits.
 fn edns_fits(version: u64, full: u32, rcode: u32, size: u64) -> bool
-    ensures { λ r. ⌜ r ≡ fits? version full rcode size ⌝ }
+    ensures { λ r. ⌜ r ≡ ednsFits? version full rcode size ⌝ }
 {
     if version != 0 {
         return false;
@@ -545,7 +545,7 @@ fn edns_fits(version: u64, full: u32, rcode: u32, size: u64) -> bool
     size < 65536
 }
 
-// Writes what stands in front of the options, which end at `to`: the root, TYPE 41, CLASS, TTL and RDLENGTH.
+// Writes what comes before the options, which end at `to`: the root, TYPE 41, CLASS, TTL and RDLENGTH.
 fn put_opt(out: &mut [u8], start: usize, to: usize, size: u64, full: u32, flags: u32) -> usize
     requires { ⌜ (start ≤ 65535) × (to ≤ 65535) ⌝ }
     ensures { λ r. ⌜ OptFronted size full flags start to (now (out .entry)) (now (out .exit)) r ⌝ }
@@ -563,7 +563,7 @@ fn put_opt(out: &mut [u8], start: usize, to: usize, size: u64, full: u32, flags:
     put_two(out, next, length as u32)
 }
 
-// The element behind the title of its first member, Version. `rcode` is the header's.
+// The element after the title of its first member, Version. `rcode` is the header's.
 pub fn edns(text: &[u8], c: Cursor, rcode: u32, out: &mut [u8]) -> Cursor
     requires { ⌜ Safe (now text) c ⌝ }
     ensures { λ r. ⌜ EdnsStep rcode (now (text .entry)) c (now (out .entry)) r (now (out .exit)) ⌝ }

@@ -1,4 +1,4 @@
--- What the code answers, beside the definitions, and the bounds of it. Assumes nothing.
+-- What the code answers, beside the definitions, and the bounds of it.
 use mathlib.Core.Path.{_≡_}
 use mathlib.Core.Bool.{cond}
 use mathlib.Core.List.{List, [], _∷_, _++_}

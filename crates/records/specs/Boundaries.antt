@@ -1,4 +1,4 @@
--- Messages at the limits of document 01's rules, one row each, and one theorem over the table. Assumes nothing.
+-- Messages at the limits of document 01's rules, one row each, and one theorem over the table.
 use mathlib.Core.Path.{_≡_, refl}
 use mathlib.Core.List.{List, [], _∷_, _++_, map}
 use Prim.Native.Nat.{ℕ}
@@ -10,7 +10,7 @@ use Rattle.names.specs.Walk.{walk, nameFrom}
 use Rattle.records.specs.Layout.{layouts, layoutOf, pieces, rdataAt}
 use Rattle.records.specs.Message.{Header, questionForm, recordForm, headerForm, form}
 use Rattle.records.specs.Read.{firstCut, questionAt, recordAt, sectionAt, sectionFrom}
-use Rattle.records.specs.Decode.{headerOf, sectionsOf, messageOf, Decoded, accepted, refused, decode}
+use Rattle.records.specs.Decode.{headerOf, sectionsOf, messageRead, Decoded, accepted, refused, decode}
 
 -- accepted, or the refusal's number and place
 pub data Verdict : Type 0 where
@@ -38,12 +38,12 @@ abbrev pub answers : ℕ → ℕ → List ℕ → List ℕ
 answers type size rdata = counts 0 1 ++ hexed "00" ++ two type ++ hexed "000100000000" ++ two size ++ rdata
 
 -- a label of n octets
-abbrev pub label : ℕ → List ℕ
-label n = n ∷ replicate n 97
+abbrev pub labelOf : ℕ → List ℕ
+labelOf n = n ∷ replicate n 97
 
 -- three labels of 63 and one of n octets, and the root octet
 abbrev pub long : ℕ → List ℕ
-long n = label 63 ++ label 63 ++ label 63 ++ label n ++ hexed "00"
+long n = labelOf 63 ++ labelOf 63 ++ labelOf 63 ++ labelOf n ++ hexed "00"
 
 -- a question for `a.` and an answer that points to it, with n octets of RDATA: the form is one octet longer than the
 -- message
@@ -63,13 +63,13 @@ boundaries =
     -- a label and a pointer back to it
     ∷ record { message = asks (hexed "0161C00C"); gives = refuses 5 12 }
     -- labels of 63 and 64
-    ∷ record { message = asks (label 63 ++ hexed "00"); gives = taken }
-    ∷ record { message = asks (label 64 ++ hexed "00"); gives = refuses 4 12 }
+    ∷ record { message = asks (labelOf 63 ++ hexed "00"); gives = taken }
+    ∷ record { message = asks (labelOf 64 ++ hexed "00"); gives = refuses 4 12 }
     -- names of 255 and 256 octets
     ∷ record { message = asks (long 61); gives = taken }
     ∷ record { message = asks (long 62); gives = refuses 6 12 }
     -- at one label, past the end comes before past 255; at a pointer, past the end before its target
-    ∷ record { message = counts 1 0 ++ label 63 ++ label 63 ++ label 63 ++ hexed "3F6161"; gives = refuses 1 12 }
+    ∷ record { message = counts 1 0 ++ labelOf 63 ++ labelOf 63 ++ labelOf 63 ++ hexed "3F6161"; gives = refuses 1 12 }
     ∷ record { message = counts 1 0 ++ hexed "C0"; gives = refuses 1 12 }
     -- a form of 65,535 and of 65,536 octets
     ∷ record { message = pointed 65503; gives = taken }
@@ -113,13 +113,13 @@ boundaries =
     -- SOA with 19 octets: a fault in a name comes first
     ∷ record { message = answers 6 21 (hexed "C017" ++ replicate 19 0); gives = refuses 5 12 }
     -- in RDATA, a name over 255 octets; a label past RDATA and over 255
-    ∷ record { message = answers 2 255 (label 63 ++ label 63 ++ label 63 ++ label 62); gives = refuses 6 12 }
-    ∷ record { message = answers 2 254 (label 63 ++ label 63 ++ label 63 ++ label 62); gives = refuses 7 12 }
+    ∷ record { message = answers 2 255 (labelOf 63 ++ labelOf 63 ++ labelOf 63 ++ labelOf 62); gives = refuses 6 12 }
+    ∷ record { message = answers 2 254 (labelOf 63 ++ labelOf 63 ++ labelOf 63 ++ labelOf 62); gives = refuses 7 12 }
     ∷ []
 
 -- every row, computed
 pub boundaries-hold : map (λ (b : Boundary). verdict (decode (b .message))) boundaries ≡ map (λ (b : Boundary). b .gives) boundaries
-unfolding boundaries lookup nameForm walk nameFrom layouts layoutOf pieces rdataAt questionForm recordForm each headerForm form firstCut questionAt recordAt sectionAt sectionFrom headerOf sectionsOf messageOf decode
+unfolding boundaries lookup nameForm walk nameFrom layouts layoutOf pieces rdataAt questionForm recordForm each headerForm form firstCut questionAt recordAt sectionAt sectionFrom headerOf sectionsOf messageRead decode
 boundaries-hold = refl
 
 -- RDATA of two root octets: one too many for one name, too few for SOA and MX, just MINFO's; carried for a TYPE that is
@@ -130,15 +130,15 @@ types =
     ++ map (λ (type : ℕ). (type, refuses 7 12)) (2 ∷ 3 ∷ 4 ∷ 5 ∷ 6 ∷ 7 ∷ 8 ∷ 9 ∷ 12 ∷ 15 ∷ [])
 
 pub types-hold : map (λ (t : ℕ × Verdict). verdict (decode (answers (t .0) 2 (hexed "0000")))) types ≡ map (λ (t : ℕ × Verdict). t .1) types
-unfolding types lookup nameForm walk nameFrom layouts layoutOf pieces rdataAt questionForm recordForm each headerForm form firstCut questionAt recordAt sectionAt sectionFrom headerOf sectionsOf messageOf decode
+unfolding types lookup nameForm walk nameFrom layouts layoutOf pieces rdataAt questionForm recordForm each headerForm form firstCut questionAt recordAt sectionAt sectionFrom headerOf sectionsOf messageRead decode
 types-hold = refl
 
 -- QR, Opcode, AA, TC, RD, RA, AD, CD, RCODE of a header, with the first and the last bit of each set alone
 abbrev pub fields : Header → List ℕ
 fields h = h .qr ∷ h .opcode ∷ h .aa ∷ h .tc ∷ h .rd ∷ h .ra ∷ h .ad ∷ h .cd ∷ h .rcode ∷ []
 
-unfoldable pub flags : List (List ℕ × List ℕ)
-flags =
+unfoldable pub flagBits : List (List ℕ × List ℕ)
+flagBits =
     (hexed "8000", 1 ∷ 0 ∷ 0 ∷ 0 ∷ 0 ∷ 0 ∷ 0 ∷ 0 ∷ 0 ∷ [])
     ∷ (hexed "4000", 0 ∷ 8 ∷ 0 ∷ 0 ∷ 0 ∷ 0 ∷ 0 ∷ 0 ∷ 0 ∷ [])
     ∷ (hexed "0800", 0 ∷ 1 ∷ 0 ∷ 0 ∷ 0 ∷ 0 ∷ 0 ∷ 0 ∷ 0 ∷ [])
@@ -152,6 +152,6 @@ flags =
     ∷ (hexed "0001", 0 ∷ 0 ∷ 0 ∷ 0 ∷ 0 ∷ 0 ∷ 0 ∷ 0 ∷ 1 ∷ [])
     ∷ []
 
-pub flags-hold : map (λ (f : List ℕ × List ℕ). fields (headerOf (hexed "0000" ++ f .0 ++ replicate 8 0))) flags ≡ map (λ (f : List ℕ × List ℕ). f .1) flags
-unfolding flags headerOf
+pub flags-hold : map (λ (f : List ℕ × List ℕ). fields (headerOf (hexed "0000" ++ f .0 ++ replicate 8 0))) flagBits ≡ map (λ (f : List ℕ × List ℕ). f .1) flagBits
+unfolding flagBits headerOf
 flags-hold = refl

@@ -1,11 +1,11 @@
--- The reading of a whole message: what it holds, or document 01's refusal. Assumes nothing.
+-- The reading of a whole message: what it holds, or document 01's refusal.
 use mathlib.Core.Bool.{cond}
 use mathlib.Core.List.{List}
 use Prim.Native.Nat.{ℕ, _/_, _%_}
 use lib.Dec.{ltb, eqb}
 use lib.ListN.{length, getD}
 use Rattle.octets.specs.Fields.{twoAt}
-use Rattle.names.specs.Name.{number}
+use Rattle.names.specs.Name.{refusalNumber}
 use Rattle.records.specs.Message.{Header, Question, Record, Message, form}
 use Rattle.records.specs.Read.{Reached, Section, reached, stopped, questionAt, recordAt, sectionAt, sectionFrom}
 
@@ -46,8 +46,8 @@ sectionsOf s =
     record { questions = questions; answers = answers; authority = authority; additional = additional }
 
 -- the entries that were read, under the header
-unfoldable pub messageOf : List ℕ → Message
-messageOf s =
+unfoldable pub messageRead : List ℕ → Message
+messageRead s =
     let sections = sectionsOf s in
     record {
       header = headerOf s;
@@ -65,7 +65,7 @@ pub data Decoded : Type 0 where
 -- where reading came to: the first fault in an entry, reported at the entry; 8 octets after the last record, at the first of
 -- them; 9 uncompressed form over 65,535 octets
 abbrev pub afterReading : List ℕ → Message → Reached → Decoded
-afterReading s m (stopped at fault) = refused (number (fault .kind)) at
+afterReading s m (stopped at fault) = refused (refusalNumber (fault .kind)) at
 afterReading s m (reached at) =
     cond (ltb at (length s)) (refused 8 at)
     (cond (ltb 65535 (length (form m))) (refused 9 0) (accepted m))
@@ -76,4 +76,4 @@ decode s =
     cond (ltb 65535 (length s)) (refused 2 0)
     (cond (ltb (length s) 12) (refused 1 0)
     (cond (eqb (zOf s) 1) (refused 3 0)
-    (afterReading s (messageOf s) (sectionsOf s .additional .end))))
+    (afterReading s (messageRead s) (sectionsOf s .additional .end))))

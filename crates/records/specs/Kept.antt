@@ -1,5 +1,5 @@
 -- What the uncompressed form keeps: the header, and of every entry all but names and RDLENGTH. Where no name in an entry meets
--- a pointer, its form is its own octets. Assumes nothing.
+-- a pointer, its form is its own octets.
 use mathlib.Core.Path.{_≡_, refl, sym, ap, ap₂, _∙_, subst}
 use mathlib.Core.Bool.{true, false}
 use mathlib.Core.List.{List, [], _∷_, _++_, append-assoc}
@@ -15,7 +15,7 @@ use Rattle.names.specs.NameLaws.{named-name, named-next, read-sized, read-form,
 use Rattle.records.specs.Layout.{laid, rdataAt}
 use Rattle.records.specs.Message.{Message, Question, Record, questionForm, recordForm, headerForm, form}
 use Rattle.records.specs.Read.{entry, firstCut, questionAt, recordAt, reached, sectionAt, sectionFrom}
-use Rattle.records.specs.Decode.{headerOf, zOf, sectionsOf, messageOf, accepted, decode}
+use Rattle.records.specs.Decode.{headerOf, zOf, sectionsOf, messageRead, accepted, decode}
 use Rattle.records.specs.RecordLaws.{laid-octets, pieces-fill, pieces-same, pieces-whole, fields-room, entry-value, entry-next, with-name-back, with-fields-back, filled-back, room-back}
 use Rattle.records.specs.MessageLaws.{section-count, from-count, from-reached, decode-back}
 use Rattle.records.specs.Parts.{layoutIn, rdata-pieces}
@@ -75,8 +75,8 @@ low-bits x z =
     omega arith
 
 -- the first 12 octets of the form are the message's: Z is clear and the counts are those of the sections
-pub header-same : (s : List ℕ) (i : ℕ) → ((j : ℕ) → getD s j 0 < 256) → 12 ≤ length s → (zOf s ≡ 1 → ⊥) → sectionsOf s .additional .end ≡ reached i → headerForm (messageOf s) ≡ take 12 s
-unfolding headerForm messageOf headerOf
+pub header-same : (s : List ℕ) (i : ℕ) → ((j : ℕ) → getD s j 0 < 256) → 12 ≤ length s → (zOf s ≡ 1 → ⊥) → sectionsOf s .additional .end ≡ reached i → headerForm (messageRead s) ≡ take 12 s
+unfolding headerForm messageRead headerOf
 header-same s i o h z e =
     let c = sections-count s i e in
     let clear : getD s 3 0 / 64 % 2 ≡ 0 = omega arith in
@@ -98,7 +98,7 @@ pub header-kept : (s : List ℕ) (m : Message) → Octets s → decode s ≡ acc
 header-kept s m o e =
     let k = decode-back s m e in
     let same = header-same s (k .last) (getD-octet s o) (k .room) (k .clear) (k .came) in
-    ap (λ m. take 12 (form m)) (sym (k .same)) ∙ header-first (messageOf s) ∙ same
+    ap (λ m. take 12 (form m)) (sym (k .same)) ∙ header-first (messageRead s) ∙ same
 
 -- ---- fields
 -- a number of 16 bits is its own octets, and so is one of 32

@@ -1,4 +1,4 @@
--- RDATA with names inside: the layouts of the types of RFC 1035. Assumes nothing.
+-- RDATA with names inside: the layouts of the types of RFC 1035.
 use mathlib.Core.Bool.{Bool, true, false, cond}
 use mathlib.Core.Option.{Option, none, some}
 use mathlib.Core.List.{List, [], _∷_, _++_}
@@ -69,5 +69,5 @@ laid? (laid l) = true
 laid? (misfit fault) = false
 
 -- octets are RDATA of a TYPE without pointers: read by themselves, with no pointer allowed, they have no fault
-unfoldable pub fits? : ℕ → List ℕ → Bool
-fits? type l = laid? (rdataAt false l type 0 (length l))
+unfoldable pub rdataFits? : ℕ → List ℕ → Bool
+rdataFits? type l = laid? (rdataAt false l type 0 (length l))

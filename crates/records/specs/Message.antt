@@ -1,4 +1,4 @@
--- What a message holds, when it is valid, and its uncompressed form. Assumes nothing.
+-- What a message holds, when it is valid, and its uncompressed form.
 use mathlib.Core.Bool.{Bool, _&&_}
 use mathlib.Core.List.{List, [], _∷_, _++_}
 use Prim.Native.Nat.{ℕ, _+_, _*_}
@@ -7,7 +7,7 @@ use lib.ListN.{length}
 use Rattle.octets.specs.Lists.{each, all, octet?, word?, long?}
 use Rattle.octets.specs.Fields.{two, four}
 use Rattle.names.specs.Name.{Name, nameForm, name?}
-use Rattle.records.specs.Layout.{fits?}
+use Rattle.records.specs.Layout.{rdataFits?}
 
 -- the header but for its counts, which are those of the sections, and for Z, which is never set
 pub record Header : Type 0 where
@@ -101,7 +101,7 @@ unfoldable pub question? : Question → Bool
 question? q = name? (q .name) && word? (q .type) && word? (q .class)
 
 unfoldable pub record? : Record → Bool
-record? r = name? (r .name) && word? (r .type) && word? (r .class) && long? (r .ttl) && all octet? (r .rdata) && fits? (r .type) (r .rdata)
+record? r = name? (r .name) && word? (r .type) && word? (r .class) && long? (r .ttl) && all octet? (r .rdata) && rdataFits? (r .type) (r .rdata)
 
 -- the number of entries of a section is a number of 16 bits
 abbrev pub section? : {A : Type 0} → (A → Bool) → List A → Bool

@@ -1,4 +1,4 @@
--- Laws of reading a whole message. Assumes nothing.
+-- Laws of reading a whole message.
 use mathlib.Core.Path.{_≡_, refl, sym, _∙_, ap, subst}
 use mathlib.Core.Logic.{_↔_}
 use mathlib.Core.Bool.{Bool, true, false, _&&_, cond}
@@ -12,11 +12,11 @@ use lib.ListN.{length, drop, length-append}
 use Rattle.octets.specs.Lists.{all, Octets, word?, each}
 use Rattle.octets.specs.Bits.{both, and-left, and-right, All-append}
 use Rattle.octets.specs.Fields.{two, four, twoAt, drop-past, two-back, getD-octet, twoAt-word, two-octets, four-octets}
-use Rattle.names.specs.Name.{nameForm, Fault, number}
+use Rattle.names.specs.Name.{nameForm, Fault, refusalNumber}
 use Rattle.names.specs.NameLaws as N
 use Rattle.records.specs.Message.{Header, Question, Record, Message, flagsHigh, flagsLow, questionForm, recordForm, headerForm, form, header?, question?, record?, section?, valid?}
 use Rattle.records.specs.Read.{Entry, entry, bad, questionAt, recordAt, Reached, reached, stopped, add, sectionAt, sectionFrom}
-use Rattle.records.specs.Decode.{headerOf, zOf, sectionsOf, messageOf, Decoded, accepted, refused, afterReading, decode}
+use Rattle.records.specs.Decode.{headerOf, zOf, sectionsOf, messageRead, Decoded, accepted, refused, afterReading, decode}
 use Rattle.records.specs.RecordLaws.{question-parts, record-parts, record-long, question-back, question-read, record-back, record-read}
 
 -- ---- sections
@@ -323,8 +323,8 @@ module _ (m : Message) (v : Valid m) (h : length (form m) ≤ 65535) where
       rw (c₁, c₂, c₃, c₄, d₁, d₂, d₃, d₄, long)
 
   -- the message read
-  form-message : messageOf (form m) ≡ m
-  unfolding messageOf
+  form-message : messageRead (form m) ≡ m
+  unfolding messageRead
   form-message = rw (form-sections, header-back m (v .header))
 
 -- a valid message within the limit is read back from its form
@@ -384,7 +384,7 @@ pub record Taken (s : List ℕ) (m : Message) : Type 0 where
   pub last : ℕ
   pub came : sectionsOf s .additional .end ≡ reached last
   pub whole : length s ≤ last
-  pub same : messageOf s ≡ m
+  pub same : messageRead s ≡ m
   pub limit : length (form m) ≤ 65535
 
 -- an accepted message gives all of this
@@ -394,7 +394,7 @@ decode-back s m e =
     let (a, e₁) = cond-back (ltb 65535 (length s)) 2 0 _ m e in
     let (b, e₂) = cond-back (ltb (length s) 12) 1 0 _ m e₁ in
     let (c, e₃) = cond-back (eqb (zOf s) 1) 3 0 _ m e₂ in
-    let (at, p, q, d, same) = ended-back s (messageOf s) (sectionsOf s .additional .end) m e₃ in
+    let (at, p, q, d, same) = ended-back s (messageRead s) (sectionsOf s .additional .end) m e₃ in
     record {
       small = ltb-false 65535 (length s) a;
       room = ltb-false (length s) 12 b;
@@ -407,8 +407,8 @@ decode-back s m e =
     }
 
 -- the sections of octets that are read to their end
-sections-valid : (s : List ℕ) (i : ℕ) → Octets s → sectionsOf s .additional .end ≡ reached i → Valid (messageOf s)
-unfolding sectionsOf messageOf
+sections-valid : (s : List ℕ) (i : ℕ) → Octets s → sectionsOf s .additional .end ≡ reached i → Valid (messageRead s)
+unfolding sectionsOf messageRead
 sections-valid s i o e =
     let f₁ = sectionAt questionAt s (twoAt s 4) 12 in
     let f₂ = sectionFrom recordAt s (twoAt s 6) (f₁ .end) in
@@ -438,7 +438,7 @@ sections-valid s i o e =
 pub decode-valid : (s : List ℕ) (m : Message) → Octets s → decode s ≡ accepted m → T (valid? m) × (length (form m) ≤ 65535)
 decode-valid s m o e =
     let k = decode-back s m e in
-    (subst (λ (n : Message). T (valid? n)) (k .same) (valid-made (messageOf s) (sections-valid s (k .last) o (k .came))), k .limit)
+    (subst (λ (n : Message). T (valid? n)) (k .same) (valid-made (messageRead s) (sections-valid s (k .last) o (k .came))), k .limit)
 
 -- ---- the form of a valid message is octets
 -- the form of a valid question is octets

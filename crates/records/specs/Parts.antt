@@ -1,5 +1,5 @@
 -- Questions, records and RDATA in the parts that the code reads: a name with the fields after it, a record without what is inside RDATA,
--- and RDATA piece by piece. Assumes nothing.
+-- and RDATA piece by piece.
 use mathlib.Core.Path.{_≡_, refl, sym, ap, _∙_}
 use mathlib.Core.Bool.{Bool, true, false, cond}
 use mathlib.Core.Option.{Option, none, some}
@@ -67,8 +67,8 @@ headed s n next =
     cond (ltb (length s) (next + 10 + size)) (past-end (next + 10))
     (entry (record { name = n; type = twoAt s next; class = twoAt s (next + 2); ttl = fourAt s (next + 4); rdata = next + 10; rdlength = size }) (next + 10 + size))
 
-unfoldable pub headAt : List ℕ → ℕ → Entry HeadOf
-headAt s at = with-name (begunAt s at (2 ∷ 2 ∷ 4 ∷ 2 ∷ [])) (headed s)
+unfoldable pub recordHeadAt : List ℕ → ℕ → Entry HeadOf
+recordHeadAt s at = with-name (begunAt s at (2 ∷ 2 ∷ 4 ∷ 2 ∷ [])) (headed s)
 
 -- a record's head, then its RDATA
 abbrev pub with-rdata : List ℕ → Entry HeadOf → Entry Record
@@ -102,8 +102,8 @@ stepAt (name ∷ layout) s start end at = nameStep (nameAt s (rdata start end) a
 
 -- ---- a record by its head
 -- a record is its head, then its RDATA
-pub record-head : (s : List ℕ) (at : ℕ) → recordAt s at ≡ with-rdata s (headAt s at)
-unfolding recordAt headAt begunAt
+pub record-head : (s : List ℕ) (at : ℕ) → recordAt s at ≡ with-rdata s (recordHeadAt s at)
+unfolding recordAt recordHeadAt begunAt
 record-head s at = begun-fields s (2 ∷ 2 ∷ 4 ∷ 2 ∷ []) read (nameAt s message at) ∙ go (begun s (2 ∷ 2 ∷ 4 ∷ 2 ∷ []) (nameAt s message at))
   where
     inside : Name → ℕ → Laid
@@ -128,8 +128,8 @@ record-head s at = begun-fields s (2 ∷ 2 ∷ 4 ∷ 2 ∷ []) read (nameAt s me
     go (faulty fault) = refl
 
 -- a record ends after its RDATA
-pub head-next : (s : List ℕ) (at : ℕ) (h : HeadOf) (next : ℕ) → headAt s at ≡ entry h next → next ≡ h .rdata + h .rdlength
-unfolding headAt
+pub head-next : (s : List ℕ) (at : ℕ) (h : HeadOf) (next : ℕ) → recordHeadAt s at ≡ entry h next → next ≡ h .rdata + h .rdlength
+unfolding recordHeadAt
 head-next s at h next e = go (begunAt s at (2 ∷ 2 ∷ 4 ∷ 2 ∷ [])) e
   where
     room : (b : Bool) (i : ℕ) (k : HeadOf) → cond b (past-end i) (entry k (k .rdata + k .rdlength)) ≡ entry h next → next ≡ h .rdata + h .rdlength

@@ -1,4 +1,4 @@
--- RDATA's layouts, piece by piece: how many pieces and octets they have, and the ways of a step. Assumes nothing.
+-- RDATA's layouts, piece by piece: how many pieces and octets they have, and the ways of a step.
 use mathlib.Core.Path.{_≡_, refl, sym, ap, _∙_, subst}
 use mathlib.Core.Bool.{Bool, true, false, cond}
 use mathlib.Core.Option.{Option, none, some, Option·none-ne-some}

@@ -1,4 +1,4 @@
--- Reading questions and records, left to right, to the first fault. Assumes nothing.
+-- Reading questions and records, left to right, to the first fault.
 use mathlib.Core.Bool.{true, cond}
 use mathlib.Core.Option.{Option, none, some}
 use mathlib.Core.List.{List, [], _∷_}

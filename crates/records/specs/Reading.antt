@@ -1,4 +1,4 @@
--- The readers' ways through the code: a name and its fields, a question, a record's head. Assumes nothing.
+-- The readers' ways through the code: a name and its fields, a question, a record's head.
 use mathlib.Core.Path.{_≡_, refl, sym, ap, _∙_, subst}
 use mathlib.Core.Option.{none, some}
 use mathlib.Core.List.{List, [], _∷_}
@@ -22,7 +22,7 @@ use Rattle.names.specs.declared.Named.the-variants.{Read, Faulty}
 use Rattle.names.specs.declared.NameRead.{NameRead}
 use Rattle.records.specs.Read.{firstCut, questionAt}
 use Rattle.records.specs.RecordLaws.{sum}
-use Rattle.records.specs.Parts.{begunAt, question-begun, headAt}
+use Rattle.records.specs.Parts.{begunAt, question-begun, recordHeadAt}
 use Rattle.records.specs.declared.Question.the-variants as question
 use Rattle.records.specs.declared.Record.the-variants as record′
 use Rattle.records.specs.Answer.{padded, Begins, questionRead, recordRead}
@@ -69,20 +69,20 @@ module _ {r : NameRead} where
 
 -- ---- fields after a name
 -- the fields before the i-th fit, and end at `place`
-pub record Fields (s widths : List ℕ) (next place i : ℕ) : Type 0 where
+pub record FieldsLoop (s widths : List ℕ) (next place i : ℕ) : Type 0 where
   pub same : firstCut s next widths ≡ firstCut s place (drop i widths)
   pub long : place + sum (drop i widths) ≡ next + sum widths
 
-pub fields-start : (s widths : List ℕ) (next : ℕ) → Fields s widths next next 0
+pub fields-start : (s widths : List ℕ) (next : ℕ) → FieldsLoop s widths next next 0
 fields-start s widths next = record { same = refl; long = refl }
 
-module _ {s widths : List ℕ} {next place i : ℕ} (f : Fields s widths next place i) where
+module _ {s widths : List ℕ} {next place i : ℕ} (f : FieldsLoop s widths next place i) where
   -- the i-th field and those after it
   first : i < length widths → drop i widths ≡ getD widths i 0 ∷ drop (i + 1) widths
   first h = rw (add-one, drop-cons widths i 0)
 
   -- it fits
-  pub fields-more : {width : ℕ} → i < length widths → width ≡ getD widths i 0 → place + width ≤ length s → Fields s widths next (place + width) (i + 1)
+  pub fields-more : {width : ℕ} → i < length widths → width ≡ getD widths i 0 → place + width ≤ length s → FieldsLoop s widths next (place + width) (i + 1)
   unfolding firstCut
   fields-more {width} h e k =
       record {
@@ -120,20 +120,20 @@ module _ (s widths : List ℕ) (at : ℕ) {r : NameRead} (e : r ≡ nameRead (na
       e ∙ rw (q)
 
   module _ {next size : ℕ} (p : r .answer ≡ Read next size) where
-    pub begun-cut : {place i width : ℕ} → Fields s widths next place i → i < length widths → width ≡ getD widths i 0 → length s < place + width
+    pub begun-cut : {place i width : ℕ} → FieldsLoop s widths next place i → i < length widths → width ≡ getD widths i 0 → length s < place + width
         → record { answer = Faulty (Cut place); octets = replicate 255 0 } ≡ nameRead (begunAt s at widths)
     unfolding begunAt nameRead failed
     begun-cut f h k l =
         let (n, q, a, b) = name-read (nameAt s message at) e p in
         rw (q, fields-cut f h k l)
 
-    pub begun-whole : {place i : ℕ} → Fields s widths next place i → length widths ≤ i → r ≡ nameRead (begunAt s at widths)
+    pub begun-whole : {place i : ℕ} → FieldsLoop s widths next place i → length widths ≤ i → r ≡ nameRead (begunAt s at widths)
     unfolding begunAt
     begun-whole f h =
         let (n, q, a, b) = name-read (nameAt s message at) e p in
         e ∙ rw (q, fields-end f h .0)
 
-    pub begun-fits : {place i : ℕ} → Fields s widths next place i → length widths ≤ i → place ≤ length s → Begins (r .answer) at widths (length s)
+    pub begun-fits : {place i : ℕ} → FieldsLoop s widths next place i → length widths ≤ i → place ≤ length s → Begins (r .answer) at widths (length s)
     begun-fits f h k = let (a, b, c) = name-ends s at e p in rw p (a, omega (arith, fields-end f h .1), c)
 
 -- the bounds of a name that is read
@@ -161,28 +161,28 @@ module _ (s : List ℕ) (at : ℕ) {r : NameRead} (e : r ≡ nameRead (begunAt s
 
 -- ---- heads of records
 module _ (s : List ℕ) (at : ℕ) {r : NameRead} (e : r ≡ nameRead (begunAt s at (2 ∷ 2 ∷ 4 ∷ 2 ∷ []))) where
-  pub head-faulty : {f : Fault} → r .answer ≡ Faulty f → record { answer = record′.Faulty f; name = r .octets } ≡ recordRead (headAt s at)
-  unfolding recordRead headAt
+  pub head-faulty : {f : Fault} → r .answer ≡ Faulty f → record { answer = record′.Faulty f; name = r .octets } ≡ recordRead (recordHeadAt s at)
+  unfolding recordRead recordHeadAt
   head-faulty {f} p = go (name-faulty (begunAt s at (2 ∷ 2 ∷ 4 ∷ 2 ∷ [])) e p)
     where
       go : (x : (fault : name.Fault) × (begunAt s at (2 ∷ 2 ∷ 4 ∷ 2 ∷ []) ≡ faulty fault) × (f ≡ faultOf fault) × (r .octets ≡ replicate 255 0))
-          → record { answer = record′.Faulty f; name = r .octets } ≡ recordRead (headAt s at)
+          → record { answer = record′.Faulty f; name = r .octets } ≡ recordRead (recordHeadAt s at)
       go (fault, q, a, b) = rw (q, a, b)
 
   module _ {next size : ℕ} (p : r .answer ≡ Read next size) {rdlength : ℕ} (l : rdlength ≡ twoAt s (next + 8)) where
-    pub head-cut : length s < next + 10 + rdlength → record { answer = record′.Faulty (Cut (next + 10)); name = replicate 255 0 } ≡ recordRead (headAt s at)
-    unfolding recordRead headAt
+    pub head-cut : length s < next + 10 + rdlength → record { answer = record′.Faulty (Cut (next + 10)); name = replicate 255 0 } ≡ recordRead (recordHeadAt s at)
+    unfolding recordRead recordHeadAt
     head-cut h =
         let (n, q, a, b) = name-read (begunAt s at (2 ∷ 2 ∷ 4 ∷ 2 ∷ [])) e p in
         rw (q, ← l, lt-ltb (length s) (next + 10 + rdlength) h)
 
     pub head-whole : {kind class ttl : ℕ} → next + 10 + rdlength ≤ length s → kind ≡ twoAt s next → class ≡ twoAt s (next + 2) → ttl ≡ fourAt s (next + 4)
         → record { answer = record′.Read (record { size = size; kind = kind; class = class; ttl = ttl; rdata = next + 10; rdlength = rdlength }); name = r .octets }
-        ≡ recordRead (headAt s at)
-    unfolding recordRead headAt
+        ≡ recordRead (recordHeadAt s at)
+    unfolding recordRead recordHeadAt
     head-whole {kind} {class} {ttl} h k c t = go (name-read (begunAt s at (2 ∷ 2 ∷ 4 ∷ 2 ∷ [])) e p)
       where
         go : (x : (n : Name) × (begunAt s at (2 ∷ 2 ∷ 4 ∷ 2 ∷ []) ≡ named n next) × (size ≡ length (nameForm n)) × (r .octets ≡ padded (nameForm n)))
             → record { answer = record′.Read (record { size = size; kind = kind; class = class; ttl = ttl; rdata = next + 10; rdlength = rdlength }); name = r .octets }
-            ≡ recordRead (headAt s at)
+            ≡ recordRead (recordHeadAt s at)
         go (n, q, a, b) = rw (q, a, b, k, c, t, ← l, le-ltb (length s) (next + 10 + rdlength) h)

@@ -1,4 +1,4 @@
--- Laws of reading RDATA, questions and records. Assumes nothing.
+-- Laws of reading RDATA, questions and records.
 use mathlib.Core.Path.{_≡_, refl, sym, _∙_, ap, ap₂, subst}
 use mathlib.Core.Bool.{Bool, true, false, _&&_, cond}
 use mathlib.Core.Option.{Option, none, some, Option·some-ne-none}
@@ -19,7 +19,7 @@ use Rattle.names.specs.NameLaws.{Sized, form-some, read-back, read-back-sized, 
 use Rattle.names.specs.NameLaws as N
 use Rattle.records.specs.Message.{Question, Record, questionForm, recordForm, question?, record?}
 use Rattle.records.specs.Read.{Entry, entry, bad, firstCut, with-name, with-fields, filled, questionAt, recordAt}
-use Rattle.records.specs.Layout.{Piece, fixed, name, layoutOf, Laid, laid, misfit, before, pieces, rdataAt, laid?, fits?}
+use Rattle.records.specs.Layout.{Piece, fixed, name, layoutOf, Laid, laid, misfit, before, pieces, rdataAt, laid?, rdataFits?}
 
 -- ---- equal answers
 -- the octets of an answer
@@ -192,8 +192,8 @@ unfolding rdataAt
 rdata-listed jumps s type at size layout h e = rw (ne-eqb size 0 h, e, rdataAt)
 
 -- RDATA that fits, read in place, is itself
-pub rdata-back : (jumps : Bool) (s r : List ℕ) (type at : ℕ) (d : List ℕ) → T (fits? type d) → drop at s ≡ d ++ r → rdataAt jumps s type at (length d) ≡ laid d
-unfolding fits?
+pub rdata-back : (jumps : Bool) (s r : List ℕ) (type at : ℕ) (d : List ℕ) → T (rdataFits? type d) → drop at s ≡ d ++ r → rdataAt jumps s type at (length d) ≡ laid d
+unfolding rdataFits?
 rdata-back jumps s r type at d h e = go (eqb (length d) 0) refl (layoutOf type) refl
   where
     go : (b : Bool) → eqb (length d) 0 ≡ b → (o : Option (List Piece)) → layoutOf type ≡ o → rdataAt jumps s type at (length d) ≡ laid d
@@ -214,8 +214,8 @@ laid-test e = subst (λ (w : Laid). T (laid? w)) (sym e) tt
 
 -- RDATA that is read fits; from octets it is octets
 pub rdata-fits : (jumps : Bool) (s : List ℕ) (type at size : ℕ) (d : List ℕ) → Octets s → at + size ≤ length s → rdataAt jumps s type at size ≡ laid d
-    → T (fits? type d) × Octets d
-unfolding fits?
+    → T (rdataFits? type d) × Octets d
+unfolding rdataFits?
 rdata-fits jumps s type at size d o h e = go (eqb size 0) refl (layoutOf type) refl (eqb (length d) 0) refl
   where
     -- RDATA of no octets fits
@@ -357,7 +357,7 @@ question-read s at q next o e =
 -- ---- records
 -- the parts of a valid record
 pub record-parts : (r : Record) → T (record? r)
-    → T (name? (r .name)) × (r .type < 65536) × (r .class < 65536) × (r .ttl < 4294967296) × Octets (r .rdata) × T (fits? (r .type) (r .rdata))
+    → T (name? (r .name)) × (r .type < 65536) × (r .class < 65536) × (r .ttl < 4294967296) × Octets (r .rdata) × T (rdataFits? (r .type) (r .rdata))
 unfolding record?
 record-parts r h =
     let a = name? (r .name) in
@@ -365,7 +365,7 @@ record-parts r h =
     let c = word? (r .class) in
     let d = long? (r .ttl) in
     let f = all octet? (r .rdata) in
-    let g = fits? (r .type) (r .rdata) in
+    let g = rdataFits? (r .type) (r .rdata) in
     let h₄ = and-left (a && b && c && d && f) g h in
     let h₃ = and-left (a && b && c && d) f h₄ in
     let h₂ = and-left (a && b && c) d h₃ in
@@ -379,7 +379,7 @@ record-parts r h =
     )
 
 -- a record of valid parts is valid
-record-made : (r : Record) → T (name? (r .name)) → r .type < 65536 → r .class < 65536 → r .ttl < 4294967296 → Octets (r .rdata) → T (fits? (r .type) (r .rdata))
+record-made : (r : Record) → T (name? (r .name)) → r .type < 65536 → r .class < 65536 → r .ttl < 4294967296 → Octets (r .rdata) → T (rdataFits? (r .type) (r .rdata))
     → T (record? r)
 unfolding record?
 record-made r v t c l o z =
@@ -388,7 +388,7 @@ record-made r v t c l o z =
     let d = word? (r .class) in
     let f = long? (r .ttl) in
     let g = all octet? (r .rdata) in
-    let i = fits? (r .type) (r .rdata) in
+    let i = rdataFits? (r .type) (r .rdata) in
     both (a && b && d && f && g) i
     (both (a && b && d && f) g
     (both (a && b && d) f (both (a && b) d (both a b v (lt→ltb (r .type) 65536 t)) (lt→ltb (r .class) 65536 c)) (lt→ltb (r .ttl) 4294967296 l))

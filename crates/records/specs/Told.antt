@@ -1,4 +1,4 @@
--- What the code's answers say of the definitions': questions, records but for RDATA, steps through RDATA. Assumes nothing.
+-- What the code's answers say of the definitions': questions, records but for RDATA, steps through RDATA.
 use mathlib.Core.Path.{_≡_, refl, sym, ap, _∙_, subst}
 use mathlib.Core.Bool.{true}
 use mathlib.Core.List.{List}
@@ -11,7 +11,7 @@ use Rattle.names.specs.Answer.{faultOf}
 use Rattle.records.specs.Layout.{Piece, pieces}
 use Rattle.records.specs.Message.{Question}
 use Rattle.records.specs.Read.{Entry, entry, bad, questionAt}
-use Rattle.records.specs.Parts.{HeadOf, headAt, StepOf, stepAt, follow, pieces-step, part-to, name-to, done, stops}
+use Rattle.records.specs.Parts.{HeadOf, recordHeadAt, StepOf, stepAt, follow, pieces-step, part-to, name-to, done, stops}
 use Rattle.records.specs.Answer.{padded, askedOf, questionRead, Asks, headRead, recordRead, Heads, plainly, stepRead}
 use Rattle.records.specs.declared.Asked.{Asked}
 use Rattle.records.specs.declared.Head.{Head}
@@ -103,7 +103,7 @@ question-room s at {r} {a} e p =
     let (q, next, u, v, l) = asked (questionAt s at) e p in
     form-room (nameForm (q .name)) (r .name) (a .size) (ap (λ (c : Asked). c .size) v) l
 
-pub record-room : (s : List ℕ) (at : ℕ) {r : RecordRead} {a : Head} → r ≡ recordRead (headAt s at) → r .answer ≡ record′.Read a → a .size ≤ length (r .name)
+pub record-room : (s : List ℕ) (at : ℕ) {r : RecordRead} {a : Head} → r ≡ recordRead (recordHeadAt s at) → r .answer ≡ record′.Read a → a .size ≤ length (r .name)
 record-room s at {r} {a} e p =
-    let (k, next, u, v, l) = headed (headAt s at) e p in
+    let (k, next, u, v, l) = headed (recordHeadAt s at) e p in
     form-room (nameForm (k .name)) (r .name) (a .size) (ap (λ (c : Head). c .size) v) l

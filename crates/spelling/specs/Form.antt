@@ -1,4 +1,4 @@
--- The text of a name from its octets without pointers. Assumes nothing.
+-- The text of a name from its octets without pointers.
 use mathlib.Core.Path.{_≡_, refl}
 use mathlib.Core.Bool.{cond}
 use mathlib.Core.List.{List, [], _∷_, _++_, append-assoc, append-nil}
@@ -13,7 +13,7 @@ use Rattle.names.specs.Name.{Name, nameForm, name?}
 use Rattle.names.specs.NameLaws.{Sized, name-sized}
 use Rattle.spelling.specs.Spelling.{spelled, labelText, nameText}
 
--- the text from within a label on: the label's next `left` octets and its dot, the labels behind it, and the quote at the root octet or where the octets end
+-- the text from within a label on: the label's next `left` octets and its dot, the labels after it, and the quote at the root octet or where the octets end
 unfoldable pub within : List ℕ → ℕ → List ℕ
 within [] left = 46 ∷ 34 ∷ []
 within (x ∷ s) zero = 46 ∷ cond (eqb x 0) (34 ∷ []) (within s x)
@@ -29,7 +29,7 @@ unfoldable pub formText : List ℕ → List ℕ
 formText [] = 34 ∷ []
 formText (x ∷ s) = cond (eqb x 0) (ascii ".\"") (within s x)
 
--- a label's octets, and then the labels behind it
+-- a label's octets, and then the labels after it
 pub within-label : (s : List ℕ) (left : ℕ) → within s left ≡ labelText (take left s) ++ labels (drop left s)
 unfolding within labels labelText
 within-label [] zero = refl
@@ -46,7 +46,7 @@ labels-text (l ∷ n) r h =
     let some = h .0 in
     rw (ne-eqb (length l) 0 (omega arith), within-label, append-assoc l (nameForm n) r, take-append-seam, drop-append-seam, labels-text n r (h .2))
 
--- whatever stands behind them
+-- whatever follows them
 pub form-text-more : (n : Name) (r : List ℕ) → T (name? n) → formText (nameForm n ++ r) ≡ nameText n
 unfolding formText nameText labels nameForm
 form-text-more [] r h = refl

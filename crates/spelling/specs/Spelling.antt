@@ -1,4 +1,4 @@
--- How names, signed numbers and strings are spelled. Assumes nothing.
+-- How names, signed numbers and strings are spelled.
 use mathlib.Core.Bool.{Bool, not, _&&_, cond}
 use mathlib.Core.List.{List, [], _∷_, _++_}
 use Prim.Native.Nat.{ℕ, _+_, _-_, _/_, _%_}
@@ -27,7 +27,7 @@ spelled x =
 unfoldable pub labelText : List ℕ → List ℕ
 labelText label = ended spelled 46 label
 
--- a name and the quote behind it: each label with its dot; the root is `.`
+-- a name and the quote after it: each label with its dot; the root is `.`
 unfoldable pub nameText : Name → List ℕ
 nameText name = cond (none? name) (ascii ".\"") (ended labelText 34 name)
 
@@ -54,6 +54,6 @@ printable? x = leb 32 x && leb x 126
 unfoldable pub stringOctet : ℕ → List ℕ
 stringOctet x = cond (eqb x 34) (ascii "\\\"") (cond (eqb x 92) (ascii "\\\\") (x ∷ []))
 
--- a string's octets and the quote behind them
+-- a string's octets and the quote after them
 unfoldable pub stringText : List ℕ → List ℕ
 stringText l = ended stringOctet 34 l

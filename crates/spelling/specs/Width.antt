@@ -1,4 +1,4 @@
--- The width of the spelling of an octet. Assumes nothing.
+-- The width of the spelling of an octet.
 use mathlib.Core.Path.{_≡_, refl}
 use mathlib.Core.Bool.{Bool, true, false, cond}
 use mathlib.Core.List.{List, [], _∷_, _++_}

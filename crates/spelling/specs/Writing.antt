@@ -1,4 +1,4 @@
--- The steps of the writers. Assumes nothing.
+-- The steps of the writers.
 use mathlib.Core.Path.{_≡_, refl, sym, _∙_}
 use mathlib.Core.Bool.{Bool, true, false, cond}
 use mathlib.Core.List.{List, [], _∷_, _++_, append-assoc}
@@ -58,7 +58,7 @@ pub wrote-digits : (x : ℕ) {b b₁ b₂ b₃ b₄ : List ℕ} {at r₁ r₂ r�
     → Wrote b at (ascii "\\\\" ++ three-digits x) b₄ r₄
 wrote-digits x t u v w = then (then (then t u) v) w
 
--- ---- a label, a string: after the turns of a loop over its octets, the octet behind them
+-- ---- a label, a string: after the turns of a loop over its octets, the octet after them
 wrote-ended : (f : ℕ → List ℕ) (stop : ℕ) (l : List ℕ) {b b₁ b₂ : List ℕ} {at r₁ r₂ i : ℕ} → length l ≤ i → Wrote b at (each f (take i l)) b₁ r₁ → Wrote b₁ r₁ (stop ∷ []) b₂ r₂
     → Wrote b at (ended f stop l) b₂ r₂
 wrote-ended f stop l h p q = rw (each-ended f stop l) (then (each-end f l h p) q)
@@ -97,7 +97,7 @@ wrote-minus {n} h k p q =
     rw (le-ltb n 2147483648 h, e) (then p q)
 
 -- ---- a name
--- the writer of a name stands at a length octet or at the end: what is written and the text from there on are the whole
+-- the writer of a name is at a length octet or at the end: what is written and the text from there on are the whole
 pub record Begun (form b : List ℕ) (at : ℕ) (b′ : List ℕ) (to i : ℕ) : Type 0 where
   pub done : List ℕ
   pub wrote : Wrote b at done b′ to
@@ -138,7 +138,7 @@ module _ {form b b₁ : List ℕ} {at to i n : ℕ} (g : Begun form b at b₁ to
   pub begun-root : {b₂ : List ℕ} {r : ℕ} → n ≡ 0 → Wrote b₁ to (34 ∷ []) b₂ r → Wrote b at (formText form) b₂ r
   begun-root z v = begun-rest g (rw (labels-root form i h (sym e ∙ z)) v)
 
-  -- a label, and what stands behind it
+  -- a label, and what follows it
   module _ (z : n ≡ 0 → ⊥) where
     label-next : labels (drop i form) ≡ labelText (take n (drop (i + 1) form)) ++ labels (drop (i + 1 + n) form)
     unfolding labels

@@ -64,7 +64,7 @@ fn put_label(out: &mut [u8], at: usize, label: &[u8], table: &[u8; 256]) -> usiz
     put(out, to, 46)
 }
 
-// Writes the name whose octets without pointers are `form`, and the quote behind it.
+// Writes the name whose octets without pointers are `form`, and the quote after it.
 pub fn put_name(out: &mut [u8], at: usize, form: &[u8]) -> usize
     requires { ⌜ (at < 2 ^ 38) × (length (now form) ≤ 255) ⌝ }
     ensures { λ r. ⌜ Wrote (now (out .entry)) at (formText (now (form .entry))) (now (out .exit)) r ⌝ }
@@ -124,7 +124,7 @@ fn put_string_octet(out: &mut [u8], at: usize, x: u8) -> usize
     put(out, at, x)
 }
 
-// Writes the octets of a string and the quote behind them.
+// Writes the octets of a string and the quote after them.
 pub fn put_string(out: &mut [u8], at: usize, src: &[u8]) -> usize
     requires { ⌜ at + 2 * length (now src) + 1 < 2 ^ 40 ⌝ }
     ensures { λ r. ⌜ Wrote (now (out .entry)) at (stringText (now (src .entry))) (now (out .exit)) r ⌝ }

@@ -1,16 +1,16 @@
--- Texts at the limits of the reader's rules, one row each, and one theorem over the table. Assumes nothing.
+-- Texts at the limits of the reader's rules, one row each, and one theorem over the table.
 use mathlib.Core.Path.{_≡_, refl}
 use mathlib.Core.List.{List, [], _∷_, _++_, map}
 use Prim.Native.Nat.{ℕ}
 use Rattle.octets.specs.Decimal.{natural, positive, decimal}
 use Rattle.octets.specs.Hexadecimal.{hex, unhex, hexText}
 use Rattle.octets.specs.Codec.{tried}
-use Rattle.octets.specs.Lists.{ascii, lookup, textOf, key?, each}
+use Rattle.octets.specs.Lists.{ascii, lookup, rowText, key?, each}
 use Rattle.octets.specs.Answer.{Output, output, refused}
 use Rattle.names.specs.Name.{name?, label?, nameForm}
 use Rattle.names.specs.Walk.{walk, nameFrom}
 use Rattle.records.specs.Message.{header?, question?, record?, form, headerForm, questionForm, recordForm}
-use Rattle.records.specs.Layout.{fits?, layouts, layoutOf, pieces, rdataAt}
+use Rattle.records.specs.Layout.{rdataFits?, layouts, layoutOf, pieces, rdataAt}
 use Rattle.records.specs.Boundaries.{Verdict, taken, refuses}
 use Rattle.edns.specs.Edns.{rcodes, edns?, option?, rising?, divided, optionsOf, ednsOf, ednsRecord, optionForm, small-option?, flags}
 use Rattle.json.specs.Sample.{textWith}
@@ -19,7 +19,7 @@ use Rattle.options.specs.Options.{members, rows, formOf, shape, words}
 use Rattle.json.specs.View.{view?, additionals?, additional?, settled?, opt-entry?, messageOf, recordOf}
 use Rattle.json.specs.Limits.{within?, small-rdata?, small-options?}
 use Rattle.strict.specs.Members.{value?, member?, optionOf, octetsOf}
-use Rattle.strict.specs.Parser.{parse, document, head, question, entry, itemCodec, ednsElement, optionMembers, member, knownMember, otherMember, value, expiryNumber}
+use Rattle.strict.specs.Parser.{parse, document, head, questionCodec, recordCodec, itemCodec, ednsElement, optionMembers, member, knownMember, otherMember, value, expiryNumber}
 use Rattle.strict.specs.Spelt.{name, label, spelledOctet, spelledAt, escape, ddd, leads?, coded-from?, coded?, signedNumber, string, stringChar, stringAt, bare?, quoted}
 use Rattle.strict.specs.Reading.{reading}
 use Rattle.strict.specs.Meaning.{meaning, documentView, itemRecord, itemEdns, itemAdditional, unsigned, agrees?, counts?, ttl?, ednsItem?, item?}
@@ -39,7 +39,7 @@ readings =
     record { text = []; gives = refuses 20 0 }
     ∷ record { text = textWith "0" "0" "0" "0" "" "" "" ++ ascii " "; gives = refuses 20 0 }
     ∷ record { text = textWith "0" "0" "0" "0" "" "" ""; gives = taken }
-    -- numbers: a leading zero, a minus, out of range; 20 before 21 wherever each stands
+    -- numbers: a leading zero, a minus, out of range; 20 before 21 wherever each is
     ∷ record { text = textWith "00" "0" "0" "0" "" "" ""; gives = refuses 20 0 }
     ∷ record { text = textWith "-1" "0" "0" "0" "" "" ""; gives = refuses 20 0 }
     ∷ record { text = textWith "15" "0" "0" "0" "" "" ""; gives = taken }
@@ -181,5 +181,5 @@ readings =
 
 -- every row, computed
 pub readings-hold : map (λ (r : Reading). outcome (reading (r .text))) readings ≡ map (λ (r : Reading). r .gives) readings
-unfolding readings parse document head natural positive question entry name label spelledOctet spelledAt escape ddd leads? coded-from? coded? plain? signedNumber hex unhex string stringChar stringAt bare? printable? quoted itemCodec ednsElement optionMembers member knownMember otherMember value expiryNumber tried members rows flags rcodes formOf lookup textOf decimal spelled stringOctet hexText reading meaning documentView itemRecord itemEdns itemAdditional unsigned agrees? counts? ttl? ednsItem? item? view? additionals? additional? settled? opt-entry? edns? option? header? question? record? name? label? nameForm fits? walk nameFrom layouts layoutOf pieces rdataAt rising? divided optionsOf ednsOf key? shape words value? member? optionOf octetsOf within? small-rdata? small-option? small-options? messageOf recordOf ednsRecord optionForm each form headerForm questionForm recordForm
+unfolding readings parse document head natural positive questionCodec recordCodec name label spelledOctet spelledAt escape ddd leads? coded-from? coded? plain? signedNumber hex unhex string stringChar stringAt bare? printable? quoted itemCodec ednsElement optionMembers member knownMember otherMember value expiryNumber tried members rows flags rcodes formOf lookup rowText decimal spelled stringOctet hexText reading meaning documentView itemRecord itemEdns itemAdditional unsigned agrees? counts? ttl? ednsItem? item? view? additionals? additional? settled? opt-entry? edns? option? header? question? record? name? label? nameForm rdataFits? walk nameFrom layouts layoutOf pieces rdataAt rising? divided optionsOf ednsOf key? shape words value? member? optionOf octetsOf within? small-rdata? small-option? small-options? messageOf recordOf ednsRecord optionForm each form headerForm questionForm recordForm
 readings-hold = refl

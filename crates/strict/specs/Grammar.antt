@@ -1,4 +1,4 @@
--- What is in the grammar: the documents that can be spelled. Assumes nothing.
+-- What is in the grammar: the documents that can be spelled.
 use mathlib.Core.Option.{Option, none, some}
 use mathlib.Core.List.{List}
 use Prim.Native.Nat.{ℕ, _<_}

@@ -1,4 +1,4 @@
--- The message that a document means, limits of size aside. Assumes nothing.
+-- The message that a document means, limits of size aside.
 use mathlib.Core.Bool.{Bool, _&&_, cond}
 use mathlib.Core.Option.{Option, none, some}
 use mathlib.Core.List.{map}
@@ -48,7 +48,7 @@ ttl? (minus n) = leb n 2147483648
 abbrev pub recordItem? : RecordItem → Bool
 recordItem? r = ttl? (r .ttl)
 
--- Version is 0, RCODE modulo 16 is the header's, and each option member stands for an option
+-- Version is 0, RCODE modulo 16 is the header's, and each option member is that of an option
 unfoldable pub ednsItem? : ℕ → EdnsItem → Bool
 ednsItem? rcode e = eqb (e .version) 0 && eqb (e .rcode % 16) rcode && all member? (e .options)
 

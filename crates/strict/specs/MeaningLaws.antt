@@ -1,4 +1,4 @@
--- Laws of the meaning of a document: a valid view's document means that view, and a document that means a view is that view's. Assumes nothing.
+-- Laws of the meaning of a document: a valid view's document means that view, and a document that means a view is that view's.
 use mathlib.Core.Path.{_≡_, refl, sym, _∙_, ap, ap₂, subst}
 use mathlib.Core.Bool.{Bool, true, false, not, _&&_, cond}
 use mathlib.Core.Option.{some}
@@ -12,7 +12,7 @@ use Rattle.octets.specs.Lists.{all, All, count, octet?, word?, long?, key?}
 use Rattle.octets.specs.Bits.{is-true, both, and-left, and-right, all→All, All-map, octets-in}
 use Rattle.names.specs.Name.{Name, label?, name?}
 use Rattle.names.specs.NameLaws.{name-labels, label-octets}
-use Rattle.records.specs.Layout.{fits?}
+use Rattle.records.specs.Layout.{rdataFits?}
 use Rattle.records.specs.Message.{Header, Question, Record, bit?, four-bits?, header?, question?, record?, section?}
 use Rattle.spelling.specs.Spelling.{Signed, plus, minus, signed}
 use Rattle.options.specs.Options.{EdnsOption, memberOf}
@@ -90,7 +90,7 @@ record-parts : (r : Record) → T (record? r) → T (name? (r .name)) × T (long
 unfolding record?
 record-parts r h =
     let a = name? (r .name) && word? (r .type) && word? (r .class) in
-    let i = and-left (a && long? (r .ttl) && all octet? (r .rdata)) (fits? (r .type) (r .rdata)) h in
+    let i = and-left (a && long? (r .ttl) && all octet? (r .rdata)) (rdataFits? (r .type) (r .rdata)) h in
     let j = and-left (a && long? (r .ttl)) (all octet? (r .rdata)) i in
     let k = and-left a (long? (r .ttl)) j in (
       and-left (name? (r .name)) (word? (r .type)) (and-left (name? (r .name) && word? (r .type)) (word? (r .class)) k),
@@ -117,7 +117,7 @@ record-back r i h =
     λ i. record { name = r .name; type = r .type; class = r .class; ttl = e i; rdata = r .rdata }
 
 -- ---- the EDNS element
--- a valid option's member is in the grammar and stands for it
+-- a valid option's member is in the grammar, and the option is its own
 option-forth : (o : EdnsOption) → T (option? o) → MemberIn (memberOf o) × T (member? (memberOf o)) × (optionOf (memberOf o) ≡ o)
 unfolding option?
 option-forth o h =

@@ -1,4 +1,4 @@
--- The option that a member stands for, and which members stand for one. Assumes nothing.
+-- The option of a member, and which members have one.
 use mathlib.Core.Bool.{Bool, true, false, not, _&&_}
 use mathlib.Core.Option.{Option, none, some}
 use mathlib.Core.List.{List, [], _∷_, _++_}
@@ -9,7 +9,7 @@ use Rattle.octets.specs.Lists.{all, none?, octet?, word?, long?, each, present?
 use Rattle.octets.specs.Fields.{two, four}
 use Rattle.options.specs.Options.{Form, hexObject, octetList, expiry, hexList, word, padding, wordList, extendedError, unlisted, Value, formOf, zero?, shape, EdnsOption, Member, known, other}
 
--- the octets that a value stands for
+-- the octets of a value
 abbrev pub optional : Option (List ℕ) → List ℕ
 optional none = []
 optional (some l) = l
@@ -64,12 +64,12 @@ value? wordList l = all word? l
 value? extendedError e = word? (e .0) && text? (e .1)
 value? unlisted u = false
 
--- the option that a member stands for
+-- the option of a member
 unfoldable pub optionOf : Member → EdnsOption
 optionOf (known code v) = record { code = code; value = octetsOf (formOf code) v }
 optionOf (other code hex) = record { code = code; value = hex }
 
--- a member that stands for an option: `OPTn` only where the value doesn't have the shape of a row of that code
+-- a member that is one of an option: `OPTn` only where the value doesn't have the shape of a row of that code
 unfoldable pub member? : Member → Bool
 member? (known code v) = value? (formOf code) v
 member? (other code hex) = word? code && not (present? (shape (formOf code) hex))

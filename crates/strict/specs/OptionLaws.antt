@@ -1,4 +1,4 @@
--- Laws of EDNS options: the shapes of values and what the values stand for, options and their members. Assumes nothing.
+-- Laws of EDNS options: the shapes of values and what the values stand for, options and their members.
 use mathlib.Core.Path.{_≡_, refl, sym, _∙_, ap, ap₂, subst}
 use mathlib.Core.Bool.{Bool, true, false, not, _&&_, cond}
 use mathlib.Core.Option.{Option, none, some, Option·some-injective, Option·none-ne-some}
@@ -21,7 +21,7 @@ use Rattle.strict.specs.Grammar.{Number, StringIn, Maybe, ValueIn, Membe
 use Rattle.edns.specs.Edns.{option?}
 
 -- ---- numbers in octets
--- the two octets at the front, and those behind
+-- the two octets at the front, and those after
 front-two : (l : List ℕ) → 2 ≤ length l → Octets l → two (twoAt l 0) ++ drop 2 l ≡ l
 front-two [] h o = absurd (omega arith)
 front-two (x ∷ []) h o = absurd (omega arith)
@@ -99,7 +99,7 @@ zeros-same [] h = refl
 zeros-same (x ∷ l) h =
     ap₂ (λ (y : ℕ) (t : List ℕ). y ∷ t) (sym (eqb→eq x 0 (and-left (zero? x) (all zero? l) h))) (zeros-same l (and-right (zero? x) (all zero? l) h))
 
--- so many zeros are all zero
+-- n zeros are all zero
 zeros-zero : (n : ℕ) → T (all zero? (replicate n 0))
 zeros-zero zero = tt
 zeros-zero (suc n) = zeros-zero n
@@ -121,7 +121,7 @@ module _ {A : Type 0} (P : A → Type 0) where
   either-some true c x y v f g e = subst P (Option·some-injective x v e) (f tt)
   either-some false c x y v f g e = one-some c y v g e
 
--- a value in the grammar that can be an option's, and that stands for these octets
+-- a value in the grammar that can be an option's, and these are its octets
 abbrev pub Stands : (form : Form) → List ℕ → Value form → Type 0
 Stands form l v = T (value? form v) × ValueIn form v × (octetsOf form v ≡ l)
 
@@ -162,7 +162,7 @@ error-stands l o h =
     go [] p e = (both (word? (twoAt l 0)) true range tt, (tt, tt), e)
     go (x ∷ t) p e = (both (word? (twoAt l 0)) true range tt, (tt, all→All printable? (x ∷ t) p), e)
 
--- a value that octets have the shape of is valid, and stands for them
+-- a value that octets have the shape of is valid, and they are its octets
 pub shape-value : (form : Form) (l : List ℕ) (v : Value form) → Octets l → shape form l ≡ some v → Stands form l v
 unfolding shape value? octetsOf each
 shape-value hexObject l v o e = subst (Stands hexObject l) (Option·some-injective l v e) (tt, o, refl)
@@ -183,17 +183,17 @@ shape-value unlisted l v o e = absurd (Option·none-ne-some v e)
 
 -- ---- from a value to octets
 -- octets that have the shape of a value
-abbrev pub Shaped : (form : Form) → Value form → Type 0
-Shaped form v = (shape form (octetsOf form v) ≡ some v) × Octets (octetsOf form v)
+abbrev pub ShapedBy : (form : Form) → Value form → Type 0
+ShapedBy form v = (shape form (octetsOf form v) ≡ some v) × Octets (octetsOf form v)
 
 -- expiry: nothing, or four octets
-expiry-shaped : (n : Option ℕ) → T (value? expiry n) → Shaped expiry n
+expiry-shaped : (n : Option ℕ) → T (value? expiry n) → ShapedBy expiry n
 unfolding shape value? octetsOf
 expiry-shaped none h = (refl, tt)
 expiry-shaped (some n) h = (let k = ltb→lt n 4294967296 h in let e : fourAt (four n) 0 ≡ n = four-at (four n) [] 0 n k refl in ap (λ (m : ℕ). some (some m)) e, four-octets n)
 
 -- a cookie of one part or of two
-cookie-shaped : (l : List (List ℕ)) → T (value? hexList l) → All Octets l → Shaped hexList l
+cookie-shaped : (l : List (List ℕ)) → T (value? hexList l) → All Octets l → ShapedBy hexList l
 unfolding shape value? octetsOf each
 cookie-shaped [] h o = absurd h
 cookie-shaped (client ∷ []) h o = rw (append-nil client, is-true (eqb (length client) 8) h) (refl, o .0)
@@ -210,7 +210,7 @@ cookie-shaped (client ∷ server ∷ []) h o =
 cookie-shaped (client ∷ server ∷ more ∷ l) h o = absurd h
 
 -- padding: zeros, or octets that are not all zero
-padding-shaped : (n : ℕ) (x : Option (List ℕ)) → T (value? padding (n, x)) → Maybe Octets x → Shaped padding (n, x)
+padding-shaped : (n : ℕ) (x : Option (List ℕ)) → T (value? padding (n, x)) → Maybe Octets x → ShapedBy padding (n, x)
 unfolding shape value? octetsOf
 padding-shaped n none h o = (rw (is-true (all zero? (replicate n 0)) (zeros-zero n), length-replicate {A = ℕ} n 0) refl, zeros-octets n)
 padding-shaped n (some hex) h o =
@@ -222,7 +222,7 @@ unfolding printable?
 printable-octets l h = All-map (λ x t. let k = leb→le x 126 (and-right (leb 32 x) (leb x 126) t) in omega arith) l h
 
 -- an extended error, with its text or without
-error-shaped : (n : ℕ) (x : Option (List ℕ)) → T (value? extendedError (n, x)) → Maybe StringIn x → Shaped extendedError (n, x)
+error-shaped : (n : ℕ) (x : Option (List ℕ)) → T (value? extendedError (n, x)) → Maybe StringIn x → ShapedBy extendedError (n, x)
 unfolding shape value? octetsOf
 error-shaped n none h o = (ap (λ (m : ℕ). some (m, none)) (two-back n (ltb→lt n 65536 (and-left (word? n) true h))), two-octets n)
 error-shaped n (some []) h o = absurd (and-right (word? n) false h)
@@ -233,7 +233,7 @@ error-shaped n (some (x ∷ l)) h o =
     )
 
 -- a valid value's octets have its shape
-pub value-shape : (form : Form) (v : Value form) → T (value? form v) → ValueIn form v → Shaped form v
+pub value-shape : (form : Form) (v : Value form) → T (value? form v) → ValueIn form v → ShapedBy form v
 unfolding shape value? octetsOf
 value-shape hexObject v h i = (refl, i)
 value-shape octetList v h i = (refl, octets-in v h)
@@ -307,7 +307,7 @@ shape-listed extendedError l v e = tt
 shape-listed unlisted l v e = Option·none-ne-some v e
 
 -- ---- options and members
--- an option's member stands for it
+-- the option of an option's member is that option
 pub member-option : (o : EdnsOption) → Octets (o .value) → o .code < 65536 → (optionOf (memberOf o) ≡ o) × T (member? (memberOf o)) × MemberIn (memberOf o)
 unfolding memberOf optionOf member?
 member-option o i h = go (shape (formOf (o .code)) (o .value)) refl
@@ -327,7 +327,7 @@ absent-none : {A : Type 0} (x : Option A) → T (not (present? x)) → x ≡ non
 absent-none none h = refl
 absent-none (some a) h = absurd h
 
--- a valid member is that of the option that it stands for
+-- a valid member is the member of its option
 pub option-member : (m : Member) → MemberIn m → T (member? m) → (memberOf (optionOf m) ≡ m) × T (option? (optionOf m))
 unfolding memberOf optionOf member? option?
 option-member (known code v) i h =

@@ -1,5 +1,4 @@
 -- The parser of the grammar: it takes the texts of the documents in the grammar, and no other.
--- Assumes nothing.
 use mathlib.Core.Path.{_≡_, refl, sym}
 use mathlib.Core.Logic.{_↔_, _⊎_, inl, inr}
 use mathlib.Core.Bool.{Bool, true, false, cond}
@@ -8,7 +7,7 @@ use mathlib.Core.List.{List, [], _∷_, _++_, append-assoc, nil≢cons, tail-eq-
 use Prim.Native.Nat.{ℕ}
 use Prim.Native.String.{String}
 use lib.Dec.{T, eqb}
-use Rattle.octets.specs.Lists.{ascii, all, All, ended, key?, textOf}
+use Rattle.octets.specs.Lists.{ascii, all, All, ended, key?, rowText}
 use Rattle.octets.specs.Bits.{and-left, and-right}
 use Rattle.octets.specs.Parsed.{Parsed, took, stuck, missed}
 use Rattle.octets.specs.Codec.{Avoids, Any, Codec, fronts, unique, whole, whole-exact, whole-ends, joined, on, titled, weaken, ranged, only, many, array, pair-by}
@@ -97,21 +96,21 @@ unfolding members rows
 members-distinct = tt
 
 -- a text apart from that of every row is apart from that of every key
-row-apart : (l : List ℕ) (table : List (ℕ × String)) (n : ℕ) → T (all (λ row. apart? (ascii (row .1)) l) table) → T (key? n table) → T (apart? (textOf n table) l)
-unfolding key? textOf
+row-apart : (l : List ℕ) (table : List (ℕ × String)) (n : ℕ) → T (all (λ row. apart? (ascii (row .1)) l) table) → T (key? n table) → T (apart? (rowText n table) l)
+unfolding key? rowText
 row-apart l [] n h k = absurd k
 row-apart l (row ∷ table) n h k = go (eqb (row .0) n) k (row-apart l table n (and-right (apart? (ascii (row .1)) l) _ h))
   where
-    go : (b : Bool) → T (cond b true (key? n table)) → (T (key? n table) → T (apart? (textOf n table) l)) → T (apart? (cond b (ascii (row .1)) (textOf n table)) l)
+    go : (b : Bool) → T (cond b true (key? n table)) → (T (key? n table) → T (apart? (rowText n table) l)) → T (apart? (cond b (ascii (row .1)) (rowText n table)) l)
     go true k f = and-left (apart? (ascii (row .1)) l) _ h
     go false k f = f k
 
 -- no member of the table begins as `OPT`
-pub member-apart : (code : ℕ) (r s : List ℕ) → T (key? code members) → textOf code members ++ r ≡ ascii "OPT" ++ s → ⊥
+pub member-apart : (code : ℕ) (r s : List ℕ) → T (key? code members) → rowText code members ++ r ≡ ascii "OPT" ++ s → ⊥
 unfolding members rows
-member-apart code r s h = apart-texts (textOf code members) (ascii "OPT") r s (row-apart (ascii "OPT") members code tt h)
+member-apart code r s h = apart-texts (rowText code members) (ascii "OPT") r s (row-apart (ascii "OPT") members code tt h)
 
--- a member of the table, whose code tells the form of its value
+-- a member of the table, whose code decides the form of its value
 unfoldable pub knownMember : Codec {A = (code : ℕ) × Value (formOf code)} (λ u. MemberIn (known (u .0) (u .1))) (λ u. memberText (known (u .0) (u .1))) NoDigit
 unfolding memberText
 knownMember = pair-by ("\"" ▷ table members members-distinct ◁ "\":") (λ code. value (formOf code))
@@ -140,17 +139,17 @@ member = kinds (λ u. known (u .0) (u .1)) (λ u. other (u .0) (u .1)) memberKin
     whole (other n hex) = refl
 
 -- ---- questions and records
-unfoldable pub question : Codec QuestionIn questionText Any
+unfoldable pub questionCodec : Codec QuestionIn questionText Any
 unfolding questionText
-question = titled (λ q. simp append-assoc) (on (λ q. (q .name, (q .type, q .class)))
+questionCodec = titled (λ q. simp append-assoc) (on (λ q. (q .name, (q .type, q .class)))
     (λ (n, (t, c)). record { name = n; type = t; class = c }) (λ q h. (h, refl)) (λ q h. (h, refl))
     ("{\"NAME\":\"" ▷ name
     ⊗ ",\"TYPE\":" ▷ till ",\"CLASS\":" tt number
     ⊗ till "}" tt number))
 
-unfoldable pub entry : Codec RecordIn recordText Any
+unfoldable pub recordCodec : Codec RecordIn recordText Any
 unfolding recordText
-entry = titled (λ r. simp append-assoc) (on (λ r. (r .name, (r .type, (r .class, (r .ttl, r .rdata)))))
+recordCodec = titled (λ r. simp append-assoc) (on (λ r. (r .name, (r .type, (r .class, (r .ttl, r .rdata)))))
     (λ (n, (t, (c, (l, d)))). record { name = n; type = t; class = c; ttl = l; rdata = d }) (λ r h. (h, refl)) (λ r h. (h, refl))
     ("{\"NAME\":\"" ▷ name
     ⊗ ",\"TYPE\":" ▷ till ",\"CLASS\":" tt number
@@ -167,15 +166,15 @@ pub rcodes-distinct : T (distinct rcodes)
 unfolding rcodes
 rcodes-distinct = tt
 
--- the members behind UDPSIZE, none of which begins with a digit, and the end of both objects
-abbrev pub optionsText : List Member → List ℕ
-optionsText o = ended (λ m. ascii "," ++ memberText m) 125 o ++ ascii "}"
+-- the members after UDPSIZE, none of which begins with a digit, and the end of both objects
+abbrev pub membersEndText : List Member → List ℕ
+membersEndText o = ended (λ m. ascii "," ++ memberText m) 125 o ++ ascii "}"
 
-pub options-fit : (o : List Member) (r : List ℕ) → NoDigit (optionsText o ++ r)
+pub options-fit : (o : List Member) (r : List ℕ) → NoDigit (membersEndText o ++ r)
 options-fit [] r = tt
 options-fit (m ∷ o) r = tt
 
-unfoldable pub optionMembers : Codec (All MemberIn) optionsText Any
+unfoldable pub optionMembers : Codec (All MemberIn) membersEndText Any
 optionMembers = many (λ a r s h e. fronts tt e) (λ r. tt) (λ b r h. tt) ("," ▷ member) ◁ "}"
 
 -- the whole element
@@ -200,7 +199,7 @@ itemKind (edns e) = inr e
 
 unfoldable pub itemCodec : Codec ItemIn itemText Any
 unfolding itemText
-itemCodec = kinds ordinary edns itemKind whole (λ r. refl) (λ e. refl) entry ednsElement (λ a b r s h k e. item-apart a b r s e)
+itemCodec = kinds ordinary edns itemKind whole (λ r. refl) (λ e. refl) recordCodec ednsElement (λ a b r s h k e. item-apart a b r s e)
   where
     whole : (i : Item) → made ordinary edns (itemKind i) ≡ i
     whole (ordinary r) = refl
@@ -258,9 +257,9 @@ document = titled (λ d. rw (head-same d) (simp append-assoc)) (on
     record { header = h; qdcount = qn; ancount = an; nscount = nn; arcount = rn; questions = qs; answers = ans; authority = auth; additional = add })
     (λ d h. ((tt, h), refl)) (λ u h. (h .1, refl))
     (joined head
-    (",\"questionRRs\":" ▷ array question-avoids (λ r. tt) (λ r. tt) question
-    ⊗ ",\"answerRRs\":" ▷ array entry-avoids (λ r. tt) (λ r. tt) entry
-    ⊗ ",\"authorityRRs\":" ▷ array entry-avoids (λ r. tt) (λ r. tt) entry
+    (",\"questionRRs\":" ▷ array question-avoids (λ r. tt) (λ r. tt) questionCodec
+    ⊗ ",\"answerRRs\":" ▷ array entry-avoids (λ r. tt) (λ r. tt) recordCodec
+    ⊗ ",\"authorityRRs\":" ▷ array entry-avoids (λ r. tt) (λ r. tt) recordCodec
     ⊗ ",\"additionalRRs\":" ▷ array item-avoids (λ r. tt) (λ r. tt) itemCodec ◁ "}")
     (λ u r h m. tt)))
 
@@ -277,7 +276,7 @@ pub parse-ends : (t : List ℕ) (d : Document) (r : List ℕ) → parse t ≡ to
 unfolding parse
 parse-ends = whole-ends document
 
--- a document's text and what stands behind it tell the document
+-- a document's text and what follows it determine the document
 pub document-unique : (d e : Document) (r s : List ℕ) → DocumentIn d → DocumentIn e → documentText d ++ r ≡ documentText e ++ s → (d ≡ e) × (r ≡ s)
 document-unique d e r s h k = unique document d e r s h k tt tt
 
@@ -287,7 +286,7 @@ unfolding documentText headText
 document-filled d e = nil≢cons (sym e)
 
 -- ---- where the parser stops, computed
--- at the digit behind a 0
+-- at the digit after a 0
 leading-zero : parse (ascii "{\"ID\":01,\"QR\":0") ≡ stuck (ascii "1,\"QR\":0")
 unfolding parse document head natural
 leading-zero = refl

@@ -1,10 +1,10 @@
--- Text to message: the whole answer. Assumes nothing.
+-- Text to message: the whole answer.
 use mathlib.Core.Bool.{cond}
 use mathlib.Core.Option.{Option, none, some}
 use mathlib.Core.List.{List}
 use Prim.Native.Nat.{ℕ}
 use Rattle.octets.specs.Parsed.{Parsed, took, stuck}
-use Rattle.octets.specs.Answer.{Output, output, refused, Left, delivered}
+use Rattle.octets.specs.Answer.{Output, output, refused, Result, delivered}
 use Rattle.octets.specs.Calls.{Call, Gives}
 use Rattle.records.specs.Message.{form}
 use Rattle.json.specs.View.{View, messageOf}
@@ -22,7 +22,7 @@ abbrev pub meant : Option View → Output
 meant none = refused 21 0
 meant (some v) = sized v
 
--- 20 where the text is not within the grammar: `parse` takes a whole text or stops; where it stopped is not told
+-- 20 where the text is not within the grammar: `parse` takes a whole text or stops; where it stopped is not reported
 abbrev pub parsed : Parsed Document → Output
 parsed (took d r) = meant (meaning d)
 parsed (stuck rest) = refused 20 0
@@ -32,7 +32,7 @@ unfoldable pub reading : List ℕ → Output
 reading t = parsed (parse t)
 
 -- number, place, length and the whole buffer afterwards; 23 where the message is longer than the buffer
-unfoldable pub toWire : List ℕ → List ℕ → Left
+unfoldable pub toWire : List ℕ → List ℕ → Result
 toWire t buffer = delivered 23 (reading t) buffer
 
 -- a call of the reader: its answer and buffer are those of `toWire`

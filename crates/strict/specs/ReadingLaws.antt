@@ -1,5 +1,4 @@
 -- Texts and the messages they say: each text is that of one message, and the reader takes just the texts of messages within the limits.
--- Assumes nothing.
 use mathlib.Core.Path.{_≡_, refl, sym, _∙_, ap}
 use mathlib.Core.Logic.{_↔_}
 use mathlib.Core.Bool.{Bool, true, false, cond}

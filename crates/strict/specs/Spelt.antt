@@ -1,5 +1,4 @@
 -- The parsers of names, strings and signed numbers: each stops at the first octet at which no spelling goes on.
--- Assumes nothing.
 use mathlib.Core.Path.{_≡_, refl, sym, _∙_, ap, ap₂, subst}
 use mathlib.Core.Logic.{_⊎_, inl, inr}
 use mathlib.Core.Bool.{Bool, true, false, not, cond, _&&_, _||_}
@@ -52,11 +51,11 @@ unfoldable pub coded-from? : ℕ → ℕ → Bool
 coded-from? lo zero = false
 coded-from? lo (suc n) = coded? lo || coded-from? (suc lo) n
 
--- a digit behind those of `n`, with `k` more to come, that leads to such an octet
+-- a digit after those of `n`, with `k` more to come, that leads to such an octet
 unfoldable pub leads? : ℕ → ℕ → ℕ → Bool
 leads? k n d = digit? d && coded-from? ((n * 10 + (d - 48)) * 10 ^ k) (10 ^ k)
 
--- `k` more digits behind those of `n`
+-- `k` more digits after those of `n`
 unfoldable pub ddd : ℕ → ℕ → List ℕ → Parsed ℕ
 ddd zero n t = took n t
 ddd (suc k) n [] = stuck []
@@ -191,7 +190,7 @@ spelled-plain : (x : ℕ) → T (plain? x) → spelled x ≡ x ∷ []
 unfolding spelled
 spelled-plain x h = rw (is-true (plain? x) h)
 
--- the value that a test has told
+-- the value that a test has found
 took-same : (x y : ℕ) (r : List ℕ) → eqb x y ≡ true → took y r ≡ took x r
 took-same x y r e = ap (λ z. took z r) (sym (eqb-true x y e))
 

@@ -1,5 +1,4 @@
 -- Every octet of a document's text is a visible ASCII character or a space.
--- Assumes nothing.
 use mathlib.Core.Path.{_≡_, refl, sym, subst}
 use mathlib.Core.Bool.{Bool, true, false, cond, _&&_}
 use mathlib.Core.Option.{Option, none, some}
@@ -8,7 +7,7 @@ use Prim.Native.Nat.{ℕ, _<_, _≤_}
 use Prim.Native.String.{String}
 use native.Mathlib.Omega.{arith}
 use lib.Dec.{T, leb, eqb, leb→le}
-use Rattle.octets.specs.Lists.{ascii, all, All, Octets, ended, listed, none?, textOf}
+use Rattle.octets.specs.Lists.{ascii, all, All, Octets, ended, listed, none?, rowText}
 use Rattle.octets.specs.Bits.{and-left, and-right, all→All, All-map, All-append}
 use Rattle.octets.specs.Decimal.{decimal, decimal-digits}
 use Rattle.octets.specs.Hexadecimal.{hexText, hexText-visible}
@@ -27,7 +26,7 @@ use Rattle.strict.specs.Spelt.{plain-in}
 record Seen (l : List ℕ) : Type 0 where
   seen : All (λ c. (32 ≤ c) × (c ≤ 126)) l
 
--- one text behind another
+-- one text after another
 infixl 65 _⊕_
 _⊕_ : {l m : List ℕ} → Seen l → Seen m → Seen (l ++ m)
 _⊕_ {l} {m} h k = record { seen = All-append _ l m (h .seen) (k .seen) }
@@ -58,12 +57,12 @@ listed-seen f g [] h = quote "[]" tt
 listed-seen f g (a ∷ l) h = quote "[" tt ⊕ (g a (h .0) ⊕ ended-seen (λ b. 44 ∷ f b) 93 (quote "]" tt) (λ b k. quote "," tt ⊕ g b k) l (h .1))
 
 -- the texts of a table
-textOf-seen : (table : List (ℕ × String)) → T (all (λ row. all visible? (ascii (row .1))) table) → (n : ℕ) → Seen (textOf n table)
-unfolding textOf
+textOf-seen : (table : List (ℕ × String)) → T (all (λ row. all visible? (ascii (row .1))) table) → (n : ℕ) → Seen (rowText n table)
+unfolding rowText
 textOf-seen [] h n = record { seen = tt }
 textOf-seen (row ∷ table) h n = go (eqb (row .0) n) (textOf-seen table (and-right (all visible? (ascii (row .1))) _ h) n)
   where
-    go : (b : Bool) → Seen (textOf n table) → Seen (cond b (ascii (row .1)) (textOf n table))
+    go : (b : Bool) → Seen (rowText n table) → Seen (cond b (ascii (row .1)) (rowText n table))
     go true k = quote (row .1) (and-left (all visible? (ascii (row .1))) _ h)
     go false k = k
 

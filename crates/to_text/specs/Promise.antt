@@ -1,4 +1,4 @@
--- How the promise of the conversion follows from what its runs find and write. Assumes nothing.
+-- How the promise of the conversion follows from what its runs find and write.
 use mathlib.Core.Path.{_≡_, refl, sym, ap, subst}
 use mathlib.Core.Bool.{Bool}
 use mathlib.Core.List.{List, [], _++_}
@@ -20,29 +20,29 @@ use Rattle.forms.specs.Uncompressed.{scanOf, Uncompressed}
 use Rattle.forms.specs.declared.Scan.{Scan}
 use Rattle.json.specs.Converted.{converted, toText, Converts}
 use Rattle.json.specs.Bound.{text-short}
-use Rattle.print_message.specs.Whole.{textOf, Accepted}
+use Rattle.print_message.specs.Whole.{profileText, AcceptedMessage}
 
 -- ---- an accepted message
-module _ {s : List ℕ} {lone : Bool} (a : Accepted s lone) where
-  accepted-output : converted s ≡ output (textOf s)
-  unfolding converted textOf
+module _ {s : List ℕ} {lone : Bool} (a : AcceptedMessage s lone) where
+  accepted-output : converted s ≡ output (profileText s)
+  unfolding converted profileText
   accepted-output = rw (a .decodes)
 
   -- its text is written where there is room
-  pub gives-text : {b b′ : List ℕ} {n : ℕ} → length (textOf s) ≤ length b → Wrote b 0 (textOf s) b′ n
+  pub gives-text : {b b′ : List ℕ} {n : ℕ} → length (profileText s) ≤ length b → Wrote b 0 (profileText s) b′ n
       → Gives (toText s b) (Length n) b′
   unfolding toText
   gives-text {b} {n = n} h w =
-      let e : n ≡ length (textOf s) = omega (arith, w .place) in
-      rw accepted-output (gives-written 10 b (textOf s) w e (omega arith))
+      let e : n ≡ length (profileText s) = omega (arith, w .place) in
+      rw accepted-output (gives-written 10 b (profileText s) w e (omega arith))
 
   -- l is what a run that measures leaves of no octets
-  module _ (b l : List ℕ) (z : length l ≡ 0) {n : ℕ} (w : Wrote [] 0 (textOf s) l n) where
+  module _ (b l : List ℕ) (z : length l ≡ 0) {n : ℕ} (w : Wrote [] 0 (profileText s) l n) where
     pub measured-long : length (l ++ b) < n → Gives (toText s b) (Refused 10 0) (l ++ b)
     unfolding toText
-    measured-long h = rw (empty l z, accepted-output) (gives-none 10 b (textOf s) (omega (arith, w .place, rw (empty l z) at h)))
+    measured-long h = rw (empty l z, accepted-output) (gives-none 10 b (profileText s) (omega (arith, w .place, rw (empty l z) at h)))
 
-    pub measured-text : {b′ : List ℕ} {r : ℕ} → n ≤ length (l ++ b) → Wrote (l ++ b) 0 (textOf s) b′ r
+    pub measured-text : {b′ : List ℕ} {r : ℕ} → n ≤ length (l ++ b) → Wrote (l ++ b) 0 (profileText s) b′ r
         → Gives (toText s b) (Length n) b′
     measured-text {b′} {r} h v =
         let e : n ≡ r = omega (arith, w .place, v .place) in
@@ -67,13 +67,13 @@ module _ (s b l : List ℕ) (z : length l ≡ 0) {x : Scan} (u : Uncompressed s 
   unfolding toText converted
   convert-refused {k} {p} q = rw (q, scanned (decode s) (u .answers) q, empty l z) (gives-refusal 10 b k p)
 
-  pub convert-accepted : {n : ℕ} → x .outcome ≡ Length n → Accepted s (eqb (x .opts) 1)
+  pub convert-accepted : {n : ℕ} → x .outcome ≡ Length n → AcceptedMessage s (eqb (x .opts) 1)
   convert-accepted q = let (m, e, c, f) = scanned (decode s) (u .answers) q in record { message = m; decodes = e; alone = ap (λ (n : ℕ). eqb n 1) c }
 
   -- how long the text can be at most
   pub convert-bounded : {n : ℕ} → ((i : ℕ) → getD s i 0 < 256) → x .outcome ≡ Length n
-      → (n ≤ 65535) × (length (textOf s) ≤ 10 * n + 400)
-  unfolding textOf
+      → (n ≤ 65535) × (length (profileText s) ≤ 10 * n + 400)
+  unfolding profileText
   convert-bounded {n} o q =
       let (m, e, c, f) = scanned (decode s) (u .answers) q in
       let (v, k) = decode-valid s m (octets-known s o) e in

@@ -3,14 +3,14 @@ ghost use Prim.Native.Nat.{_+_, _*_, _≤_};
 ghost use lib.ListN.{length};
 ghost use Rattle.octets.specs.Calls.{Gives, Call};
 ghost use Rattle.json.specs.Converted.{toText, Converts};
-ghost use Rattle.print_message.specs.Whole.{textOf, Accepted};
+ghost use Rattle.print_message.specs.Whole.{profileText, AcceptedMessage};
 use forms::uncompress;
 use octets::Outcome;
 use print_message::put_text;
 
 // Writes the text of an accepted message, if it fits; a first run over no octets measures it.
 fn deliver_measured(s: &[u8], lone: bool, text: &mut [u8]) -> Outcome
-    requires { ⌜ Accepted (now s) lone ⌝ }
+    requires { ⌜ AcceptedMessage (now s) lone ⌝ }
     ensures { λ r. ⌜ Gives (toText (now (s .entry)) (now (text .entry))) r (now (text .exit)) ⌝ }
 {
     let size = put_text(s, lone, &mut text[..0]);
@@ -24,7 +24,7 @@ fn deliver_measured(s: &[u8], lone: bool, text: &mut [u8]) -> Outcome
 // Writes the text of an accepted message, if it fits. `size` is the length of the message's uncompressed form, which bounds
 // that of its text: the text is measured only where there is less room than this bound.
 fn deliver(s: &[u8], lone: bool, size: usize, text: &mut [u8]) -> Outcome
-    requires { ⌜ Accepted (now s) lone × (size ≤ 65535) × (length (textOf (now s)) ≤ 10 * size + 400) ⌝ }
+    requires { ⌜ AcceptedMessage (now s) lone × (size ≤ 65535) × (length (profileText (now s)) ≤ 10 * size + 400) ⌝ }
     ensures { λ r. ⌜ Gives (toText (now (s .entry)) (now (text .entry))) r (now (text .exit)) ⌝ }
 {
     let most = 10 * size + 400;

@@ -1,5 +1,5 @@
 -- The promise of each public function determines its whole result: two results, with the buffers, that meet it for the
--- same arguments are equal. Assumes nothing.
+-- same arguments are equal.
 use mathlib.Core.Path.{_≡_, refl, sym, _∙_, ap, subst}
 use mathlib.Core.Bool.{Bool, true, false}
 use mathlib.Core.List.{List}
@@ -19,7 +19,7 @@ use Rattle.tokens.specs.Step.{Found, Held, Emits, Judged}
 use Rattle.tokens.specs.Place.{Byte, one-byte}
 use Rattle.tokens.specs.Choice.{Further}
 use Rattle.tokens.specs.Number.{NumberRead, TillRead}
-use Rattle.tokens.specs.Signed.{Kept, SignedRead}
+use Rattle.tokens.specs.Signed.{TtlKept, SignedRead}
 use Rattle.tokens.specs.Hex.{HexRead}
 use Rattle.tokens.specs.Rows.{RowRead}
 use Rattle.tokens.specs.Fields.{FieldPut}
@@ -183,7 +183,7 @@ module _ {t : List ℕ} {c : Cursor} where
       fits : r .fits ≡ s .fits
       fits = one-value (x .found) (y .found) (λ d. x .stop d .0) (λ d. y .stop d .0) (λ n d e. both-are (d .0) (e .0))
 
-      in-range : (n : Signed) (a : Bool) → r .fits ≡ a → Kept (r .fits) (r .bits) n → Kept (s .fits) (s .bits) n
+      in-range : (n : Signed) (a : Bool) → r .fits ≡ a → TtlKept (r .fits) (r .bits) n → TtlKept (s .fits) (s .bits) n
           → r .bits ≡ s .bits
       in-range n true f d e = both-are (d .1 (subst T (sym f) tt)) (e .1 (subst T (sym f ∙ fits) tt))
       in-range n false f d e = both-are (x .over f) (y .over (sym fits ∙ f))

@@ -1,4 +1,4 @@
--- A reader of one of two things. Assumes nothing.
+-- A reader of one of two things.
 use mathlib.Core.Path.{_≡_, refl, sym, _∙_, subst}
 use mathlib.Core.Logic.{inl, inr}
 use mathlib.Core.Bool.{Bool, true, false, not, cond}
@@ -12,7 +12,7 @@ use lib.ListN.{length, drop, length-drop}
 use Rattle.octets.specs.Parsed.{Parsed, took, stuck, and-then, or-else, strip}
 use Rattle.strict.specs.Spelt.{made}
 use Rattle.tokens.specs.declared.Cursor.{Cursor}
-use Rattle.tokens.specs.Cursor.{left-of, Safe, Keeps, keeps-same, Passed, Stopped, went-keeps, Reads, stopped, taken, clash}
+use Rattle.tokens.specs.Cursor.{left-of, Safe, Keeps, keeps-same, Passed, Stopped, went-keeps, Finds, stopped, taken, clash}
 use Rattle.tokens.specs.Step.{Found, found-as, found-map}
 use Rattle.tokens.specs.Leaf.{found-same, found-entry}
 
@@ -73,12 +73,12 @@ module _ {A : Type 0} {t : List ℕ} (p q : List ℕ → Parsed A) where
     pub found-first : r .spelled ≡ true → Found (choice p q) P t c r
     found-first g = record { reads = go (c .spelled) (x .reads); moves = x .moves }
       where
-        first : {o : Parsed A} (u : Parsed A) → Reads t P r o → Reads t P r (or-else o u)
+        first : {o : Parsed A} (u : Parsed A) → Finds t P r o → Finds t P r (or-else o u)
         first u (stopped k) = clash k g
         first u (taken k v) = taken k v
 
-        go : (b : Bool) → Reads t P r (and-then (left-of b (drop (c .at) t)) (λ u w. p w))
-            → Reads t P r (and-then (left-of b (drop (c .at) t)) (λ u w. choice p q w))
+        go : (b : Bool) → Finds t P r (and-then (left-of b (drop (c .at) t)) (λ u w. p w))
+            → Finds t P r (and-then (left-of b (drop (c .at) t)) (λ u w. choice p q w))
         go true y = first _ y
         go false y = y
 
@@ -87,14 +87,14 @@ module _ {A : Type 0} {t : List ℕ} (p q : List ℕ → Parsed A) where
       found-second : s .spelled ≡ true → Found (choice p q) Q t c s
       found-second k = record { reads = go (c .spelled) (x .reads) (y .reads); moves = y .moves }
         where
-          second : {o u : Parsed A} → Reads t P r o → Reads t Q s u → Reads t Q s (or-else o u)
+          second : {o u : Parsed A} → Finds t P r o → Finds t Q s u → Finds t Q s (or-else o u)
           second (taken l v) z = clash g l
           second (stopped l) (stopped m) = clash m k
           second (stopped l) (taken m v) = taken m v
 
-          go : (b : Bool) → Reads t P r (and-then (left-of b (drop (c .at) t)) (λ u w. p w))
-              → Reads t Q s (and-then (left-of b (drop (c .at) t)) (λ u w. q w))
-              → Reads t Q s (and-then (left-of b (drop (c .at) t)) (λ u w. choice p q w))
+          go : (b : Bool) → Finds t P r (and-then (left-of b (drop (c .at) t)) (λ u w. p w))
+              → Finds t Q s (and-then (left-of b (drop (c .at) t)) (λ u w. q w))
+              → Finds t Q s (and-then (left-of b (drop (c .at) t)) (λ u w. choice p q w))
           go true a b = second a b
           go false a b = b
 
@@ -109,24 +109,24 @@ module _ {A : Type 0} {t : List ℕ} (p q : List ℕ → Parsed A) where
           least true = y .moves .onward
           least false = x .moves .onward
 
-          there : Reads t R z (stuck (drop (cond (ltb (r .at) (s .at)) (s .at) (r .at)) t))
+          there : Finds t R z (stuck (drop (cond (ltb (r .at) (s .at)) (s .at) (r .at)) t))
           there = rw (← e) (stopped l)
 
-          both : {o u : Parsed A} → Reads t P r o → Reads t Q s u → Reads t R z (or-else o u)
+          both : {o u : Parsed A} → Finds t P r o → Finds t Q s u → Finds t R z (or-else o u)
           both (taken m v) b = clash g m
           both (stopped m) (taken n v) = clash k n
           both (stopped m) (stopped n) = rw (further t (r .at) (s .at) (x .moves .safe .inside) (y .moves .safe .inside)) there
 
-          same : {w : List ℕ} → Reads t P r (stuck w) → Reads t Q s (stuck w) → Reads t R z (stuck w)
-          same {w} a b = subst (λ u. Reads t R z (stuck u)) (one (ltb (length w) (length w))) (both a b)
+          same : {w : List ℕ} → Finds t P r (stuck w) → Finds t Q s (stuck w) → Finds t R z (stuck w)
+          same {w} a b = subst (λ u. Finds t R z (stuck u)) (one (ltb (length w) (length w))) (both a b)
             where
               one : (b : Bool) → cond b w w ≡ w
               one true = refl
               one false = refl
 
-          go : (b : Bool) → Reads t P r (and-then (left-of b (drop (c .at) t)) (λ u w. p w))
-              → Reads t Q s (and-then (left-of b (drop (c .at) t)) (λ u w. q w))
-              → Reads t R z (and-then (left-of b (drop (c .at) t)) (λ u w. choice p q w))
+          go : (b : Bool) → Finds t P r (and-then (left-of b (drop (c .at) t)) (λ u w. p w))
+              → Finds t Q s (and-then (left-of b (drop (c .at) t)) (λ u w. q w))
+              → Finds t R z (and-then (left-of b (drop (c .at) t)) (λ u w. choice p q w))
           go true a b = both a b
           go false a b = same a b
 

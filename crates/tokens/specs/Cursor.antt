@@ -1,4 +1,4 @@
--- Where the reader is in a text, and what a reader shows of its way from one place to the next. Assumes nothing.
+-- Where the reader is in a text, and what a reader shows of its way from one place to the next.
 use mathlib.Core.Path.{_≡_, refl, sym, _∙_, subst}
 use mathlib.Core.Bool.{Bool, true, false, not}
 use mathlib.Core.List.{List}
@@ -70,9 +70,9 @@ pub clash : {X : Type 0} {b : Bool} → b ≡ false → b ≡ true → X
 clash e d = absurd (subst T (sym d ∙ e) tt)
 
 -- what was found, and P of it; or where the reader stopped
-pub data Reads {A : Type 0} (t : List ℕ) (P : A → Type 0) (r : Cursor) : Parsed A → Type 0 where
-  stopped : r .spelled ≡ false → Reads t P r (stuck (drop (r .at) t))
-  taken : {a : A} → r .spelled ≡ true → P a → Reads t P r (took a (drop (r .at) t))
+pub data Finds {A : Type 0} (t : List ℕ) (P : A → Type 0) (r : Cursor) : Parsed A → Type 0 where
+  stopped : r .spelled ≡ false → Finds t P r (stuck (drop (r .at) t))
+  taken : {a : A} → r .spelled ≡ true → P a → Finds t P r (took a (drop (r .at) t))
 
 pub record Got {A : Type 0} (o : Parsed A) (P : A → Type 0) (s : List ℕ) : Type 0 where
   pub value : A
@@ -81,27 +81,27 @@ pub record Got {A : Type 0} (o : Parsed A) (P : A → Type 0) (s : List ℕ) : T
 
 module _ {A : Type 0} {t : List ℕ} {P : A → Type 0} {r : Cursor} where
   -- how a function shows it: by an equation of what the parser answers
-  pub reads-stop : {o : Parsed A} {n : ℕ} → o ≡ stuck (drop n t) → r .spelled ≡ false → r .at ≡ n → Reads t P r o
+  pub reads-stop : {o : Parsed A} {n : ℕ} → o ≡ stuck (drop n t) → r .spelled ≡ false → r .at ≡ n → Finds t P r o
   reads-stop e g p = rw (e, ← p) (stopped g)
 
-  pub reads-took : {o : Parsed A} {a : A} {n : ℕ} → o ≡ took a (drop n t) → r .spelled ≡ true → r .at ≡ n → P a → Reads t P r o
+  pub reads-took : {o : Parsed A} {a : A} {n : ℕ} → o ≡ took a (drop n t) → r .spelled ≡ true → r .at ≡ n → P a → Finds t P r o
   reads-took e g p v = rw (e, ← p) (taken g v)
 
-  pub reads-as : {Q : A → Type 0} {o : Parsed A} → Reads t P r o → ((a : A) → P a → Q a) → Reads t Q r o
+  pub reads-as : {Q : A → Type 0} {o : Parsed A} → Finds t P r o → ((a : A) → P a → Q a) → Finds t Q r o
   reads-as (stopped g) f = stopped g
   reads-as (taken {a} g v) f = taken g (f a v)
 
   -- the same place, with more done
-  pub reads-at : {Q : A → Type 0} {s : Cursor} {o : Parsed A} → Reads t P r o → s .spelled ≡ r .spelled → s .at ≡ r .at → ((a : A) → P a → Q a) → Reads t Q s o
+  pub reads-at : {Q : A → Type 0} {s : Cursor} {o : Parsed A} → Finds t P r o → s .spelled ≡ r .spelled → s .at ≡ r .at → ((a : A) → P a → Q a) → Finds t Q s o
   reads-at {Q} {s} (stopped g) e d f = rw (← d) (stopped (e ∙ g))
   reads-at {Q} {s} (taken {a} g v) e d f = rw (← d) (taken (e ∙ g) (f a v))
 
   -- and how a caller takes it: by the test of `spelled`
-  pub reads-bad : {o : Parsed A} → Reads t P r o → r .spelled ≡ false → o ≡ stuck (drop (r .at) t)
+  pub reads-bad : {o : Parsed A} → Finds t P r o → r .spelled ≡ false → o ≡ stuck (drop (r .at) t)
   reads-bad (stopped g) e = refl
   reads-bad (taken g v) e = clash e g
 
-  pub reads-got : {o : Parsed A} → Reads t P r o → r .spelled ≡ true → Got o P (drop (r .at) t)
+  pub reads-got : {o : Parsed A} → Finds t P r o → r .spelled ≡ true → Got o P (drop (r .at) t)
   reads-got (stopped g) e = clash g e
   reads-got (taken {a} g v) e = record { value = a; is = refl; holds = v }
 

@@ -1,4 +1,4 @@
--- Numbers of one, two and four octets, judged and written. Assumes nothing.
+-- Numbers of one, two and four octets, judged and written.
 use mathlib.Core.Path.{_≡_, refl, sym, _∙_, ap, subst}
 use mathlib.Core.Bool.{Bool, true, false, not, _&&_, and-true}
 use mathlib.Core.List.{List, [], _∷_, _++_}
@@ -17,7 +17,7 @@ use Rattle.tokens.specs.declared.Cursor.{Cursor}
 use Rattle.tokens.specs.Cursor.{Keeps, clash}
 use Rattle.tokens.specs.Step.{Found, found-at, Put, put-then, put-from, Step, Held, Emits, Judged}
 use Rattle.tokens.specs.Number.{capped}
-use Rattle.tokens.specs.Signed.{Kept}
+use Rattle.tokens.specs.Signed.{TtlKept}
 
 -- what was read was judged and written, for every value that it may have been
 pub record Done {A : Type 0} (P : A → Type 0) (ok : A → Bool) (wire : A → List ℕ) (c : Cursor) (b : List ℕ) (r : Cursor) (b′ : List ℕ) : Type 0 where
@@ -39,7 +39,7 @@ abbrev pub NumberPut : ℕ → (ℕ → Bool) → (ℕ → List ℕ) → (c : Cu
 NumberPut value ok wire = FieldPut (λ n. value ≡ capped n) ok wire (ok value) (wire value)
 
 abbrev pub TtlPut : Bool → ℕ → (c : Cursor) (b : List ℕ) (r : Cursor) (b′ : List ℕ) → Type 0
-TtlPut fits bits = FieldPut (Kept fits bits) ttl? (λ s. four (unsigned s)) fits (four bits)
+TtlPut fits bits = FieldPut (TtlKept fits bits) ttl? (λ s. four (unsigned s)) fits (four bits)
 
 module _ {A : Type 0} {P : A → Type 0} {ok : A → Bool} {wire : A → List ℕ} {c r : Cursor} {b b′ : List ℕ} where
   -- out of range

@@ -1,4 +1,4 @@
--- Hexadecimal digits two by two, up to the quote: how a reader goes through them. Assumes nothing.
+-- Hexadecimal digits two by two, up to the quote: how a reader goes through them.
 use mathlib.Core.Path.{_≡_, refl, sym, _∙_, ap, subst}
 use mathlib.Core.Bool.{Bool, true, false, not}
 use mathlib.Core.List.{List, [], _∷_, _++_, append-nil}
@@ -18,7 +18,7 @@ use Rattle.octets.specs.Hexadecimal.{hexDigit, hexDigit-in, hexOctet, capital?,
 use Rattle.octets.specs.Fields.{drop-one}
 use Rattle.tokens.specs.declared.Cursor.{Cursor}
 use Rattle.tokens.specs.declared.Span.{Span}
-use Rattle.tokens.specs.Cursor.{left-of, rest, Safe, Keeps, keeps-same, keeps-then, Passed, Came, Stopped, went-keeps, Reads, stopped, taken, clash}
+use Rattle.tokens.specs.Cursor.{left-of, rest, Safe, Keeps, keeps-same, keeps-then, Passed, Came, Stopped, went-keeps, Finds, stopped, taken, clash}
 use Rattle.tokens.specs.Step.{Found, found-stuck, moves}
 use Rattle.tokens.specs.Many.{run-of, Going, going-start, going-more, going-stop, many-once}
 use Rattle.tokens.specs.Leaf.{found-stop, stays-at, strip-at-once, strip-first}
@@ -198,7 +198,7 @@ module _ {t : List ℕ} {c : Cursor} {at : ℕ} (w : Pairs t c at) where
     }
       where
         go : (d : Bool) → r .spelled ≡ d → left-of d (drop (r .at) t) ≡ strip (34 ∷ []) (drop at t)
-            → Reads t (HexRun t (record { cursor = r; from = c .at; end = at })) r (and-then (otherwise (and-then (left-of d (drop (r .at) t)) λ u r. took [] r) (stuck (drop at t))) λ u r. took (w .l ++ u) r)
+            → Finds t (HexRun t (record { cursor = r; from = c .at; end = at })) r (and-then (otherwise (and-then (left-of d (drop (r .at) t)) λ u r. took [] r) (stuck (drop at t))) λ u r. took (w .l ++ u) r)
         go true e d = rw (append-nil) (taken e run-here)
         go false e d = rw (stays-at (strip-at-once 34 (drop at t)) (sym d)) (stopped e)
 

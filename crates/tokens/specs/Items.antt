@@ -1,4 +1,4 @@
--- Things with a comma before each, or between them, and an octet behind the last: how a loop reads them, turn by turn. Assumes nothing.
+-- Things with a comma before each, or between them, and an octet after the last: how a loop reads them, turn by turn.
 use mathlib.Core.Path.{_≡_, refl, sym, _∙_, ap}
 use mathlib.Core.Bool.{Bool, true, false, not}
 use mathlib.Core.List.{List, [], _∷_, _++_, append-assoc, append-nil}
@@ -15,7 +15,7 @@ use Rattle.tokens.specs.Step.{Found, Moves, moves, moves-then, found-the
 use Rattle.tokens.specs.Place.{Byte, inside, no-strip}
 use Rattle.tokens.specs.Many.{run-of, going-start, going-end, going-more, going-stop}
 
--- what stands before an item: the first has no comma
+-- what comes before an item: the first has no comma
 abbrev pub comma-of : Bool → List ℕ
 comma-of true = []
 comma-of false = 44 ∷ []

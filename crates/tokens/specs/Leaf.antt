@@ -1,4 +1,4 @@
--- How a reader that goes by its own tests shows what it found. Assumes nothing.
+-- How a reader that goes by its own tests shows what it found.
 use mathlib.Core.Path.{_≡_, refl, sym, _∙_, ap, subst}
 use mathlib.Core.Bool.{Bool, true, false, cond}
 use mathlib.Core.List.{List, [], _∷_, _++_}
@@ -8,7 +8,7 @@ use lib.Dec.{eqb}
 use lib.ListN.{length, drop}
 use Rattle.octets.specs.Parsed.{Parsed, took, stuck, and-then, strip, strip-sound, strip-back, held, took≢stuck}
 use Rattle.tokens.specs.declared.Cursor.{Cursor}
-use Rattle.tokens.specs.Cursor.{left-of, Safe, Passed, Came, Stopped, went-keeps, Reads, stopped, taken, reads-took, reads-stop}
+use Rattle.tokens.specs.Cursor.{left-of, Safe, Passed, Came, Stopped, went-keeps, Finds, stopped, taken, reads-took, reads-stop}
 use Rattle.tokens.specs.Step.{then-then, Found, moves, found-lit}
 
 module _ {A : Type 0} {P : A → Type 0} {p : List ℕ → Parsed A} {t : List ℕ} {c r : Cursor} where
@@ -24,21 +24,21 @@ module _ {A : Type 0} {P : A → Type 0} {p : List ℕ → Parsed A} {t : List �
   pub found-same : (q : List ℕ → Parsed A) → (c .spelled ≡ true → p (drop (c .at) t) ≡ q (drop (c .at) t)) → Found p P t c r → Found q P t c r
   found-same q e x = record { reads = go (c .spelled) e (x .reads); moves = x .moves }
     where
-      go : (b : Bool) → (b ≡ true → p (drop (c .at) t) ≡ q (drop (c .at) t)) → Reads t P r (and-then (left-of b (drop (c .at) t)) (λ u w. p w))
-          → Reads t P r (and-then (left-of b (drop (c .at) t)) (λ u w. q w))
-      go true e y = subst (Reads t P r) (e refl) y
+      go : (b : Bool) → (b ≡ true → p (drop (c .at) t) ≡ q (drop (c .at) t)) → Finds t P r (and-then (left-of b (drop (c .at) t)) (λ u w. p w))
+          → Finds t P r (and-then (left-of b (drop (c .at) t)) (λ u w. q w))
+      go true e y = subst (Finds t P r) (e refl) y
       go false e y = y
 
 -- ---- fixed octets that stand for a value
 -- the octets, and what they stand for
-abbrev pub entry : {A : Type 0} → List ℕ → A → List ℕ → Parsed A
-entry title a w = and-then (strip title w) λ u r. took a r
+abbrev pub rowParser : {A : Type 0} → List ℕ → A → List ℕ → Parsed A
+rowParser title a w = and-then (strip title w) λ u r. took a r
 
 module _ {l t : List ℕ} {c r : Cursor} (q : Passed l t c r) where
-  pub found-entry : {A : Type 0} {P : A → Type 0} (a : A) → P a → Found (entry l a) P t c r
+  pub found-entry : {A : Type 0} {P : A → Type 0} (a : A) → P a → Found (rowParser l a) P t c r
   found-entry {A} {P} a v = found-lit {p = λ w. took a w} q record { reads = go (r .spelled) refl; moves = record { safe = q .keeps .safe; onward = omega arith } }
     where
-      go : (b : Bool) → r .spelled ≡ b → Reads t P r (and-then (left-of b (drop (r .at) t)) (λ u w. took a w))
+      go : (b : Bool) → r .spelled ≡ b → Finds t P r (and-then (left-of b (drop (r .at) t)) (λ u w. took a w))
       go true e = taken e v
       go false e = stopped e
 
@@ -70,7 +70,7 @@ found-lits {p = p} {t = t} {c = c} l m q x =
     let w = drop (c .at) t in
     found-same _ (λ g. ap (λ (o : Parsed (Unit {0})). and-then o λ v r. p r) (strip-append l m w) ∙ then-then (strip l w) (λ u r. strip m r) (λ v r. p r)) (found-lit q x)
 
--- one octet: it stands there, or the reader stops before it
+-- one octet: it is there, or the reader stops before it
 pub strip-first : (x : ℕ) (w r : List ℕ) → strip (x ∷ []) w ≡ took tt r → w ≡ x ∷ r
 strip-first x w r e = sym (held (strip-sound (x ∷ []) w) e)
 

@@ -1,4 +1,4 @@
--- How a loop reads what `many` describes, turn by turn. Assumes nothing.
+-- How a loop reads what `many` describes, turn by turn.
 use mathlib.Core.Path.{_≡_, refl, sym, _∙_, ap}
 use mathlib.Core.Logic.{_⊎_, inl, inr, ⊎-elim}
 use mathlib.Core.List.{List, [], _∷_, _++_, append-assoc, append-nil, nil≢cons, head-eq-of-cons-eq}
@@ -19,7 +19,7 @@ le-or-lt (suc a) (suc b) = ⊎-elim (λ p. inl (omega arith)) (λ q. inr (omega 
 abbrev pub run-of : {A : Type 0} {I : A → Type 0} {f : A → List ℕ} {F : List ℕ → Type 0} → ℕ → Codec I f F → List ℕ → Parsed (List A)
 run-of stop p t = repeated stop p (length t) t
 
--- v, what there is to find, is what m finds from place `at` on, behind l
+-- v, what there is to find, is what m finds from place `at` on, after l
 pub record Going {A : Type 0} (m : List ℕ → Parsed (List A)) (t : List ℕ) (v : Parsed (List A)) (at : ℕ) (l : List A) : Type 0 where
   pub goes : v ≡ and-then (m (drop at t)) (λ u r. took (l ++ u) r)
 

@@ -1,4 +1,4 @@
--- Numbers of any size: what is kept of them, and how a reader goes through one. Assumes nothing.
+-- Numbers of any size: what is kept of them, and how a reader goes through one.
 use mathlib.Core.Path.{_≡_, refl, sym, _∙_, ap, subst}
 use mathlib.Core.Bool.{Bool, true, false, not}
 use mathlib.Core.List.{List, [], _∷_}
@@ -103,7 +103,7 @@ natural-other w u e = go w (λ s d. strip-not 48 w s u e d)
 
 -- ---- how the reader goes through a number that is not 0
 -- the digits up to `at` are those of n
-pub record Digits (t : List ℕ) (c : Cursor) (at value : ℕ) : Type 0 where
+pub record DigitsLoop (t : List ℕ) (c : Cursor) (at value : ℕ) : Type 0 where
   pub n : ℕ
   pub goes : positive (drop (c .at) t) ≡ run n (drop at t)
   pub is : value ≡ capped n
@@ -111,7 +111,7 @@ pub record Digits (t : List ℕ) (c : Cursor) (at value : ℕ) : Type 0 where
   pub within : at ≤ length t
   pub onward : c .at ≤ at
 
-pub digits-capped : {t : List ℕ} {c : Cursor} {at v : ℕ} → Digits t c at v → v ≤ 9223372036854775808
+pub digits-capped : {t : List ℕ} {c : Cursor} {at v : ℕ} → DigitsLoop t c at v → v ≤ 9223372036854775808
 digits-capped d = omega (arith, d .is)
 
 module _ {t : List ℕ} {c : Cursor} where
@@ -145,7 +145,7 @@ module _ {t : List ℕ} {c : Cursor} where
       pub positive-zero : {r : Amount} → w < 1 → NoNumber c (c .at) r → PositiveRead t c r
       positive-zero z = stops (rw (drop-one t (c .at) k) (positive-none (getD t (c .at) 0) _ λ a b. omega (arith, q .low (omega arith))))
 
-    module _ {at value : ℕ} (d : Digits t c at value) where
+    module _ {at value : ℕ} (d : DigitsLoop t c at value) where
       done : {r : Cursor} → NoDigit (drop at t) → Came c at r → PositiveRead t c (record { cursor = r; value = value })
       done e s = record {
         found =
@@ -163,7 +163,7 @@ module _ {t : List ℕ} {c : Cursor} where
       digits-end k q l = done (rw (drop-one t at k, q .high l) tt)
 
   -- the first digit, and one more
-  pub digits-start : {w : ℕ} → c .at < length t → DigitOf (getD t (c .at) 0) w → w ≤ 9 → 0 < w → Digits t c (c .at + 1) w
+  pub digits-start : {w : ℕ} → c .at < length t → DigitOf (getD t (c .at) 0) w → w ≤ 9 → 0 < w → DigitsLoop t c (c .at + 1) w
   digits-start {w} k q l z = record {
     n = w;
     goes = rw (drop-one t (c .at) k, q .low l) (positive-first w _ z l);
@@ -173,7 +173,7 @@ module _ {t : List ℕ} {c : Cursor} where
     onward = omega arith;
   }
 
-  pub digits-more : {at value w v : ℕ} → Digits t c at value → at < length t → DigitOf (getD t at 0) w → w ≤ 9 → v ≡ capped (value * 10 + w) → Digits t c (at + 1) v
+  pub digits-more : {at value w v : ℕ} → DigitsLoop t c at value → at < length t → DigitOf (getD t at 0) w → w ≤ 9 → v ≡ capped (value * 10 + w) → DigitsLoop t c (at + 1) v
   digits-more {at} {value} {w} {v} d k q l e = record {
     n = d .n * 10 + w;
     goes = d .goes ∙ rw (drop-one t at k, q .low l) (run-digit (d .n) w _ (omega arith));

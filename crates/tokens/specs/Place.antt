@@ -1,4 +1,4 @@
--- The octet at a place of a text. Assumes nothing.
+-- The octet at a place of a text.
 use mathlib.Core.Path.{_≡_, sym, _∙_}
 use mathlib.Core.Logic.{⊎-elim}
 use mathlib.Core.List.{List, _∷_}

@@ -1,4 +1,4 @@
--- How a loop tries the titles of a table, row by row. Assumes nothing.
+-- How a loop tries the titles of a table, row by row.
 use mathlib.Core.Path.{_≡_, refl, sym, _∙_, ap, subst}
 use mathlib.Core.Bool.{Bool, true, false, cond}
 use mathlib.Core.List.{List}
@@ -12,9 +12,9 @@ use Rattle.octets.specs.Parsed.{Parsed, stuck, and-then}
 use Rattle.octets.specs.Codec.{tried}
 use Rattle.tokens.specs.declared.Cursor.{Cursor}
 use Rattle.tokens.specs.declared.Row.{Row}
-use Rattle.tokens.specs.Cursor.{left-of, Safe, Keeps, keeps-then, Passed, Stopped, cursors, Reads, stopped, clash}
+use Rattle.tokens.specs.Cursor.{left-of, Safe, Keeps, keeps-then, Passed, Stopped, cursors, Finds, stopped, clash}
 use Rattle.tokens.specs.Step.{Found, moves}
-use Rattle.tokens.specs.Leaf.{entry, found-same, found-entry}
+use Rattle.tokens.specs.Leaf.{rowParser, found-same, found-entry}
 use Rattle.tokens.specs.Choice.{choice, found-first, Further, further-keeps, second-further}
 use Rattle.edns.specs.Table.{tableOctets}
 use Rattle.tokens.specs.Table.{triedRows, triedIn, rows-tried}
@@ -105,27 +105,27 @@ module _ {t : List ℕ} {c : Cursor} where
         small = refl;
       }
 
-      go : (b : Bool) → Reads {A = ℕ} t (λ n. 0 ≡ n) (halted c) (and-then (left-of b (drop (c .at) t)) (λ u w. stuck w))
+      go : (b : Bool) → Finds {A = ℕ} t (λ n. 0 ≡ n) (halted c) (and-then (left-of b (drop (c .at) t)) (λ u w. stuck w))
       go true = stopped refl
       go false = stopped refl
 
   module _ {title : List ℕ} (key : ℕ) {d : Cursor} (later : List ℕ → Parsed ℕ) (q : Passed title t c d) where
     -- its title is there
-    row-here : d .spelled ≡ true → RowRead (choice (entry title key) later) t c (record { cursor = d; key = key })
+    row-here : d .spelled ≡ true → RowRead (choice (rowParser title key) later) t c (record { cursor = d; key = key })
     row-here g = record {
-      found = found-first (entry title key) later (found-entry q key refl) g;
+      found = found-first (rowParser title key) later (found-entry q key refl) g;
       keeps = q .keeps;
       stop = λ e. clash e g;
     }
 
     -- its title is not there: one of the rows after it, or the further place
     row-other : {r : Row} → d .spelled ≡ false → RowRead later t c r
-        → RowRead (choice (entry title key) later) t c (rowOnTo (d .at) r)
+        → RowRead (choice (rowParser title key) later) t c (rowOnTo (d .at) r)
     row-other {r} g y =
         let f = on-further (d .at) (r .cursor) in
         let x = found-entry q {P = λ n. key ≡ n} key refl in
         record {
-          found = second-further (entry title key) later (λ z n. r .key ≡ n) x (y .found) g f (λ n h. h);
+          found = second-further (rowParser title key) later (λ z n. r .key ≡ n) x (y .found) g f (λ n h. h);
           keeps = keeps-then (y .keeps) (further-keeps (y .keeps .safe) (q .keeps .safe .inside) f);
           stop = y .stop;
         }
@@ -186,12 +186,12 @@ module _ {table t : List ℕ} {c : Cursor} {from : ℕ} {far : Cursor} (y : Tryi
     abbrev later : List ℕ → Parsed ℕ
     later = triedRows (fewer .0) (drop (from + 2 + size) table)
 
-    onwards : (r : Row) → RowRead (choice (entry (titleAt table from size) (getD table from 0)) later) t c r
+    onwards : (r : Row) → RowRead (choice (rowParser (titleAt table from size) (getD table from 0)) later) t c r
         → RowRead (triedIn table) t c (rowOnTo (far .at) r)
     onwards r x = y .goes r (row-same _ (λ w. sym (begins w)) x)
       where
         begins : (w : List ℕ) → triedRows (y .left) (drop from table) w
-            ≡ choice (entry (titleAt table from size) (getD table from 0)) later w
+            ≡ choice (rowParser (titleAt table from size) (getD table from 0)) later w
         begins w = ap (λ (m : ℕ). triedRows m (drop from table) w) (fewer .1) ∙ rows-row table (fewer .0) from a w
 
     pub trying-here : {key : ℕ} → d .spelled ≡ true → key ≡ getD table from 0 → Reading d key

@@ -1,4 +1,4 @@
--- Signed numbers: what is kept of one, and how it is read. Assumes nothing.
+-- Signed numbers: what is kept of one, and how it is read.
 use mathlib.Core.Path.{_≡_, refl, sym, _∙_, ap}
 use mathlib.Core.Logic.{inl, inr}
 use mathlib.Core.Bool.{Bool, true, false, cond}
@@ -22,12 +22,12 @@ use Rattle.tokens.specs.Leaf.{found-same, passed-took, passed-stop, stri
 use Rattle.tokens.specs.Number.{capped, NumberRead, PositiveRead}
 
 -- what is known of a TTL that was read: whether it is in range, and if so its 32 bits
-abbrev pub Kept : Bool → ℕ → Signed → Type 0
-Kept fits bits s = (fits ≡ ttl? s) × (T fits → bits ≡ unsigned s)
+abbrev pub TtlKept : Bool → ℕ → Signed → Type 0
+TtlKept fits bits s = (fits ≡ ttl? s) × (T fits → bits ≡ unsigned s)
 
 -- a signed number was read; on a stop it counts as 0, and out of range the bits are 0
 pub record SignedRead (t : List ℕ) (c : Cursor) (r : Ttl) : Type 0 where
-  pub found : Found (signedNumber .parse) (Kept (r .fits) (r .bits)) t c (r .cursor)
+  pub found : Found (signedNumber .parse) (TtlKept (r .fits) (r .bits)) t c (r .cursor)
   pub keeps : Keeps t c (r .cursor)
   pub stop : r .cursor .spelled ≡ false → (r .fits ≡ true) × (r .bits ≡ 0)
   pub over : r .fits ≡ false → r .bits ≡ 0
@@ -90,13 +90,13 @@ signed-minus w r e = rw (strip-first 45 w r e) (go (positive-at-once r))
 -- ---- what is kept
 pub record Plus (a : Amount) (r : Ttl) : Type 0 where
   pub cursor : r .cursor ≡ a .cursor
-  pub kept : (n : ℕ) → a .value ≡ capped n → Kept (r .fits) (r .bits) (plus n)
+  pub kept : (n : ℕ) → a .value ≡ capped n → TtlKept (r .fits) (r .bits) (plus n)
   pub none : a .value ≡ 0 → (r .fits ≡ true) × (r .bits ≡ 0)
   pub over : r .fits ≡ false → r .bits ≡ 0
 
 pub record Minus (a : Amount) (r : Ttl) : Type 0 where
   pub cursor : r .cursor ≡ a .cursor
-  pub kept : (n : ℕ) → (0 < n) × (a .value ≡ capped n) → Kept (r .fits) (r .bits) (minus n)
+  pub kept : (n : ℕ) → (0 < n) × (a .value ≡ capped n) → TtlKept (r .fits) (r .bits) (minus n)
   pub none : a .value ≡ 0 → (r .fits ≡ true) × (r .bits ≡ 0)
   pub over : r .fits ≡ false → r .bits ≡ 0
 

@@ -1,4 +1,4 @@
--- Readers one after another, and what they write. Assumes nothing.
+-- Readers one after another, and what they write.
 use mathlib.Core.Path.{_≡_, refl, sym, _∙_, subst}
 use mathlib.Core.Bool.{Bool, true, false, not, cond, _&&_, and-true, and-false, and-assoc}
 use mathlib.Core.List.{List, [], _∷_, _++_}
@@ -13,7 +13,7 @@ use Rattle.octets.specs.Parsed.{Parsed, took, stuck, and-then, strip, took≢st
 use Rattle.octets.specs.Codec.{Codec, exact}
 use Rattle.octets.specs.Overlay.{Wrote, then, nothing, before, each-append, each-single}
 use Rattle.tokens.specs.declared.Cursor.{Cursor}
-use Rattle.tokens.specs.Cursor.{left-of, rest, Safe, Keeps, Passed, Reads, stopped, taken, reads-as, reads-at, clash}
+use Rattle.tokens.specs.Cursor.{left-of, rest, Safe, Keeps, Passed, Finds, stopped, taken, reads-as, reads-at, clash}
 
 -- ---- what is read, whatever is done with it
 pub then-then : {A B C : Type 0} (o : Parsed A) (f : A → List ℕ → Parsed B) (g : B → List ℕ → Parsed C) → and-then (and-then o f) g ≡ and-then o (λ a r. and-then (f a r) g)
@@ -33,12 +33,12 @@ moves-then m n = record { safe = n .safe; onward = omega (arith, m .onward, n .o
 
 -- from c on it found what p finds there, and P of it
 pub record Found {A : Type 0} (p : List ℕ → Parsed A) (P : A → Type 0) (t : List ℕ) (c r : Cursor) : Type 0 where
-  pub reads : Reads t P r (and-then (rest t c) (λ u w. p w))
+  pub reads : Finds t P r (and-then (rest t c) (λ u w. p w))
   pub moves : Moves t c r
 
 -- a reader that has stopped stays
 pub found-stuck : {A : Type 0} {P : A → Type 0} (p : List ℕ → Parsed A) (t : List ℕ) (c : Cursor) → Safe t c → c .spelled ≡ false → Found p P t c c
-found-stuck {A} {P} p t c h g = record { reads = subst (λ b. Reads t P c (and-then (left-of b (drop (c .at) t)) (λ u w. p w))) (sym g) (stopped g); moves = record { safe = h; onward = omega arith } }
+found-stuck {A} {P} p t c h g = record { reads = subst (λ b. Finds t P c (and-then (left-of b (drop (c .at) t)) (λ u w. p w))) (sym g) (stopped g); moves = record { safe = h; onward = omega arith } }
 
 module _ {A : Type 0} {P : A → Type 0} {t : List ℕ} {p : List ℕ → Parsed A} where
   pub found-as : {Q : A → Type 0} {c r : Cursor} → Found p P t c r → ((a : A) → P a → Q a) → Found p Q t c r
@@ -48,47 +48,47 @@ module _ {A : Type 0} {P : A → Type 0} {t : List ℕ} {p : List ℕ → Parsed
   pub found-none : {Q : A → Type 0} {c r : Cursor} → Found p P t c r → r .spelled ≡ false → Found p Q t c r
   found-none {Q} {c} {r} x e = record { reads = go (x .reads); moves = x .moves }
     where
-      go : {o : Parsed A} → Reads t P r o → Reads t Q r o
+      go : {o : Parsed A} → Finds t P r o → Finds t Q r o
       go (stopped g) = stopped g
       go (taken g v) = clash e g
 
   -- where the reader has not stopped, what p finds there
-  pub found-there : {c r : Cursor} → Found p P t c r → c .spelled ≡ true → Reads t P r (p (drop (c .at) t))
+  pub found-there : {c r : Cursor} → Found p P t c r → c .spelled ≡ true → Finds t P r (p (drop (c .at) t))
   found-there {c} {r} x g = rw g at (x .reads)
 
   pub found-lit : {l : List ℕ} {c r s : Cursor} → Passed l t c r → Found p P t r s → Found (λ w. and-then (strip l w) (λ u r. p r)) P t c s
   found-lit {l} {c} {r} {s} q y = record {
-    reads = subst (Reads t P s) (then-then (rest t c) (λ u w. strip l w) (λ u w. p w)) (rw (q .left) at (y .reads));
+    reads = subst (Finds t P s) (then-then (rest t c) (λ u w. strip l w) (λ u w. p w)) (rw (q .left) at (y .reads));
     moves = moves-then (moves (q .keeps)) (y .moves);
   }
 
   pub found-map : {B : Type 0} {Q : B → Type 0} {c r : Cursor} (f : A → B) → ((a : A) → P a → Q (f a)) → Found p P t c r → Found (λ w. and-then (p w) λ a r. took (f a) r) Q t c r
-  found-map {B} {Q} {c} {r} f h x = record { reads = subst (Reads t Q r) (then-then (rest t c) (λ u w. p w) _) (go (x .reads)); moves = x .moves }
+  found-map {B} {Q} {c} {r} f h x = record { reads = subst (Finds t Q r) (then-then (rest t c) (λ u w. p w) _) (go (x .reads)); moves = x .moves }
     where
-      go : {o : Parsed A} → Reads t P r o → Reads t Q r (and-then o λ a r. took (f a) r)
+      go : {o : Parsed A} → Finds t P r o → Finds t Q r (and-then o λ a r. took (f a) r)
       go (stopped g) = stopped g
       go (taken {a} g v) = taken g (h a v)
 
   pub found-behind : {l : List ℕ} {c r s : Cursor} → Found p P t c r → Passed l t r s → Found (λ w. and-then (p w) λ a w. and-then (strip l w) λ u r. took a r) P t c s
-  found-behind {l} {c} {r} {s} x q = record { reads = subst (Reads t P s) (then-then (rest t c) (λ u w. p w) _) (go (x .reads)); moves = moves-then (x .moves) (moves (q .keeps)) }
+  found-behind {l} {c} {r} {s} x q = record { reads = subst (Finds t P s) (then-then (rest t c) (λ u w. p w) _) (go (x .reads)); moves = moves-then (x .moves) (moves (q .keeps)) }
     where
-      by : {a : A} → P a → (b : Bool) → s .spelled ≡ b → Reads t P s (and-then (left-of b (drop (s .at) t)) λ u r. took a r)
+      by : {a : A} → P a → (b : Bool) → s .spelled ≡ b → Finds t P s (and-then (left-of b (drop (s .at) t)) λ u r. took a r)
       by v true e = taken e v
       by v false e = stopped e
 
-      still : (b : Bool) → s .spelled ≡ b → left-of b (drop (s .at) t) ≡ stuck (drop (r .at) t) → Reads t P s (stuck (drop (r .at) t))
+      still : (b : Bool) → s .spelled ≡ b → left-of b (drop (s .at) t) ≡ stuck (drop (r .at) t) → Finds t P s (stuck (drop (r .at) t))
       still true e d = absurd (subst Took d tt)
         where
           Took : Parsed (Unit {0}) → Type 0
           Took (took u w) = Unit {0}
           Took (stuck w) = ⊥
-      still false e d = subst (λ (o : Parsed (Unit {0})). Reads t P s (again o)) d (stopped e)
+      still false e d = subst (λ (o : Parsed (Unit {0})). Finds t P s (again o)) d (stopped e)
         where
           again : Parsed (Unit {0}) → Parsed A
           again (took u w) = stuck w
           again (stuck w) = stuck w
 
-      go : {o : Parsed A} → Reads t P r o → Reads t P s (and-then o λ a w. and-then (strip l w) λ u r. took a r)
+      go : {o : Parsed A} → Finds t P r o → Finds t P s (and-then o λ a w. and-then (strip l w) λ u r. took a r)
       go (stopped g) = still (s .spelled) refl (rw g at (q .left))
       go (taken {a} g v) =
           let e : rest t s ≡ strip l (drop (r .at) t) = rw g at (q .left) in
@@ -96,17 +96,17 @@ module _ {A : Type 0} {P : A → Type 0} {t : List ℕ} {p : List ℕ → Parsed
 
   pub found-pair : {B : Type 0} {Q : B → Type 0} {q : List ℕ → Parsed B} {c r s : Cursor} → Found p P t c r → Found q Q t r s
       → Found {A = A × B} (λ w. and-then (p w) λ a w. and-then (q w) λ b r. took (a, b) r) (λ u. P (u .0) × Q (u .1)) t c s
-  found-pair {B} {Q} {q} {c} {r} {s} x y = record { reads = subst (Reads t (λ u. P (u .0) × Q (u .1)) s) (then-then (rest t c) (λ u w. p w) _) (go (x .reads) (y .reads)); moves = moves-then (x .moves) (y .moves) }
+  found-pair {B} {Q} {q} {c} {r} {s} x y = record { reads = subst (Finds t (λ u. P (u .0) × Q (u .1)) s) (then-then (rest t c) (λ u w. p w) _) (go (x .reads) (y .reads)); moves = moves-then (x .moves) (y .moves) }
     where
-      two : {a : A} {o : Parsed B} → P a → Reads t Q s o → Reads {A = A × B} t (λ u. P (u .0) × Q (u .1)) s (and-then o λ b r. took (a, b) r)
+      two : {a : A} {o : Parsed B} → P a → Finds t Q s o → Finds {A = A × B} t (λ u. P (u .0) × Q (u .1)) s (and-then o λ b r. took (a, b) r)
       two v (stopped g) = stopped g
       two v (taken g w) = taken g (v, w)
 
-      same : {w : List ℕ} → Reads t Q s (stuck w) → Reads {A = A × B} t (λ u. P (u .0) × Q (u .1)) s (stuck w)
+      same : {w : List ℕ} → Finds t Q s (stuck w) → Finds {A = A × B} t (λ u. P (u .0) × Q (u .1)) s (stuck w)
       same (stopped g) = stopped g
 
-      go : {o : Parsed A} → Reads t P r o → Reads t Q s (and-then (rest t r) (λ u w. q w))
-          → Reads {A = A × B} t (λ u. P (u .0) × Q (u .1)) s (and-then o λ a w. and-then (q w) λ b r. took (a, b) r)
+      go : {o : Parsed A} → Finds t P r o → Finds t Q s (and-then (rest t r) (λ u w. q w))
+          → Finds {A = A × B} t (λ u. P (u .0) × Q (u .1)) s (and-then o λ a w. and-then (q w) λ b r. took (a, b) r)
       go (stopped g) y = same (rw g at y)
       go (taken {a} g v) y = two v (rw g at y)
 
@@ -114,32 +114,32 @@ module _ {A : Type 0} {P : A → Type 0} {t : List ℕ} {p : List ℕ → Parsed
 pub found-by : {A : Type 0} {B : A → Type 0} {p : List ℕ → Parsed A} {t : List ℕ} {c r s : Cursor} (q : (a : A) → List ℕ → Parsed (B a)) (Q : (a : A) → B a → Type 0) (k : A)
     → Found p (λ a. k ≡ a) t c r → Found (q k) (Q k) t r s
     → Found {A = (a : A) × B a} (λ w. and-then (p w) λ a w. and-then (q a w) λ b r. took (a, b) r) (λ u. (k ≡ u .0) × Q (u .0) (u .1)) t c s
-found-by {A} {B} {p} {t} {c} {r} {s} q Q k x y = record { reads = subst (Reads t R s) (then-then (rest t c) (λ u w. p w) _) (go (x .reads) (y .reads)); moves = moves-then (x .moves) (y .moves) }
+found-by {A} {B} {p} {t} {c} {r} {s} q Q k x y = record { reads = subst (Finds t R s) (then-then (rest t c) (λ u w. p w) _) (go (x .reads) (y .reads)); moves = moves-then (x .moves) (y .moves) }
   where
     R : (a : A) × B a → Type 0
     R u = (k ≡ u .0) × Q (u .0) (u .1)
 
-    two : (a : A) {o : Parsed (B a)} → k ≡ a → Reads t (Q a) s o → Reads t R s (and-then o λ b r. took (a, b) r)
+    two : (a : A) {o : Parsed (B a)} → k ≡ a → Finds t (Q a) s o → Finds t R s (and-then o λ b r. took (a, b) r)
     two a e (stopped g) = stopped g
     two a e (taken g w) = taken g (e, w)
 
-    same : {w : List ℕ} → Reads t (Q k) s (stuck w) → Reads t R s (stuck w)
+    same : {w : List ℕ} → Finds t (Q k) s (stuck w) → Finds t R s (stuck w)
     same (stopped g) = stopped g
 
-    go : {o : Parsed A} → Reads t (λ a. k ≡ a) r o → Reads t (Q k) s (and-then (rest t r) (λ u w. q k w))
-        → Reads t R s (and-then o λ a w. and-then (q a w) λ b r. took (a, b) r)
+    go : {o : Parsed A} → Finds t (λ a. k ≡ a) r o → Finds t (Q k) s (and-then (rest t r) (λ u w. q k w))
+        → Finds t R s (and-then o λ a w. and-then (q a w) λ b r. took (a, b) r)
     go (stopped g) y = same (rw g at y)
-    go (taken {a} g e) y = two a e (subst (λ (a : A). Reads t (Q a) s (q a (drop (r .at) t))) e (rw g at y))
+    go (taken {a} g e) y = two a e (subst (λ (a : A). Finds t (Q a) s (q a (drop (r .at) t))) e (rw g at y))
 
 -- what a codec's parser finds is in the grammar
 pub found-sound : {A : Type 0} {I : A → Type 0} {f : A → List ℕ} {F : List ℕ → Type 0} (p : Codec I f F) {P : A → Type 0} {t : List ℕ} {c r : Cursor} → Found (p .parse) P t c r → Found (p .parse) (λ a. I a × P a) t c r
 found-sound {A} {I} p {P} {t} {c} {r} x = record { reads = go (c .spelled) (x .reads); moves = x .moves }
   where
-    one : {o : Parsed A} → ((a : A) (w : List ℕ) → o ≡ took a w → I a) → Reads t P r o → Reads t (λ a. I a × P a) r o
+    one : {o : Parsed A} → ((a : A) (w : List ℕ) → o ≡ took a w → I a) → Finds t P r o → Finds t (λ a. I a × P a) r o
     one h (stopped g) = stopped g
     one h (taken {a} g v) = taken g (h a _ refl, v)
 
-    go : (b : Bool) → Reads t P r (and-then (left-of b (drop (c .at) t)) (λ u w. p .parse w)) → Reads t (λ a. I a × P a) r (and-then (left-of b (drop (c .at) t)) (λ u w. p .parse w))
+    go : (b : Bool) → Finds t P r (and-then (left-of b (drop (c .at) t)) (λ u w. p .parse w)) → Finds t (λ a. I a × P a) r (and-then (left-of b (drop (c .at) t)) (λ u w. p .parse w))
     go true y = one (λ a w e. exact p (drop (c .at) t) a w e .0) y
     go false y = one (λ a w e. absurd (took≢stuck (sym e))) y
 
@@ -342,7 +342,7 @@ pub put-when : {A : Type 0} {ok ok′ : A → Bool} {wire : A → List ℕ} {c r
 put-when {ok = ok} {ok′ = ok′} {c = c} {a = a} e p = record { meant = p .meant ∙ and-when (c .meant) (ok a) (ok′ a) e; small = p .small; wrote = p .wrote }
 
 module _ {A : Type 0} {wire : A → List ℕ} {c : Cursor} {b : List ℕ} {a : A} where
-  -- octets written in front of those of a value, in the places held for them
+  -- octets written before those of a value, in the places held for them
   pub put-before : (front : A → List ℕ) {ok : A → Bool} {n e : ℕ} {h r : Cursor} {b₁ b₂ : List ℕ} → Held n c h → length (front a) ≡ n → Put ok wire h b r b₁ a
       → (T (r .meant) → T (r .small) → Wrote b₁ (c .to) (front a) b₂ e) → Put ok (λ a. front a ++ wire a) c b r b₂ a
   put-before front {ok} {n} {e} {h} {r} {b₁} {b₂} k l p w = record {

@@ -1,4 +1,4 @@
--- A table of titles in octets, and the parser that tries its rows. Assumes nothing.
+-- A table of titles in octets, and the parser that tries its rows.
 use mathlib.Core.Path.{_≡_, refl}
 use mathlib.Core.Bool.{cond}
 use mathlib.Core.List.{List, [], _∷_, _++_}
@@ -14,7 +14,7 @@ use Rattle.octets.specs.Parsed.{Parsed, stuck, or-else}
 use Rattle.octets.specs.Codec.{tried}
 use Rattle.octets.specs.Fields.{drop-one}
 use Rattle.edns.specs.Table.{tableOctets}
-use Rattle.tokens.specs.Leaf.{entry}
+use Rattle.tokens.specs.Leaf.{rowParser}
 use Rattle.tokens.specs.Choice.{choice}
 
 -- the titles of a table in turn, up to a row that is not whole; the first argument bounds the rows
@@ -23,7 +23,7 @@ triedRows zero table w = stuck w
 triedRows (suc n) [] w = stuck w
 triedRows (suc n) (key ∷ []) w = stuck w
 triedRows (suc n) (key ∷ size ∷ l) w =
-    cond (leb size (length l)) (or-else (entry (take size l) key w) (triedRows n (drop size l) w)) (stuck w)
+    cond (leb size (length l)) (or-else (rowParser (take size l) key w) (triedRows n (drop size l) w)) (stuck w)
 
 abbrev pub triedIn : List ℕ → List ℕ → Parsed ℕ
 triedIn table = triedRows (length table) table
@@ -86,7 +86,7 @@ module _ (table : List ℕ) (n from : ℕ) where
   -- a row, and those after it
   pub rows-row : {size : ℕ} → RowAt table from size → (w : List ℕ)
       → triedRows (suc n) (drop from table) w
-      ≡ choice (entry (titleAt table from size) (getD table from 0)) (triedRows n (drop (from + 2 + size) table)) w
+      ≡ choice (rowParser (titleAt table from size) (getD table from 0)) (triedRows n (drop (from + 2 + size) table)) w
   unfolding triedRows
   rows-row {size} k w =
       let e : from + 2 + size - (from + 2) ≡ size = omega arith in

@@ -1,4 +1,4 @@
--- Answers as C reads them: a number and a value. 0 is success alone, so the number and the value are the whole answer. Assumes nothing.
+-- Answers as C reads them: a number and a value. 0 is success alone, so the number and the value are the whole answer.
 use mathlib.Core.Path.{_≡_, refl, sym, ap, _∙_, subst}
 use mathlib.Core.Bool.{Bool, true, false, cond}
 use mathlib.Core.Option.{Option, none, some}
@@ -7,16 +7,16 @@ use Prim.Native.Nat.{ℕ, zero, suc, _<_}
 use native.Mathlib.Omega.{arith}
 use lib.Dec.{leb, ltb, eqb}
 use lib.ListN.{length}
-use Rattle.octets.specs.Answer.{Output, output, Answer, success, refusal, Left, overwritten, delivered}
+use Rattle.octets.specs.Answer.{Output, output, Answer, success, refusal, Result, overwritten, delivered}
 use Rattle.octets.specs.Answer as answer
 use Rattle.octets.specs.Parsed.{Parsed, took, stuck}
 use Rattle.octets.specs.Calls.{answerOf, Gives, Call}
 use Rattle.octets.specs.declared.Outcome.{Outcome}
 use Rattle.octets.specs.declared.Outcome.the-variants.{Length, Refused}
-use Rattle.names.specs.Name.{Kind, cut, reserved, target, long, short, surplus, number}
+use Rattle.names.specs.Name.{Kind, cut, reserved, target, long, short, surplus, refusalNumber}
 use Rattle.records.specs.Message.{Message, form}
 use Rattle.records.specs.Read.{Reached, reached, stopped}
-use Rattle.records.specs.Decode.{Decoded, accepted, refused, zOf, sectionsOf, messageOf, afterReading, decode}
+use Rattle.records.specs.Decode.{Decoded, accepted, refused, zOf, sectionsOf, messageRead, afterReading, decode}
 use Rattle.json.specs.View.{View}
 use Rattle.json.specs.View as view
 use Rattle.json.specs.Limits.{within?}
@@ -27,13 +27,13 @@ use Rattle.strict.specs.Parser.{parse}
 use Rattle.strict.specs.Reading.{meant, parsed, reading, toWire, Reads}
 
 -- 0 and the length, or the refusal's number and its place
-abbrev pub numberOf : Outcome → ℕ
-numberOf (Length n) = 0
-numberOf (Refused number place) = number
+abbrev pub cNumber : Outcome → ℕ
+cNumber (Length n) = 0
+cNumber (Refused refusalNumber place) = refusalNumber
 
-abbrev pub valueOf : Outcome → ℕ
-valueOf (Length n) = n
-valueOf (Refused number place) = place
+abbrev pub cValue : Outcome → ℕ
+cValue (Length n) = n
+cValue (Refused refusalNumber place) = place
 
 -- the answer that C reads off
 abbrev pub outcomeOf : ℕ → ℕ → Outcome
@@ -53,7 +53,7 @@ abbrev NumberedOut : Output → Type 0
 NumberedOut (output l) = Unit {0}
 NumberedOut (answer.refused k p) = 0 < k
 
-kind-number : (kind : Kind) → 0 < number kind
+kind-number : (kind : Kind) → 0 < refusalNumber kind
 kind-number cut = omega arith
 kind-number reserved = omega arith
 kind-number target = omega arith
@@ -77,7 +77,7 @@ decode-numbered s =
     either (ltb 65535 (length s)) (refused 2 0) _ (omega arith)
     (either (ltb (length s) 12) (refused 1 0) _ (omega arith)
     (either (eqb (zOf s) 1) (refused 3 0) _ (omega arith)
-    (ended s (messageOf s) (sectionsOf s .additional .end))))
+    (ended s (messageRead s) (sectionsOf s .additional .end))))
 
 converted-numbered : (s : List ℕ) → NumberedOut (converted s)
 unfolding converted
@@ -107,7 +107,7 @@ delivered-numbered : (noRoom : ℕ) → 0 < noRoom → (o : Output) (b : List �
 unfolding delivered
 delivered-numbered noRoom r (output l) b h = go (leb (length l) (length b))
   where
-    left : Bool → Left
+    left : Bool → Result
     left t = cond t (record { answer = success (length l); buffer = overwritten l b }) (record { answer = refusal noRoom 0; buffer = b })
 
     go : (t : Bool) → Numbered (left t .answer)
@@ -116,16 +116,16 @@ delivered-numbered noRoom r (output l) b h = go (leb (length l) (length b))
 delivered-numbered noRoom r (answer.refused k p) b h = h
 
 -- ---- so the number and the value are the answer
-back : (o : Outcome) → Numbered (answerOf o) → outcomeOf (numberOf o) (valueOf o) ≡ o
+back : (o : Outcome) → Numbered (answerOf o) → outcomeOf (cNumber o) (cValue o) ≡ o
 back (Length n) h = refl
 back (Refused zero p) h = absurd (omega arith)
 back (Refused (suc k) p) h = refl
 
-same : {left : Left} {after : List ℕ} {n v : ℕ} (o : Outcome) → Numbered (left .answer) → Gives left o after → n ≡ numberOf o → v ≡ valueOf o → Gives left (outcomeOf n v) after
+same : {left : Result} {after : List ℕ} {n v : ℕ} (o : Outcome) → Numbered (left .answer) → Gives left o after → n ≡ cNumber o → v ≡ cValue o → Gives left (outcomeOf n v) after
 same {left} {after} o h g e f = rw (e, f, back o (subst Numbered (sym (g .answers)) h)) g
 
 -- what the exported functions ensure, from what the conversions ensure
-module _ (s b : List ℕ) {after : List ℕ} {n v : ℕ} (given : Outcome) (e : n ≡ numberOf given) (f : v ≡ valueOf given) where
+module _ (s b : List ℕ) {after : List ℕ} {n v : ℕ} (given : Outcome) (e : n ≡ cNumber given) (f : v ≡ cValue given) where
   pub c-converts : Converts (record { input = s; before = b; answer = given; after = after }) → Converts (record { input = s; before = b; answer = outcomeOf n v; after = after })
   unfolding toText
   c-converts c = record { octets = c .octets; promise = same given (delivered-numbered 10 (omega arith) (converted s) b (converted-numbered s)) (c .promise) e f }

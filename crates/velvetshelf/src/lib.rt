@@ -6,11 +6,11 @@ ghost use mathlib.Core.Path.{_≡_};
 ghost use Rattle.octets.specs.Calls.{Call};
 ghost use Rattle.json.specs.Converted.{Converts};
 ghost use Rattle.strict.specs.Reading.{Reads};
-ghost use Rattle.velvetshelf.specs.Calls.{numberOf, valueOf, outcomeOf};
+ghost use Rattle.velvetshelf.specs.Calls.{cNumber, cValue, outcomeOf};
 
 // 0 for success, else the refusal's number.
 fn number_of(outcome: Outcome) -> u32
-    ensures { λ r. ⌜ r ≡ numberOf outcome ⌝ }
+    ensures { λ r. ⌜ r ≡ cNumber outcome ⌝ }
 {
     match outcome {
         Outcome::Length(_) => 0,
@@ -20,7 +20,7 @@ fn number_of(outcome: Outcome) -> u32
 
 // The length, or the refusal's place.
 fn value_of(outcome: Outcome) -> u64
-    ensures { λ r. ⌜ r ≡ valueOf outcome ⌝ }
+    ensures { λ r. ⌜ r ≡ cValue outcome ⌝ }
 {
     match outcome {
         Outcome::Length(length) => length as u64,

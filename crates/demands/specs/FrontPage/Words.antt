@@ -1,4 +1,4 @@
--- The words of the front page. Assumes nothing.
+-- The words of the front page.
 use mathlib.Core.List.{_∷_}
 use lib.Dec.{T}
 use Rattle.json.specs.View.{view?}
@@ -41,12 +41,12 @@ abbrev pub Length : Call → ℕ → List ℕ → Type 0
 Length c n l = (length l ≤ room c) × (n ≡ length l)
 
 -- given room: if the message is accepted, the buffer is at least as long as its text
-abbrev pub Fits : Decoded → ℕ → Type 0
-Fits (accepted m) size = length (text m) ≤ size
-Fits (refused number place) size = Unit {0}
+abbrev pub FitsIn : Decoded → ℕ → Type 0
+FitsIn (accepted m) size = length (text m) ≤ size
+FitsIn (refused number place) size = Unit {0}
 
 abbrev pub Room : Call → Type 0
-Room c = Fits (decode (c .input)) (room c)
+Room c = FitsIn (decode (c .input)) (room c)
 
 -- a call of one of the two conversions; two calls of the same one
 abbrev pub Made : Call → Type 0

@@ -1,17 +1,16 @@
 -- `digits::fits_layout` meets its contract: what the pieces from the i-th on say is the whole answer.
--- Assumes nothing.
 use Prim.Native.Nat.{_≤_, _-_}
 use native.Mathlib.Omega.{arith}
 use Rattle.octets.specs.Lists.{paired}
-use Rattle.records.specs.Layout.{fits?}
+use Rattle.records.specs.Layout.{rdataFits?}
 use Rattle.digits.specs.Skipping.{name-ends}
-use Rattle.digits.specs.Fitting.{Fits, fits-start, fits-end, fits-some, fits-short, fits-part, fits-named, fits-unfit, fits-name}
+use Rattle.digits.specs.Fitting.{FitLoop, fits-start, fits-end, fits-some, fits-short, fits-part, fits-named, fits-unfit, fits-name}
 use borrow.Author.Needs.{needs}
 use Rattle.digits.proofs.fits_layout.Statement.{statement}
 use Rattle.digits.proofs.fits_layout.Tie as tie
 
 abbrev Inv-loop : tie.InvT-loop
-Inv-loop kind hex size i₀ at₀ i at = (at ≤ size) × Fits (paired hex) kind size (fits? kind (paired hex)) i at
+Inv-loop kind hex size i₀ at₀ i at = (at ≤ size) × FitLoop (paired hex) kind size (rdataFits? kind (paired hex)) i at
 
 abbrev μ-loop : tie.MeasureT-loop
 μ-loop kind hex size i₀ at₀ i at = 3 - i

@@ -1,5 +1,4 @@
 -- `edns::is_edns` meets its contract: the tests without RDATA, then RDATA.
--- Assumes nothing.
 use Rattle.edns.specs.Ways.{shows-fields, shows-options}
 use borrow.Author.Needs.{needs}
 use Rattle.edns.proofs.is_edns.Statement.{statement}

@@ -1,5 +1,4 @@
 -- `edns::known_flags` meets its contract: one way for no flags, one for others.
--- Assumes nothing.
 use borrow.Author.Tests.{eq-eqb, ne-eqb}
 use Rattle.edns.proofs.known_flags.Statement.{statement}
 use Rattle.edns.proofs.known_flags.Tie as tie

@@ -1,5 +1,4 @@
 -- `edns::listed_rcode` meets its contract: the table has the row.
--- Assumes nothing.
 use Rattle.octets.specs.Lists.{each}
 use Rattle.edns.specs.Edns.{rcodes}
 use Rattle.edns.specs.Table.{row-listed}

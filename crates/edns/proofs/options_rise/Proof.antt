@@ -1,15 +1,14 @@
 -- `edns::options_rise` meets its contract: what is read from `at` on gives the whole answer.
--- Assumes nothing.
 use Prim.Native.Nat.{_≤_, _-_}
 use Rattle.either.specs.Either.{octetsIn}
 use Rattle.edns.specs.Element.{optionsRise}
-use Rattle.edns.specs.Ways.{From, rises-start, rises-cut, rises-short, rises-low, rises-more, rises-end}
+use Rattle.edns.specs.Ways.{RiseLoop, rises-start, rises-cut, rises-short, rises-low, rises-more, rises-end}
 use borrow.Author.Needs.{needs}
 use Rattle.edns.proofs.options_rise.Statement.{statement}
 use Rattle.edns.proofs.options_rise.Tie as tie
 
 abbrev Inv-loop : tie.InvT-loop
-Inv-loop s hex size least₀ at₀ least at = (at ≤ size) × (least ≤ 65536) × From (octetsIn hex s) (optionsRise (octetsIn hex s)) least at
+Inv-loop s hex size least₀ at₀ least at = (at ≤ size) × (least ≤ 65536) × RiseLoop (octetsIn hex s) (optionsRise (octetsIn hex s)) least at
 
 abbrev μ-loop : tie.MeasureT-loop
 μ-loop s hex size least₀ at₀ least at = size - at

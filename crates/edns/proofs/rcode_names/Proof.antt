@@ -1,5 +1,4 @@
 -- `edns::rcode_names` meets its contract: the table of the code is computed from that of the definition.
--- Assumes nothing.
 use mathlib.Core.Path.{refl}
 use Rattle.octets.specs.Lists.{each}
 use Rattle.edns.specs.Edns.{rcodes}

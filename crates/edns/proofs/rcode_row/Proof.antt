@@ -1,16 +1,15 @@
 -- `edns::rcode_row` meets its contract: as long as no row has the RCODE, those from `at` on decide.
--- Assumes nothing.
 use Prim.Native.Nat.{_-_}
 use lib.ListN.{length}
 use Rattle.octets.specs.Lists.{each}
 use Rattle.edns.specs.Edns.{rcodes}
-use Rattle.edns.specs.Table.{tableOctets, Row, row-start, row-here, row-next, row-room, row-end}
+use Rattle.edns.specs.Table.{tableOctets, RowLoop, row-start, row-here, row-next, row-room, row-end}
 use borrow.Author.Needs.{needs}
 use Rattle.edns.proofs.rcode_row.Statement.{statement}
 use Rattle.edns.proofs.rcode_row.Tie as tie
 
 abbrev Inv-loop : tie.InvT-loop
-Inv-loop n table at₀ at = Row rcodes n at
+Inv-loop n table at₀ at = RowLoop rcodes n at
 
 abbrev μ-loop : tie.MeasureT-loop
 μ-loop n table at₀ at = length (tableOctets rcodes) - at

@@ -1,5 +1,4 @@
 -- `either::count` meets its contract: digits, and not.
--- Assumes nothing.
 use Rattle.either.specs.Either.{count-hex, count-plain}
 use borrow.Author.Needs.{needs}
 use Rattle.either.proofs.count.Statement.{statement}

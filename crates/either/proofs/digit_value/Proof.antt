@@ -1,5 +1,4 @@
 -- `either::digit_value` meets its contract: 0 to 9, and A to F.
--- Assumes nothing.
 use borrow.Author.Tests.{lt-ltb, le-ltb}
 use borrow.Author.Needs.{needs}
 use Rattle.either.proofs.digit_value.Statement.{statement}

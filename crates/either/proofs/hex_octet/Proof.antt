@@ -1,5 +1,4 @@
 -- `either::hex_octet` meets its contract: its two digits.
--- Assumes nothing.
 use Prim.Native.Nat.{_+_, _*_}
 use Rattle.either.specs.Digits.{digit-at, octet-is}
 use borrow.Author.Needs.{needs}

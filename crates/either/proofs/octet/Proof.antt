@@ -1,5 +1,4 @@
 -- `either::octet` meets its contract: digits, and not.
--- Assumes nothing.
 use Rattle.either.specs.Either.{hex-digits, hex-room, octet-hex, plain-room, octet-plain}
 use borrow.Author.Needs.{needs}
 use Rattle.either.proofs.octet.Statement.{statement}

@@ -1,5 +1,4 @@
 -- `either::two_at` meets its contract: the sum of the two octets.
--- Assumes nothing.
 use native.Mathlib.Omega.{arith}
 use Rattle.either.specs.Either.{octets-short}
 use borrow.Author.Needs.{needs}

@@ -1,4 +1,4 @@
--- `forms::opt_of` meets its contract: one way each. Assumes nothing.
+-- `forms::opt_of` meets its contract: one way each.
 use borrow.Author.Needs.{needs}
 use Rattle.forms.specs.Putting.{opt-yes, opt-no}
 use Rattle.forms.proofs.opt_of.Statement.{statement}

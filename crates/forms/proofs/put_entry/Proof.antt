@@ -1,4 +1,4 @@
--- `forms::put_entry` meets its contract: the flag chooses. Assumes nothing.
+-- `forms::put_entry` meets its contract: the flag chooses.
 use borrow.Author.Needs.{needs}
 use Rattle.forms.proofs.put_entry.Statement.{statement}
 use Rattle.forms.proofs.put_entry.Tie as tie

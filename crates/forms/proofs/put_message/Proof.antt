@@ -1,4 +1,4 @@
--- `forms::put_message` meets its contract: the header's octets and four sections, of which each may stop. Assumes nothing.
+-- `forms::put_message` meets its contract: the header's octets and four sections, of which each may stop.
 use borrow.Author.Needs.{needs}
 use mathlib.Core.Path.{_∙_}
 use native.Mathlib.Omega.{arith}

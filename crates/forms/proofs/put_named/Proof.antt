@@ -1,4 +1,4 @@
--- `forms::put_named` meets its contract: three texts, one after another. Assumes nothing.
+-- `forms::put_named` meets its contract: three texts, one after another.
 use borrow.Author.Needs.{needs}
 use Rattle.octets.specs.Overlay.{then}
 use Rattle.forms.proofs.put_named.Statement.{statement}

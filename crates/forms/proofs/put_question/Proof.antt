@@ -1,4 +1,4 @@
--- `forms::put_question` meets its contract: the question's fault, or its form. Assumes nothing.
+-- `forms::put_question` meets its contract: the question's fault, or its form.
 use borrow.Author.Needs.{needs}
 use native.Mathlib.Omega.{arith}
 use Rattle.records.specs.Told.{asks-within, question-room}

@@ -1,4 +1,4 @@
--- `forms::put_rdata` meets its contract: to lay the pieces from the i-th on is to lay the whole. Assumes nothing.
+-- `forms::put_rdata` meets its contract: to lay the pieces from the i-th on is to lay the whole.
 use borrow.Author.Needs.{needs}
 use Prim.Native.Nat.{_^_}
 use Prim.Native.Nat.{_+_, _*_, _-_, _≤_}
@@ -12,14 +12,14 @@ use Rattle.records.specs.Layout.{rdataAt}
 use Rattle.records.specs.Parts.{layoutIn}
 use Rattle.records.specs.Pieces.{part-within, name-within, done-within}
 use Rattle.records.specs.Told.{name-room}
-use Rattle.forms.specs.Putting.{Rest, restAt, rest-first, rest-part, rest-name, rest-done, rest-misfit, lays-short, wrote-part, part-room}
+use Rattle.forms.specs.Putting.{RdataLoop, restAt, rest-first, rest-part, rest-name, rest-done, rest-misfit, lays-short, wrote-part, part-room}
 use Rattle.forms.proofs.put_rdata.Statement.{statement}
 use Rattle.forms.proofs.put_rdata.Tie as tie
 
 abbrev Inv-loop : tie.InvT-loop
 Inv-loop s kind start size out₀ to i₀ at₀ next₀ out i at next =
     (start ≤ at) × (at ≤ start + size) × (next ≤ 255 * at) × (length out ≡ length out₀)
-    × Rest (restAt s (layoutIn kind size) start (start + size) at i) (rdataAt true s kind start size) out₀ to out next
+    × RdataLoop (restAt s (layoutIn kind size) start (start + size) at i) (rdataAt true s kind start size) out₀ to out next
 
 abbrev μ-loop : tie.MeasureT-loop
 μ-loop s kind start size out₀ to i₀ at₀ next₀ out i at next = 3 - i

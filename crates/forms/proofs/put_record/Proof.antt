@@ -1,4 +1,4 @@
--- `forms::put_record` meets its contract: the head's fault, RDATA's fault, or RDATA and then its length in front of it. Assumes nothing.
+-- `forms::put_record` meets its contract: the head's fault, RDATA's fault, or RDATA and then its length before it.
 use borrow.Author.Needs.{needs}
 use native.Mathlib.Omega.{arith}
 use Rattle.records.specs.Told.{heads-within, record-room}

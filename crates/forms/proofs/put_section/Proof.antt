@@ -1,4 +1,4 @@
--- `forms::put_section` meets its contract: to write the entries that are left is to write the whole section. Assumes nothing.
+-- `forms::put_section` meets its contract: to write the entries that are left is to write the whole section.
 use borrow.Author.Needs.{needs}
 use Prim.Native.Nat.{_+_, _*_, _≤_}
 use mathlib.Core.Path.{_≡_, _∙_}

@@ -1,4 +1,4 @@
--- `forms::uncompress` meets its contract: the first run finds the refusals, the second one writes. Assumes nothing.
+-- `forms::uncompress` meets its contract: the first run finds the refusals, the second one writes.
 use borrow.Author.Needs.{needs}
 use Rattle.forms.specs.Uncompressed.{too-long, too-short, z-set, at-fault, left-over, form-long, no-room, with-room}
 use Rattle.forms.proofs.uncompress.Statement.{statement}

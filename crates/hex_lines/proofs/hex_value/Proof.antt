@@ -1,4 +1,4 @@
--- `hex_lines::hex_value` meets its contract: one way for each range. Assumes nothing.
+-- `hex_lines::hex_value` meets its contract: one way for each range.
 use borrow.Author.Needs.{needs}
 use Rattle.hex_lines.specs.Digits.{before-digits, decimal-digit, before-capitals, capital-digit, before-small}
 use Rattle.hex_lines.specs.Digits.{small-digit, after-small}

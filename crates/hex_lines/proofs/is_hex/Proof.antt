@@ -1,4 +1,4 @@
--- `hex_lines::is_hex` meets its contract: two digits a turn. Assumes nothing.
+-- `hex_lines::is_hex` meets its contract: two digits a turn.
 use borrow.Author.Needs.{needs}
 use Prim.Native.Nat.{_≤_, _-_}
 use lib.ListN.{length}

@@ -1,16 +1,16 @@
--- `hex_lines::put_octets` meets its contract: one octet a turn, from two digits. Assumes nothing.
+-- `hex_lines::put_octets` meets its contract: one octet a turn, from two digits.
 use borrow.Author.Needs.{needs}
 use mathlib.Core.Path.{_≡_}
 use Prim.Native.Nat.{_*_, _-_, _≤_}
 use native.Mathlib.Omega.{arith}
 use lib.ListN.{length}
-use Rattle.hex_lines.specs.Steps.{Rest, rest-start, first-below, second-below, rest-more, rest-end}
+use Rattle.hex_lines.specs.Steps.{HexLoop, rest-start, first-below, second-below, rest-more, rest-end}
 use Rattle.hex_lines.proofs.put_octets.Statement.{statement}
 use Rattle.hex_lines.proofs.put_octets.Tie as tie
 
 abbrev Inv-loop : tie.InvT-loop
 Inv-loop line out₀ to₀ i₀ out to i =
-    (i ≤ length line) × (2 * to ≡ i) × (length out ≡ length out₀) × Rest line out₀ out to i
+    (i ≤ length line) × (2 * to ≡ i) × (length out ≡ length out₀) × HexLoop line out₀ out to i
 
 abbrev μ-loop : tie.MeasureT-loop
 μ-loop line out₀ to₀ i₀ out to i = length line - i

@@ -1,4 +1,4 @@
--- `hex_lines::unhex` meets its contract, by what `is_hex` answers. Assumes nothing.
+-- `hex_lines::unhex` meets its contract, by what `is_hex` answers.
 use borrow.Author.Needs.{needs}
 use mathlib.Core.Path.{sym, _∙_}
 use Rattle.hex_lines.specs.Steps.{unhexed-bad, unhexed-good}

@@ -1,4 +1,4 @@
--- `line_answers::put_answer` meets its contract: one way for each kind of line. Assumes nothing.
+-- `line_answers::put_answer` meets its contract: one way for each kind of line.
 use borrow.Author.Needs.{needs}
 use native.Mathlib.Omega.{arith}
 use Rattle.hex_lines.specs.Steps.{within, octets-read}

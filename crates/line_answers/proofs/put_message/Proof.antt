@@ -1,4 +1,4 @@
--- `line_answers::put_message` meets its contract, by the converter's answer. Assumes nothing.
+-- `line_answers::put_message` meets its contract, by the converter's answer.
 use borrow.Author.Needs.{needs}
 use native.Mathlib.Omega.{arith}
 use Rattle.line_answers.specs.Answering.{text-answer, text-within, refused-answer, place-below}

@@ -1,4 +1,4 @@
--- `line_answers::put_reading` meets its contract: a line over the limit, or one within it. Assumes nothing.
+-- `line_answers::put_reading` meets its contract: a line over the limit, or one within it.
 use borrow.Author.Needs.{needs}
 use Rattle.line_answers.specs.Answers.{wireLine, wireLeft}
 use Rattle.line_answers.specs.Limits.{over-limit, over-left, in-limit, in-left}

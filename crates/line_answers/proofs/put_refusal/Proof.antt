@@ -1,4 +1,4 @@
--- `line_answers::put_refusal` meets its contract: four parts. Assumes nothing.
+-- `line_answers::put_refusal` meets its contract: four parts.
 use borrow.Author.Needs.{needs}
 use Rattle.octets.specs.Overlay.{then}
 use Rattle.line_answers.specs.Answers.{refusalLine}

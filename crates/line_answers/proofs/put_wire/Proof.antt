@@ -1,4 +1,4 @@
--- `line_answers::put_wire` meets its contract, by the reader's answer. Assumes nothing.
+-- `line_answers::put_wire` meets its contract, by the reader's answer.
 use borrow.Author.Needs.{needs}
 use native.Mathlib.Omega.{arith}
 use Rattle.line_answers.specs.Places.{place-first}

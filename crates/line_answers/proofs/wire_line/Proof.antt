@@ -1,4 +1,4 @@
--- `line_answers::wire_line` meets its contract: the answer, and the end of the line. Assumes nothing.
+-- `line_answers::wire_line` meets its contract: the answer, and the end of the line.
 use borrow.Author.Needs.{needs}
 use Rattle.octets.specs.Overlay.{then}
 use Rattle.line_answers.specs.Answers.{printed}

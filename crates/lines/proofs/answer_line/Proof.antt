@@ -1,4 +1,4 @@
--- `lines::answer_line` meets its contract, program by program. Assumes nothing.
+-- `lines::answer_line` meets its contract, program by program.
 use borrow.Author.Needs.{needs}
 use Rattle.lines.specs.Programs.{answered, left}
 use Rattle.lines.specs.declared.Program.the-variants.{ToText, ToWire}

@@ -1,4 +1,4 @@
--- `lines::step` meets its contract: the end of a line, an octet with room, an octet without. Assumes nothing.
+-- `lines::step` meets its contract: the end of a line, an octet with room, an octet without.
 use borrow.Author.Needs.{needs}
 use Rattle.lines.specs.Steps.{end-kept, end-printed, end-message, room-kept, full-kept, other-printed}
 use Rattle.lines.specs.Steps.{other-message}

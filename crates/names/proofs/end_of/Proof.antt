@@ -1,4 +1,4 @@
--- `names::end_of` meets its contract, by the two limits. Assumes nothing.
+-- `names::end_of` meets its contract, by the two limits.
 use borrow.Author.Needs.{needs}
 use Rattle.names.proofs.end_of.Statement.{statement}
 use Rattle.names.proofs.end_of.Tie as tie

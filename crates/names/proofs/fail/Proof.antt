@@ -1,4 +1,4 @@
--- `names::fail` meets its contract, by the definition of `failed`. Assumes nothing.
+-- `names::fail` meets its contract, by the definition of `failed`.
 use mathlib.Core.Path.{refl}
 use Rattle.names.specs.Answer.{failed}
 use Rattle.names.proofs.fail.Statement.{statement}

@@ -1,4 +1,4 @@
--- `names::keep` meets its contract: one store, or the name is too long. Assumes nothing.
+-- `names::keep` meets its contract: one store, or the name is too long.
 use borrow.Author.Needs.{needs}
 use native.Mathlib.Omega.{arith}
 use Rattle.octets.specs.Overlay.{overlay}

@@ -1,21 +1,21 @@
 -- `names::name_at` meets its contract. The outer loop's invariant: the walk from `place` on gives the whole answer, from what
 -- is written in `form` so far. The inner loop's: k octets of the label are copied, unless the name is too long, and the end is
 -- not before them. The measure of the outer loop is the bound on the definition's steps: a label adds to `total`, a pointer
--- lowers `low`. Assumes nothing.
+-- lowers `low`.
 use Prim.Native.Nat.{_≤_, _+_, _-_}
 use mathlib.Core.Path.{_≡_}
 use borrow.Author.Needs.{needs}
 use lib.ListN.{length}
 use Rattle.names.specs.Walk.{part, endOf, nameAt}
 use Rattle.names.specs.Answer.{limitOf, nameRead}
-use Rattle.names.specs.Ways.{From, from-start, Kept, Label, keep-none, keep-more, name-past, root-read, label-cut, label-long, label-read, bits-reserved, pointer-cut, target-low, target-far, jump-read}
+use Rattle.names.specs.Ways.{WalkLoop, from-start, KeptOctets, LabelAt, keep-none, keep-more, name-past, root-read, label-cut, label-long, label-read, bits-reserved, pointer-cut, target-low, target-far, jump-read}
 use Rattle.names.proofs.name_at.Statement.{statement}
 use Rattle.names.proofs.name_at.Tie as tie
 
 abbrev Inv-loop : tie.InvT-loop
 Inv-loop s at bound low place total next form₀ end x more to₀ k₀ form to k =
     (k ≤ x) × (place + 1 + k ≤ end) × (to ≡ total + 1 + k) × (length form ≡ 255)
-    × Kept more form₀ to₀ (part s (place + 1) k) form to × Label s bound place end x
+    × KeptOctets more form₀ to₀ (part s (place + 1) k) form to × LabelAt s bound place end x
 
 abbrev μ-loop : tie.MeasureT-loop
 μ-loop s at bound low place total next form₀ end x more to₀ k₀ form to k = x - k
@@ -23,7 +23,7 @@ abbrev μ-loop : tie.MeasureT-loop
 abbrev Inv-walk : tie.InvT-walk
 Inv-walk s at bound₀ low₀ place₀ total₀ next₀ form₀ bound low place total next form =
     (total ≤ 254) × (endOf s (limitOf bound) ≤ length s) × (length form ≡ 255)
-    × From s (nameRead (nameAt s (limitOf bound₀) at)) form bound low next total place
+    × WalkLoop s (nameRead (nameAt s (limitOf bound₀) at)) form bound low next total place
 
 abbrev μ-walk : tie.MeasureT-walk
 μ-walk s at bound₀ low₀ place₀ total₀ next₀ form₀ bound low place total next form = low + (255 - total)

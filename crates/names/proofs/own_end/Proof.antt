@@ -1,4 +1,4 @@
--- `names::own_end` meets its contract, by the test. Assumes nothing.
+-- `names::own_end` meets its contract, by the test.
 use borrow.Author.Tests.{ne-eqb}
 use Rattle.names.proofs.own_end.Statement.{statement}
 use Rattle.names.proofs.own_end.Tie as tie

@@ -1,4 +1,4 @@
--- `names::past` meets its contract, by the two limits. Assumes nothing.
+-- `names::past` meets its contract, by the two limits.
 use borrow.Author.Needs.{needs}
 use Rattle.names.proofs.past.Statement.{statement}
 use Rattle.names.proofs.past.Tie as tie

@@ -1,5 +1,4 @@
 -- `octets::put_decimal` meets its contract: the digits of a tenth, and then the last digit.
--- Assumes nothing.
 use borrow.Author.Needs.{needs}
 use native.Mathlib.Omega.{arith}
 use Rattle.octets.specs.Writing.{decimal-longer, decimal-length, wrote-digit, wrote-digits}

@@ -1,4 +1,4 @@
--- `octets::copy` meets its contract: after `i` turns the first `i` octets are copied. Assumes nothing.
+-- `octets::copy` meets its contract: after `i` turns the first `i` octets are copied.
 use borrow.Author.Needs.{needs}
 use mathlib.Core.Path.{_≡_}
 use Prim.Native.Nat.{_≤_, _+_, _-_}

@@ -1,4 +1,4 @@
--- `octets::copy_hex` meets its contract: after `i` turns the first `i` octets are written. Assumes nothing.
+-- `octets::copy_hex` meets its contract: after `i` turns the first `i` octets are written.
 use borrow.Author.Needs.{needs}
 use mathlib.Core.Path.{_≡_}
 use Prim.Native.Nat.{_≤_, _+_, _*_, _-_}

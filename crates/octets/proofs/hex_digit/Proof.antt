@@ -1,5 +1,4 @@
 -- `octets::hex_digit` meets its contract: one way for each kind of digit.
--- Assumes nothing.
 use borrow.Author.Needs.{needs}
 use Rattle.octets.specs.Writing.{hex-low, hex-high}
 use Rattle.octets.proofs.hex_digit.Statement.{statement}

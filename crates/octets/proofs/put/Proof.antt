@@ -1,5 +1,4 @@
 -- `octets::put` meets its contract: with room it is one store, without it nothing is written.
--- Assumes nothing.
 use borrow.Author.Needs.{needs}
 use mathlib.Core.Path.{refl}
 use Rattle.octets.specs.Overlay.{overlay, past}

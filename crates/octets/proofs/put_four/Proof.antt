@@ -1,5 +1,4 @@
 -- `octets::put_four` meets its contract: the two halves.
--- Assumes nothing.
 use borrow.Author.Needs.{needs}
 use Rattle.octets.specs.Overlay.{then}
 use Rattle.octets.proofs.put_four.Statement.{statement}

@@ -1,5 +1,4 @@
 -- `octets::put_hex` meets its contract: past the end nothing is written; given room, `copy_hex` writes; else, after `i` turns, the first `i` octets are written.
--- Assumes nothing.
 use borrow.Author.Needs.{needs}
 use mathlib.Core.Path.{_≡_}
 use Prim.Native.Nat.{_≤_, _+_, _*_, _-_}

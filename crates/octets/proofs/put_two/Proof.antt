@@ -1,5 +1,4 @@
 -- `octets::put_two` meets its contract: two octets.
--- Assumes nothing.
 use borrow.Author.Needs.{needs}
 use Rattle.octets.specs.Writing.{wrote-two}
 use Rattle.octets.proofs.put_two.Statement.{statement}

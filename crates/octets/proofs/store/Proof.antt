@@ -1,4 +1,4 @@
--- `octets::store` meets its contract: it is one store. Assumes nothing.
+-- `octets::store` meets its contract: it is one store.
 use borrow.Author.Needs.{needs}
 use Rattle.octets.specs.Overlay.{overlay}
 use Rattle.octets.proofs.store.Statement.{statement}

@@ -1,5 +1,4 @@
 -- `octets::store_octet` meets its contract: two digits.
--- Assumes nothing.
 use borrow.Author.Needs.{needs}
 use Rattle.octets.specs.Writing.{wrote-octet}
 use Rattle.octets.proofs.store_octet.Statement.{statement}

@@ -1,17 +1,16 @@
 -- `options::all_zero` meets its contract: as long as no octet differs from zero, those from `i` on decide.
--- Assumes nothing.
 use Prim.Native.Nat.{_-_}
 use Rattle.octets.specs.Lists.{all}
 use Rattle.either.specs.Either.{octetsIn}
 use Rattle.options.specs.Options.{zero?}
 use Rattle.options.specs.Every.{zero-is, zero-not}
-use Rattle.either.specs.Every.{Rest, rest-start, rest-next, rest-fails, rest-ends}
+use Rattle.either.specs.Every.{EveryLoop, rest-start, rest-next, rest-fails, rest-ends}
 use borrow.Author.Needs.{needs}
 use Rattle.options.proofs.all_zero.Statement.{statement}
 use Rattle.options.proofs.all_zero.Tie as tie
 
 abbrev Inv-loop : tie.InvT-loop
-Inv-loop s hex size i₀ i = Rest zero? (octetsIn hex s) (all zero? (octetsIn hex s)) i
+Inv-loop s hex size i₀ i = EveryLoop zero? (octetsIn hex s) (all zero? (octetsIn hex s)) i
 
 abbrev μ-loop : tie.MeasureT-loop
 μ-loop s hex size i₀ i = size - i

@@ -1,5 +1,4 @@
 -- `options::has_shape` meets its contract: one way for each row of the table, and one for all other codes.
--- Assumes nothing.
 use mathlib.Core.Path.{refl}
 use Rattle.octets.specs.Lists.{lookup}
 use Rattle.options.specs.Options.{rows, formOf, shape}

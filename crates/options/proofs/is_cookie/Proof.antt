@@ -1,5 +1,4 @@
 -- `options::is_cookie` meets its contract: 8, fewer than 16, others.
--- Assumes nothing.
 use borrow.Author.Tests.{eq-eqb, ne-eqb, le-leb, lt-leb}
 use Rattle.options.proofs.is_cookie.Statement.{statement}
 use Rattle.options.proofs.is_cookie.Tie as tie

@@ -1,5 +1,4 @@
 -- `options::is_error` meets its contract: too short, and by its text.
--- Assumes nothing.
 use Rattle.options.specs.Shapes.{error-short, error-text}
 use borrow.Author.Needs.{needs}
 use Rattle.options.proofs.is_error.Statement.{statement}

@@ -1,5 +1,4 @@
 -- `options::is_expiry` meets its contract: none, or four.
--- Assumes nothing.
 use borrow.Author.Tests.{eq-eqb, ne-eqb}
 use Rattle.options.proofs.is_expiry.Statement.{statement}
 use Rattle.options.proofs.is_expiry.Tie as tie

@@ -1,18 +1,17 @@
 -- `options::is_text` meets its contract: as long as no octet is outside 0x20 to 0x7E, those from `i` on decide.
--- Assumes nothing.
 use Prim.Native.Nat.{_-_}
 use lib.ListN.{drop}
 use Rattle.octets.specs.Lists.{all}
 use Rattle.either.specs.Either.{octetsIn}
 use Rattle.spelling.specs.Spelling.{printable?}
 use Rattle.options.specs.Every.{printable-is, printable-low, printable-high}
-use Rattle.either.specs.Every.{Rest, rest-start, rest-next, rest-fails, rest-ends}
+use Rattle.either.specs.Every.{EveryLoop, rest-start, rest-next, rest-fails, rest-ends}
 use borrow.Author.Needs.{needs}
 use Rattle.options.proofs.is_text.Statement.{statement}
 use Rattle.options.proofs.is_text.Tie as tie
 
 abbrev Inv-loop : tie.InvT-loop
-Inv-loop s hex size i₀ i = Rest printable? (octetsIn hex s) (all printable? (drop 2 (octetsIn hex s))) i
+Inv-loop s hex size i₀ i = EveryLoop printable? (octetsIn hex s) (all printable? (drop 2 (octetsIn hex s))) i
 
 abbrev μ-loop : tie.MeasureT-loop
 μ-loop s hex size i₀ i = size - i

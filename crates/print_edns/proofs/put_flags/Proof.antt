@@ -1,7 +1,6 @@
 -- `print_edns::put_flags` meets its contract: a text for each bit.
--- Assumes nothing.
 use native.Mathlib.Omega.{arith}
-use Rattle.octets.specs.Lists.{textOf}
+use Rattle.octets.specs.Lists.{rowText}
 use Rattle.edns.specs.Edns.{flags}
 use Rattle.print_edns.specs.Writing.{text-is}
 use borrow.Author.Needs.{needs}
@@ -18,7 +17,7 @@ same-length : tie.Need-same-length
 same-length c = search needs
 
 returns : tie.Need-returns
-unfolding textOf flags
+unfolding rowText flags
 returns c = (text-is 0 flags (c .before .before .before .before .before .if1 .taken) (c .before .before .put-all .ensures), search needs)
 
 slice-aggregate-put-all-2 : tie.Need-slice-aggregate-put-all-2
@@ -31,7 +30,7 @@ same-length-2 : tie.Need-same-length-2
 same-length-2 c = search needs
 
 returns-2 : tie.Need-returns-2
-unfolding textOf flags
+unfolding rowText flags
 returns-2 c = (text-is 1 flags {n = c .before .before .before .before .before .before .before .args .bit} (omega arith) (c .before .before .put-all2 .ensures), search needs)
 
 pub put-flags-spec : {M : Type 1} → statement M

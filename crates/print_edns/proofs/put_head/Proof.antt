@@ -1,5 +1,4 @@
 -- `print_edns::put_head` meets its contract: its parts in order.
--- Assumes nothing.
 use Rattle.print_edns.specs.Writing.{wrote-head}
 use borrow.Author.Needs.{needs}
 use Rattle.print_edns.proofs.put_head.Statement.{statement}

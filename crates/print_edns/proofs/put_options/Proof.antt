@@ -1,16 +1,15 @@
 -- `print_edns::put_options` meets its contract: what is left to write, written from `to` on, makes the whole text.
--- Assumes nothing.
 use Prim.Native.Nat.{_+_, _*_, _-_, _≤_}
 use native.Mathlib.Omega.{arith}
 use lib.ListN.{length}
 use Rattle.octets.specs.Overlay.{same-long}
-use Rattle.print_edns.specs.Writing.{Left, left-start, left-room, left-more, left-end}
+use Rattle.print_edns.specs.Writing.{OptionsLoop, left-start, left-room, left-more, left-end}
 use borrow.Author.Needs.{needs}
 use Rattle.print_edns.proofs.put_options.Statement.{statement}
 use Rattle.print_edns.proofs.put_options.Tie as tie
 
 abbrev Inv-loop : tie.InvT-loop
-Inv-loop out₀ at rdata to₀ from₀ out to from = (from ≤ length rdata) × (to ≤ at + 64 * from) × Left rdata out₀ at out to from
+Inv-loop out₀ at rdata to₀ from₀ out to from = (from ≤ length rdata) × (to ≤ at + 64 * from) × OptionsLoop rdata out₀ at out to from
 
 abbrev μ-loop : tie.MeasureT-loop
 μ-loop out₀ at rdata to₀ from₀ out to from = length rdata - from

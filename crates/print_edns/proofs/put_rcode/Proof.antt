@@ -1,5 +1,4 @@
 -- `print_edns::put_rcode` meets its contract: no row, and the name of the row.
--- Assumes nothing.
 use Rattle.octets.specs.Lists.{each}
 use Rattle.edns.specs.Edns.{rcodes}
 use Rattle.edns.specs.Table.{text-room, text-end}

@@ -1,5 +1,4 @@
 -- `print_entry::is_element` meets its contract: each test in order.
--- Assumes nothing.
 use Prim.Native.Nat.{_+_, _-_}
 use native.Mathlib.Omega.{arith}
 use borrow.Author.Needs.{needs}

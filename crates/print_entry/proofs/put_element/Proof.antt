@@ -1,5 +1,4 @@
 -- `print_entry::put_element` meets its contract: a question or a record.
--- Assumes nothing.
 use borrow.Author.Needs.{needs}
 use Rattle.print_entry.specs.Showing.{question-of, element-question, record-of, element-record}
 use Rattle.print_entry.proofs.put_element.Statement.{statement}

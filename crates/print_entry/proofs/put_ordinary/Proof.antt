@@ -1,5 +1,4 @@
 -- `print_entry::put_ordinary` meets its contract: the fields, RDATA and the brace.
--- Assumes nothing.
 use borrow.Author.Needs.{needs}
 use Rattle.print_entry.specs.Showing.{ordinary-rdata, ordinary-prints}
 use Rattle.print_entry.proofs.put_ordinary.Statement.{statement}

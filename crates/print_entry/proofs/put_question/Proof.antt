@@ -1,5 +1,4 @@
 -- `print_entry::put_question` meets its contract: the members and the brace; there is no fault.
--- Assumes nothing.
 use Prim.Native.Nat.{_-_}
 use native.Mathlib.Omega.{arith}
 use borrow.Author.Needs.{needs}

@@ -1,5 +1,4 @@
 -- `print_entry::put_rdata` meets its contract: piece by piece, each in hexadecimal, and the quote where RDATA ends.
--- Assumes nothing.
 use mathlib.Core.Path.{_≡_, _∙_}
 use Prim.Native.Nat.{_^_, _+_, _*_, _-_, _≤_}
 use native.Mathlib.Omega.{arith}
@@ -7,7 +6,7 @@ use borrow.Author.Needs.{needs}
 use lib.ListN.{drop, length}
 use Rattle.octets.specs.Overlay.{same-long}
 use Rattle.records.specs.Pieces.{part-within, name-within, done-within}
-use Rattle.print_entry.specs.Prints.{Rest}
+use Rattle.print_entry.specs.Prints.{PrintLoop}
 use Rattle.print_entry.specs.Elements.{rdataText, piecesText}
 use Rattle.print_entry.specs.Writing.{hex-room, hex-short, pieces-all, pieces-part, pieces-name, pieces-done, pieces-faultless}
 use Rattle.records.specs.Told.{name-room}
@@ -17,7 +16,7 @@ use Rattle.print_entry.proofs.put_rdata.Tie as tie
 abbrev Inv-loop : tie.InvT-loop
 Inv-loop s kind start size out₀ to i₀ at₀ next₀ out i at next =
     (start ≤ at) × (at ≤ start + size) × (i ≤ 3) × (next + 2 * start ≤ to + 510 * i + 2 * at) × (length out ≡ length out₀)
-    × Rest (rdataText s kind start size) out₀ to (piecesText s kind start size i at) out next
+    × PrintLoop (rdataText s kind start size) out₀ to (piecesText s kind start size i at) out next
 
 abbrev μ-loop : tie.MeasureT-loop
 μ-loop s kind start size out₀ to i₀ at₀ next₀ out i at next = 4 - i

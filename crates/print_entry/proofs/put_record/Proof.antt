@@ -1,5 +1,4 @@
 -- `print_entry::put_record` meets its contract: the record by what was read of it; there is no fault.
--- Assumes nothing.
 use Prim.Native.Nat.{_-_}
 use native.Mathlib.Omega.{arith}
 use borrow.Author.Needs.{needs}

@@ -1,5 +1,4 @@
 -- `print_entry::put_shown` meets its contract: the EDNS element, or the record as it is.
--- Assumes nothing.
 use Prim.Native.Nat.{_+_, _-_}
 use native.Mathlib.Omega.{arith}
 use borrow.Author.Needs.{needs}

@@ -1,5 +1,4 @@
 -- `print_entry::put_start` meets its contract: the four members' texts in order.
--- Assumes nothing.
 use borrow.Author.Needs.{needs}
 use Rattle.print_entry.specs.Writing.{wrote-start}
 use Rattle.print_entry.proofs.put_start.Statement.{statement}

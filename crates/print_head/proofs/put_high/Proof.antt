@@ -1,5 +1,4 @@
 -- `print_head::put_high` meets its contract: five members.
--- Assumes nothing.
 use borrow.Author.Needs.{needs}
 use mathlib.Core.Path.{refl}
 use Rattle.octets.specs.Overlay.{nothing}

@@ -1,5 +1,4 @@
 -- `print_head::put_number` meets its contract: the name, and the number.
--- Assumes nothing.
 use borrow.Author.Needs.{needs}
 use Rattle.print_head.specs.Head.{wrote-number}
 use Rattle.print_head.proofs.put_number.Statement.{statement}

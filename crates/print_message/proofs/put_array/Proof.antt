@@ -1,12 +1,11 @@
 -- `print_message::put_array` meets its contract: the bracket, one element a turn, and the bracket after the last.
--- Assumes nothing.
 use mathlib.Core.Path.{_≡_}
 use mathlib.Core.Bool.{true}
 use Prim.Native.Nat.{_+_, _*_, _≤_}
 use borrow.Author.Needs.{needs}
 use lib.Dec.{eqb}
 use lib.ListN.{length}
-use Rattle.print_entry.specs.Prints.{Rest}
+use Rattle.print_entry.specs.Prints.{PrintLoop}
 use Rattle.print_message.specs.Arrays.{restText, left-all, left-none, left-readable, left-less, array-prints}
 use Rattle.print_message.proofs.put_array.Statement.{statement}
 use Rattle.print_message.proofs.put_array.Tie as tie
@@ -14,7 +13,7 @@ use Rattle.print_message.proofs.put_array.Tie as tie
 abbrev Inv-loop : tie.InvT-loop
 Inv-loop s element count at out₀ to left₀ from₀ next₀ out left from next =
     (left ≤ count) × (at ≤ from) × (from ≤ length s) × (next + 4096 * at ≤ next₀ + 4096 * from) × (length out ≡ length out₀)
-    × Rest (restText element s true count at) out₀ next₀ (restText element s (eqb left count) left from) out next
+    × PrintLoop (restText element s true count at) out₀ next₀ (restText element s (eqb left count) left from) out next
 
 abbrev μ-loop : tie.MeasureT-loop
 μ-loop s element count at out₀ to left₀ from₀ next₀ out left from next = left

@@ -1,5 +1,4 @@
 -- `print_message::put_comma` meets its contract: nothing before the first element, else a comma.
--- Assumes nothing.
 use borrow.Author.Needs.{needs}
 use Rattle.print_message.specs.Arrays.{comma-first, comma-later}
 use Rattle.print_message.proofs.put_comma.Statement.{statement}

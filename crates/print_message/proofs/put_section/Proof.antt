@@ -1,5 +1,4 @@
 -- `print_message::put_section` meets its contract: the title and the array.
--- Assumes nothing.
 use borrow.Author.Needs.{needs}
 use Rattle.print_message.specs.Arrays.{section-readable, section-prints}
 use Rattle.print_message.proofs.put_section.Statement.{statement}

@@ -1,5 +1,4 @@
 -- `print_message::put_text` meets its contract: the head, the four sections and the brace.
--- Assumes nothing.
 use native.Mathlib.Omega.{arith}
 use borrow.Author.Needs.{needs}
 use Rattle.octets.specs.Overlay.{same-long}

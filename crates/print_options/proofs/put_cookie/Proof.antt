@@ -1,5 +1,4 @@
 -- `print_options::put_cookie` meets its contract: 8 octets, and 16 to 40.
--- Assumes nothing.
 use Rattle.print_options.specs.Writing.{cookie-room, cookie-client, cookie-both}
 use borrow.Author.Needs.{needs}
 use Rattle.print_options.proofs.put_cookie.Statement.{statement}

@@ -1,5 +1,4 @@
 -- `print_options::put_error` meets its contract: two octets and text.
--- Assumes nothing.
 use Rattle.print_options.specs.Writing.{error-room, error-is}
 use borrow.Author.Needs.{needs}
 use Rattle.print_options.proofs.put_error.Statement.{statement}

@@ -1,5 +1,4 @@
 -- `print_options::put_expire` meets its contract: no octets, and four.
--- Assumes nothing.
 use Rattle.print_options.specs.Writing.{expire-room, expire-none, expire-is}
 use borrow.Author.Needs.{needs}
 use Rattle.print_options.proofs.put_expire.Statement.{statement}

@@ -1,5 +1,4 @@
 -- `print_options::put_keepalive` meets its contract: two octets.
--- Assumes nothing.
 use Rattle.print_options.specs.Writing.{keepalive-room, keepalive-is}
 use borrow.Author.Needs.{needs}
 use Rattle.print_options.proofs.put_keepalive.Statement.{statement}

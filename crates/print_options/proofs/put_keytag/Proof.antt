@@ -1,5 +1,4 @@
 -- `print_options::put_keytag` meets its contract: an even number of octets.
--- Assumes nothing.
 use Rattle.octets.specs.Overlay.{then}
 use Rattle.print_options.specs.Writing.{keytag-is}
 use borrow.Author.Needs.{needs}

@@ -1,5 +1,4 @@
 -- `print_options::put_member` meets its contract: no shape, one way for each row of the table, one for other codes.
--- Assumes nothing.
 use Rattle.options.specs.Options.{rows}
 use Rattle.options.specs.Shapes.{shaped-at}
 use Rattle.print_options.specs.Writing.{at-code, dau-is, dhu-is, n3u-is, unshaped-is, unlisted-is}

@@ -1,5 +1,4 @@
 -- `print_options::put_nsid` meets its contract: the value in hexadecimal.
--- Assumes nothing.
 use borrow.Author.Needs.{needs}
 use Rattle.print_options.specs.Writing.{nsid-is}
 use Rattle.print_options.proofs.put_nsid.Statement.{statement}

@@ -1,5 +1,4 @@
 -- `print_options::put_octets` meets its contract: the name and the list.
--- Assumes nothing.
 use borrow.Author.Needs.{needs}
 use Rattle.octets.specs.Overlay.{then}
 use Rattle.print_options.proofs.put_octets.Statement.{statement}

@@ -1,5 +1,4 @@
 -- `print_options::put_other` meets its contract: the name with the code, and the value in hexadecimal.
--- Assumes nothing.
 use borrow.Author.Needs.{needs}
 use Rattle.print_options.specs.Writing.{other-is}
 use Rattle.print_options.proofs.put_other.Statement.{statement}

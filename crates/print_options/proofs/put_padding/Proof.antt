@@ -1,5 +1,4 @@
 -- `print_options::put_padding` meets its contract: all octets zero, and not.
--- Assumes nothing.
 use borrow.Author.Needs.{needs}
 use Rattle.print_options.specs.Writing.{padding-zero, padding-is}
 use Rattle.print_options.proofs.put_padding.Statement.{statement}

@@ -1,5 +1,4 @@
 -- `print_values::put_entry` meets its contract: the mark, and a number of two octets or one.
--- Assumes nothing.
 use Rattle.print_values.specs.Entries.{two-entry, one-entry, two-short, one-short}
 use borrow.Author.Needs.{needs}
 use Rattle.print_values.proofs.put_entry.Statement.{statement}

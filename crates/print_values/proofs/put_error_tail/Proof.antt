@@ -1,5 +1,4 @@
 -- `print_values::put_error_tail` meets its contract: no text, and text.
--- Assumes nothing.
 use borrow.Author.Needs.{needs}
 use Rattle.print_values.specs.Parts.{error-bare, error-text}
 use Rattle.print_values.proofs.put_error_tail.Statement.{statement}

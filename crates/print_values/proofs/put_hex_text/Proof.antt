@@ -1,5 +1,4 @@
 -- `print_values::put_hex_text` meets its contract: the text before, the digits and the quote.
--- Assumes nothing.
 use borrow.Author.Needs.{needs}
 use Rattle.print_values.specs.Parts.{wrote-hex}
 use Rattle.print_values.proofs.put_hex_text.Statement.{statement}

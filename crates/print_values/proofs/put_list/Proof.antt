@@ -1,10 +1,9 @@
 -- `print_values::put_list` meets its contract: the first number after the bracket, then one a turn after a comma.
--- Assumes nothing.
 use mathlib.Core.Path.{_∙_, _≡_}
 use Prim.Native.Nat.{_≤_, _+_, _*_, _-_}
 use lib.ListN.{length, drop}
 use Rattle.octets.specs.Overlay.{same-long}
-use Rattle.print_values.specs.Entries.{numbers, Left, list-none, list-start, list-next, list-last}
+use Rattle.print_values.specs.Entries.{numbers, ListLoop, list-none, list-start, list-next, list-last}
 use borrow.Author.Needs.{needs}
 use Rattle.print_values.proofs.put_list.Statement.{statement}
 use Rattle.print_values.proofs.put_list.Tie as tie
@@ -14,7 +13,7 @@ Inv-loop out₀ at value width to₀ i₀ out to i =
     (i ≤ length value)
     × (to ≤ at + 4 * i)
     × (length out ≡ length out₀)
-    × Left (numbers width (drop width value)) (numbers width (drop i value)) out₀ to₀ out to
+    × ListLoop (numbers width (drop width value)) (numbers width (drop i value)) out₀ to₀ out to
 
 abbrev μ-loop : tie.MeasureT-loop
 μ-loop out₀ at value width to₀ i₀ out to i = length value - i

@@ -1,13 +1,13 @@
--- `records::begun_at` meets its contract: the fields before the i-th fit and end at `place`. Assumes nothing.
+-- `records::begun_at` meets its contract: the fields before the i-th fit and end at `place`.
 use borrow.Author.Needs.{needs}
 use Prim.Native.Nat.{_≤_, _-_}
 use lib.ListN.{length}
-use Rattle.records.specs.Reading.{Fields, fields-start, fields-more, begun-faulty, name-within, begun-cut, begun-whole, begun-fits}
+use Rattle.records.specs.Reading.{FieldsLoop, fields-start, fields-more, begun-faulty, name-within, begun-cut, begun-whole, begun-fits}
 use Rattle.records.proofs.begun_at.Statement.{statement}
 use Rattle.records.proofs.begun_at.Tie as tie
 
 abbrev Inv-loop : tie.InvT-loop
-Inv-loop s at widths read next place₀ i₀ place i = (i ≤ length widths) × (place ≤ length s) × Fields s widths next place i
+Inv-loop s at widths read next place₀ i₀ place i = (i ≤ length widths) × (place ≤ length s) × FieldsLoop s widths next place i
 
 abbrev μ-loop : tie.MeasureT-loop
 μ-loop s at widths read next place₀ i₀ place i = length widths - i

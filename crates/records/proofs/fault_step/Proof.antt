@@ -1,4 +1,4 @@
--- `records::fault_step` meets its contract, by the answer. Assumes nothing.
+-- `records::fault_step` meets its contract, by the answer.
 use borrow.Author.Needs.{needs}
 use Rattle.records.proofs.fault_step.Statement.{statement}
 use Rattle.records.proofs.fault_step.Tie as tie

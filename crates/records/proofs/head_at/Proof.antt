@@ -1,4 +1,4 @@
--- `records::head_at` meets its contract: the name's fault, RDATA past the message's end, or the fields after the name. Assumes nothing.
+-- `records::head_at` meets its contract: the name's fault, RDATA past the message's end, or the fields after the name.
 use borrow.Author.Needs.{needs}
 use mathlib.Core.List.{[], _∷_}
 use native.Mathlib.Omega.{arith}

@@ -1,4 +1,4 @@
--- `records::nth_piece` meets its contract: one way for each place. Assumes nothing.
+-- `records::nth_piece` meets its contract: one way for each place.
 use borrow.Author.Needs.{needs}
 use Rattle.records.specs.Pieces.{nth-first, nth-second, nth-third, nth-none}
 use Rattle.records.proofs.nth_piece.Statement.{statement}

@@ -1,5 +1,5 @@
 -- `records::piece_of` meets its contract: one way for each layout, and one for the TYPEs that have none. The compiler tests the
--- TYPEs 2 to 9, but for 6, as a range. Assumes nothing.
+-- TYPEs 2 to 9, but for 6, as a range.
 use borrow.Author.Needs.{needs}
 use borrow.Author.Tests.{le-leb, lt-leb, le-ltb}
 use mathlib.Core.Path.{_≡_, refl, ap, _∙_}

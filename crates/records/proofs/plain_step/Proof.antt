@@ -1,4 +1,4 @@
--- `records::plain_step` meets its contract: by the definition of `plainly`. Assumes nothing.
+-- `records::plain_step` meets its contract: by the definition of `plainly`.
 use mathlib.Core.Path.{refl}
 use Rattle.records.specs.Answer.{plainly}
 use Rattle.records.proofs.plain_step.Statement.{statement}

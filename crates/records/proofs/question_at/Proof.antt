@@ -1,4 +1,4 @@
--- `records::question_at` meets its contract: the name's fault, or TYPE and CLASS after the name. Assumes nothing.
+-- `records::question_at` meets its contract: the name's fault, or TYPE and CLASS after the name.
 use borrow.Author.Needs.{needs}
 use mathlib.Core.List.{[], _∷_}
 use native.Mathlib.Omega.{arith}

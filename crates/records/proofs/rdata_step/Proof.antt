@@ -1,4 +1,4 @@
--- `records::rdata_step` meets its contract: one way for each piece and each of its faults. Assumes nothing.
+-- `records::rdata_step` meets its contract: one way for each piece and each of its faults.
 use borrow.Author.Needs.{needs}
 use Prim.Native.Nat.{_+_}
 use Rattle.records.specs.Pieces.{step-surplus, step-done, step-short, step-part, step-faulty, step-name, with-steps}

@@ -1,5 +1,4 @@
 -- `spelling::put_digits` meets its contract: two backslashes and three digits.
--- Assumes nothing.
 use borrow.Author.Needs.{needs}
 use Rattle.spelling.specs.Writing.{wrote-digits}
 use Rattle.spelling.proofs.put_digits.Statement.{statement}

@@ -1,5 +1,4 @@
 -- `spelling::put_label` meets its contract: after `i` turns the first `i` octets are written.
--- Assumes nothing.
 use borrow.Author.Needs.{needs}
 use Prim.Native.Nat.{_≤_, _+_, _*_, _-_}
 use lib.ListN.{length, take}

@@ -1,5 +1,4 @@
 -- `spelling::put_name` meets its contract: at each length octet, what is written and the text from there on are the whole.
--- Assumes nothing.
 use borrow.Author.Needs.{needs}
 use mathlib.Core.Path.{_≡_}
 use Prim.Native.Nat.{_≤_, _+_, _*_, _-_}

@@ -1,5 +1,4 @@
 -- `spelling::put_spelled` meets its contract: past the end nothing is written; else one way for each kind of spelling.
--- Assumes nothing.
 use borrow.Author.Needs.{needs}
 use Rattle.octets.specs.Overlay.{past}
 use Rattle.spelling.specs.Writing.{wrote-plain, wrote-dot, wrote-backslash, wrote-other}

@@ -1,5 +1,4 @@
 -- `to_text::convert` meets its contract: the refusal that was found, or the text.
--- Assumes nothing.
 use mathlib.Core.List.{[]}
 use borrow.Author.Needs.{needs}
 use Rattle.to_text.specs.Promise.{converts, convert-refused, convert-accepted, convert-bounded, convert-whole}

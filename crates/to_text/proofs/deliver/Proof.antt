@@ -1,5 +1,4 @@
 -- `to_text::deliver` meets its contract: the text is measured first, or written where there is room for the longest.
--- Assumes nothing.
 use native.Mathlib.Omega.{arith}
 use borrow.Author.Needs.{needs}
 use Rattle.to_text.specs.Promise.{gives-text}

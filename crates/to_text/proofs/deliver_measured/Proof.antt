@@ -1,5 +1,4 @@
 -- `to_text::deliver_measured` meets its contract: a first run measures, and a second one writes where there is room.
--- Assumes nothing.
 use borrow.Author.Needs.{needs}
 use Rattle.to_text.specs.Promise.{measured-long, measured-text}
 use Rattle.to_text.proofs.deliver_measured.Statement.{statement}

@@ -1,5 +1,4 @@
 -- `tokens::comma` meets its contract.
--- Assumes nothing.
 use borrow.Author.Needs.{needs}
 use Rattle.tokens.specs.Items.{comma-none, comma-some}
 use Rattle.tokens.proofs.comma.Statement.{statement}

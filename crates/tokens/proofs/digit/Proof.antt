@@ -1,5 +1,4 @@
 -- `tokens::digit` meets its contract: the number of a digit, or 10.
--- Assumes nothing.
 use native.Mathlib.Omega.{arith}
 use borrow.Author.Needs.{needs}
 use Rattle.tokens.specs.Number.{digit-below, digit-above, digit-is}

@@ -1,5 +1,4 @@
 -- `tokens::flags` meets its contract: the octets of the code are computed to be those of the table of FLAGS.
--- Assumes nothing.
 use mathlib.Core.Path.{refl}
 use borrow.Author.Needs.{needs}
 use Rattle.octets.specs.Lists.{each}

@@ -1,5 +1,4 @@
 -- `tokens::hex` meets its contract: digits in pairs, and the quote after them.
--- Assumes nothing.
 use Prim.Native.Nat.{_-_}
 use native.Mathlib.Omega.{arith}
 use borrow.Author.Needs.{needs}

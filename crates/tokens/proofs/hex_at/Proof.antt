@@ -1,5 +1,4 @@
 -- `tokens::hex_at` meets its contract: a digit at a place.
--- Assumes nothing.
 use borrow.Author.Needs.{needs}
 use Rattle.tokens.specs.Hex.{hex-past, hex-here}
 use Rattle.tokens.proofs.hex_at.Statement.{statement}

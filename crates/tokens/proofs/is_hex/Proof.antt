@@ -1,6 +1,5 @@
 use native.Mathlib.Omega.{arith}
 -- `tokens::is_hex` meets its contract: the digits 0 to 9 and A to F.
--- Assumes nothing.
 use Rattle.tokens.specs.Hex.{hex-below, hex-decimal, hex-between, hex-capital, hex-above}
 use Rattle.tokens.proofs.is_hex.Statement.{statement}
 use Rattle.tokens.proofs.is_hex.Tie as tie

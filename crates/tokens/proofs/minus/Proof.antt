@@ -1,5 +1,4 @@
 -- `tokens::minus` meets its contract: the range of a number after a minus, and its two's complement.
--- Assumes nothing.
 use borrow.Author.Needs.{needs}
 use Rattle.tokens.specs.Signed.{minus-over, minus-zero, minus-fits}
 use Rattle.tokens.proofs.minus.Statement.{statement}

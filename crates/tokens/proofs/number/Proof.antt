@@ -1,5 +1,4 @@
 -- `tokens::number` meets its contract: 0 alone, or a number that is not 0.
--- Assumes nothing.
 use borrow.Author.Needs.{needs}
 use Rattle.tokens.specs.Number.{number-zero, number-other}
 use Rattle.tokens.proofs.number.Statement.{statement}

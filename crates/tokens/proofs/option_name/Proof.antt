@@ -1,5 +1,4 @@
 -- `tokens::option_name` meets its contract: the octets of the code are computed to be those of the table of options.
--- Assumes nothing.
 use mathlib.Core.Path.{refl}
 use borrow.Author.Needs.{needs}
 use Rattle.octets.specs.Lists.{each}

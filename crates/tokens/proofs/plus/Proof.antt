@@ -1,5 +1,4 @@
 -- `tokens::plus` meets its contract: the range of a number with no sign.
--- Assumes nothing.
 use borrow.Author.Needs.{needs}
 use Rattle.tokens.specs.Signed.{plus-over, plus-fits}
 use Rattle.tokens.proofs.plus.Statement.{statement}

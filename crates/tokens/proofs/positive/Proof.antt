@@ -1,15 +1,14 @@
 use native.Mathlib.Omega.{arith}
 -- `tokens::positive` meets its contract: a digit from 1 to 9 and all the digits after it.
--- Assumes nothing.
 use Prim.Native.Nat.{_-_}
 use borrow.Author.Needs.{needs}
 use lib.ListN.{length}
-use Rattle.tokens.specs.Number.{Digits, digits-capped, positive-stuck, positive-short, positive-other, positive-zero, digits-short, digits-end, digits-start, digits-more}
+use Rattle.tokens.specs.Number.{DigitsLoop, digits-capped, positive-stuck, positive-short, positive-other, positive-zero, digits-short, digits-end, digits-start, digits-more}
 use Rattle.tokens.proofs.positive.Statement.{statement}
 use Rattle.tokens.proofs.positive.Tie as tie
 
 abbrev Inv-loop : tie.InvT-loop
-Inv-loop text c at₀ value₀ at value = Digits text c at value
+Inv-loop text c at₀ value₀ at value = DigitsLoop text c at value
 
 abbrev μ-loop : tie.MeasureT-loop
 μ-loop text c at₀ value₀ at value = length text - at

@@ -1,6 +1,5 @@
 use native.Mathlib.Omega.{arith}
 -- `tokens::put_octet` meets its contract: a number of one octet.
--- Assumes nothing.
 use borrow.Author.Needs.{needs}
 use Rattle.tokens.specs.Fields.{octet-out, octet-in}
 use Rattle.tokens.proofs.put_octet.Statement.{statement}

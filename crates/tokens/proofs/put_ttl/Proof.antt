@@ -1,5 +1,4 @@
 -- `tokens::put_ttl` meets its contract: a TTL in four octets.
--- Assumes nothing.
 use borrow.Author.Needs.{needs}
 use Rattle.tokens.specs.Fields.{ttl-out, ttl-in}
 use Rattle.tokens.proofs.put_ttl.Statement.{statement}

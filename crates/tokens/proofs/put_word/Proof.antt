@@ -1,6 +1,5 @@
 use native.Mathlib.Omega.{arith}
 -- `tokens::put_word` meets its contract: a number of two octets.
--- Assumes nothing.
 use mathlib.Core.Path.{refl}
 use borrow.Author.Needs.{needs}
 use Rattle.tokens.specs.Fields.{word-out, word-in}

@@ -1,5 +1,4 @@
 -- `tokens::quote` meets its contract: the quote at a place.
--- Assumes nothing.
 use borrow.Author.Needs.{needs}
 use Rattle.tokens.specs.Hex.{quoted, came-safe}
 use Rattle.tokens.proofs.quote.Statement.{statement}

@@ -1,5 +1,4 @@
 -- `tokens::rcode` meets its contract: the table of RCODE.
--- Assumes nothing.
 use borrow.Author.Needs.{needs}
 use Rattle.tokens.specs.Rows.{row-of}
 use Rattle.tokens.proofs.rcode.Statement.{statement}

@@ -1,5 +1,4 @@
 -- `tokens::row_of` meets its contract: a loop over the rows of a table.
--- Assumes nothing.
 use Prim.Native.Nat.{_-_}
 use lib.ListN.{length}
 use borrow.Author.Needs.{needs}

@@ -1,5 +1,4 @@
 -- `tokens::signed` meets its contract: a number, or a minus and a number that is not 0.
--- Assumes nothing.
 use borrow.Author.Needs.{needs}
 use Rattle.tokens.specs.Signed.{signed-negative, signed-number}
 use Rattle.tokens.proofs.signed.Statement.{statement}

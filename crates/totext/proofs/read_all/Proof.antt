@@ -1,4 +1,4 @@
--- `totext::read_all` meets its contract: the turns left fall. Assumes nothing.
+-- `totext::read_all` meets its contract: the turns left fall.
 use borrow.Author.Needs.{needs}
 use Prim.Native.Nat.{_≤_}
 use Rattle.lines.specs.Programs.{keptOf}

@@ -1,4 +1,4 @@
--- `towire::feed` meets its contract: one octet a turn. Assumes nothing.
+-- `towire::feed` meets its contract: one octet a turn.
 use borrow.Author.Needs.{needs}
 use Prim.Native.Nat.{_-_, _≤_}
 use lib.ListN.{length, take}

@@ -1,5 +1,4 @@
 -- `print_message::head::put_counts` meets its contract: four members, each of a number of two octets.
--- Assumes nothing.
 use borrow.Author.Needs.{needs}
 use Rattle.octets.specs.Overlay.{nothing}
 use Rattle.print_head.specs.Head.{number-after}

@@ -1,5 +1,4 @@
 -- `print_message::head::put_head` meets its contract: the member of ID, and the three parts.
--- Assumes nothing.
 use borrow.Author.Needs.{needs}
 use Rattle.print_message.specs.Head.{wrote-head}
 use Rattle.print_message.proofs.head.put_head.Statement.{statement}

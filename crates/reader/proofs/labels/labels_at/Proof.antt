@@ -1,4 +1,4 @@
-use Rattle.reader.specs.Name.{Labels, labels-start, labels-none, labels-end, labels-bad, labels-far, labels-more}
+use Rattle.reader.specs.Name.{LabelsLoop, labels-start, labels-none, labels-end, labels-bad, labels-far, labels-more}
 use native.Mathlib.Omega.{arith}
 use Prim.Native.Nat.{_-_}
 use lib.ListN.{length}
@@ -7,7 +7,7 @@ use Rattle.reader.proofs.labels.labels_at.Statement.{statement}
 use Rattle.reader.proofs.labels.labels_at.Tie as tie
 
 abbrev Inv-loop : tie.InvT-loop
-Inv-loop text start out₀ to x at₀ size₀ out at size = Labels text start out₀ to at size out
+Inv-loop text start out₀ to x at₀ size₀ out at size = LabelsLoop text start out₀ to at size out
 
 abbrev μ-loop : tie.MeasureT-loop
 μ-loop text start out₀ to x at₀ size₀ out at size = length text - at

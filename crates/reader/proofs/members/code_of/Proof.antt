@@ -1,5 +1,4 @@
 -- `members::code_of` meets its contract.
--- Assumes nothing.
 use borrow.Author.Needs.{needs}
 use borrow.Author.Tests.{lt-ltb, le-ltb}
 use Rattle.reader.proofs.members.code_of.Statement.{statement}

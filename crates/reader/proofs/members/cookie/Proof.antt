@@ -1,5 +1,4 @@
 -- `members::cookie` meets its contract.
--- Assumes nothing.
 use borrow.Author.Needs.{needs}
 use Rattle.reader.specs.Values.{cookie-value}
 use Rattle.reader.proofs.members.cookie.Statement.{statement}

@@ -1,5 +1,4 @@
 -- `members::cookie_part` meets its contract.
--- Assumes nothing.
 use borrow.Author.Tests.{eq-eqb, ne-eqb, le-leb, lt-leb}
 use Rattle.reader.proofs.members.cookie_part.Statement.{statement}
 use Rattle.reader.proofs.members.cookie_part.Tie as tie

@@ -1,5 +1,4 @@
 -- `members::cookie_string` meets its contract.
--- Assumes nothing.
 use borrow.Author.Needs.{needs}
 use Rattle.reader.specs.Values.{hex-digits, cookie-string}
 use Rattle.reader.proofs.members.cookie_string.Statement.{statement}

@@ -1,5 +1,4 @@
 -- `members::cookie_strings` meets its contract: a string a turn.
--- Assumes nothing.
 use Prim.Native.Nat.{_-_}
 use native.Mathlib.Omega.{arith}
 use borrow.Author.Needs.{needs}

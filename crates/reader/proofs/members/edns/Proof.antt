@@ -1,5 +1,4 @@
 -- `members::edns` meets its contract.
--- Assumes nothing.
 use native.Mathlib.Omega.{arith}
 use borrow.Author.Needs.{needs}
 use Rattle.reader.specs.Element.{edns-read}

@@ -1,5 +1,4 @@
 -- `members::edns_fits` meets its contract.
--- Assumes nothing.
 use borrow.Author.Tests.{eq-eqb, ne-eqb}
 use Rattle.reader.proofs.members.edns_fits.Statement.{statement}
 use Rattle.reader.proofs.members.edns_fits.Tie as tie

@@ -1,5 +1,4 @@
 -- `members::error_text` meets its contract.
--- Assumes nothing.
 use borrow.Author.Needs.{needs}
 use Rattle.reader.specs.Values.{error-last}
 use Rattle.reader.proofs.members.error_text.Statement.{statement}

@@ -1,5 +1,4 @@
 -- `members::extended_error` meets its contract.
--- Assumes nothing.
 use borrow.Author.Needs.{needs}
 use Rattle.reader.specs.Values.{extended-error}
 use Rattle.reader.proofs.members.extended_error.Statement.{statement}

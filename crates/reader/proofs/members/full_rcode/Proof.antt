@@ -1,5 +1,4 @@
 -- `members::full_rcode` meets its contract.
--- Assumes nothing.
 use borrow.Author.Needs.{needs}
 use Rattle.reader.specs.Element.{rcode-read}
 use Rattle.reader.proofs.members.full_rcode.Statement.{statement}

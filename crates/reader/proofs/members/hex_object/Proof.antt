@@ -1,5 +1,4 @@
 -- `members::hex_object` meets its contract.
--- Assumes nothing.
 use borrow.Author.Needs.{needs}
 use Rattle.reader.specs.Values.{hex-digits, hex-object}
 use Rattle.reader.proofs.members.hex_object.Statement.{statement}

@@ -1,5 +1,4 @@
 -- `members::known` meets its contract.
--- Assumes nothing.
 use borrow.Author.Needs.{needs}
 use Rattle.reader.specs.Options.{known-value}
 use Rattle.reader.proofs.members.known.Statement.{statement}

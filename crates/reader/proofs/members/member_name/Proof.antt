@@ -1,5 +1,4 @@
 -- `members::member_name` meets its contract.
--- Assumes nothing.
 use borrow.Author.Needs.{needs}
 use Rattle.reader.specs.Options.{name-read}
 use Rattle.reader.proofs.members.member_name.Statement.{statement}

@@ -1,5 +1,4 @@
 -- `members::numeral` meets its contract.
--- Assumes nothing.
 use borrow.Author.Needs.{needs}
 use Rattle.reader.specs.Values.{numeral-wide, numeral-narrow}
 use Rattle.reader.proofs.members.numeral.Statement.{statement}

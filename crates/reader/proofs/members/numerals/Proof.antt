@@ -1,5 +1,4 @@
 -- `members::numerals` meets its contract: a number a turn.
--- Assumes nothing.
 use Prim.Native.Nat.{_-_}
 use native.Mathlib.Omega.{arith}
 use borrow.Author.Needs.{needs}

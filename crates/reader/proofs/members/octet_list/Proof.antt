@@ -1,5 +1,4 @@
 -- `members::octet_list` meets its contract.
--- Assumes nothing.
 use borrow.Author.Needs.{needs}
 use Rattle.reader.specs.Values.{octet-list}
 use Rattle.reader.proofs.members.octet_list.Statement.{statement}

@@ -1,5 +1,4 @@
 -- `members::option_members` meets its contract: a member a turn.
--- Assumes nothing.
 use Prim.Native.Nat.{_-_}
 use native.Mathlib.Omega.{arith}
 use borrow.Author.Needs.{needs}

@@ -1,5 +1,4 @@
 -- `members::options` meets its contract.
--- Assumes nothing.
 use borrow.Author.Needs.{needs}
 use Rattle.reader.specs.Options.{options-read}
 use Rattle.reader.proofs.members.options.Statement.{statement}

@@ -1,5 +1,4 @@
 -- `members::other` meets its contract.
--- Assumes nothing.
 use borrow.Author.Needs.{needs}
 use Rattle.reader.specs.Options.{other-read}
 use Rattle.reader.proofs.members.other.Statement.{statement}

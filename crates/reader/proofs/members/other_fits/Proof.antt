@@ -1,5 +1,4 @@
 -- `members::other_fits` meets its contract.
--- Assumes nothing.
 use borrow.Author.Needs.{needs}
 use Rattle.reader.specs.Options.{other-large, other-shaped}
 use Rattle.reader.proofs.members.other_fits.Statement.{statement}

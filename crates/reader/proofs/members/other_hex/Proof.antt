@@ -1,5 +1,4 @@
 -- `members::other_hex` meets its contract.
--- Assumes nothing.
 use borrow.Author.Needs.{needs}
 use Rattle.reader.specs.Options.{other-hex}
 use Rattle.reader.specs.Values.{hex-digits}

@@ -1,5 +1,4 @@
 -- `members::padding` meets its contract.
--- Assumes nothing.
 use borrow.Author.Needs.{needs}
 use Rattle.reader.specs.Values.{padding-value}
 use Rattle.reader.proofs.members.padding.Statement.{statement}

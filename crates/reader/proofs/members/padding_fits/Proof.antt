@@ -1,5 +1,4 @@
 -- `members::padding_fits` meets its contract.
--- Assumes nothing.
 use borrow.Author.Needs.{needs}
 use Rattle.reader.specs.Values.{fits-other, fits-same}
 use Rattle.reader.proofs.members.padding_fits.Statement.{statement}

@@ -1,5 +1,4 @@
 -- `members::padding_hex` meets its contract.
--- Assumes nothing.
 use borrow.Author.Needs.{needs}
 use Rattle.reader.specs.Values.{hex-digits, padding-hex}
 use Rattle.reader.proofs.members.padding_hex.Statement.{statement}

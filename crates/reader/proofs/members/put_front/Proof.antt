@@ -1,5 +1,4 @@
 -- `members::put_front` meets its contract.
--- Assumes nothing.
 use borrow.Author.Needs.{needs}
 use Rattle.reader.specs.Options.{fronted-none, fronted}
 use Rattle.reader.proofs.members.put_front.Statement.{statement}

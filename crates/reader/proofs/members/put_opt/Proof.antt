@@ -1,5 +1,4 @@
 -- `members::put_opt` meets its contract.
--- Assumes nothing.
 use mathlib.Core.Path.{refl}
 use borrow.Author.Needs.{needs}
 use Rattle.reader.specs.Element.{opt-none, opt-fronted}

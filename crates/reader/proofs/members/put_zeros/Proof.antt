@@ -1,5 +1,4 @@
 -- `members::put_zeros` meets its contract: an octet a turn.
--- Assumes nothing.
 use Prim.Native.Nat.{_-_}
 use native.Mathlib.Omega.{arith}
 use borrow.Author.Needs.{needs}

@@ -1,5 +1,4 @@
 -- `members::rising_member` meets its contract.
--- Assumes nothing.
 use borrow.Author.Needs.{needs}
 use Rattle.reader.specs.Options.{rising-read}
 use Rattle.reader.proofs.members.rising_member.Statement.{statement}

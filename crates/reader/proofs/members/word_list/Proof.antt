@@ -1,5 +1,4 @@
 -- `members::word_list` meets its contract.
--- Assumes nothing.
 use borrow.Author.Needs.{needs}
 use Rattle.reader.specs.Values.{word-list}
 use Rattle.reader.proofs.members.word_list.Statement.{statement}

@@ -1,5 +1,4 @@
 -- `spelling::widths::width` meets its contract: an entry of the table is the rule's value.
--- Assumes nothing.
 use borrow.Author.Needs.{needs}
 use mathlib.Core.List.{List}
 use mathlib.Core.Path.{_≡_, sym, ap, _∙_}

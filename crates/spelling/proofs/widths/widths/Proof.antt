@@ -1,5 +1,4 @@
 -- `spelling::widths::widths` meets its contract: the table of the code is the list of the rule's values, which antt computes.
--- Assumes nothing.
 use mathlib.Core.Path.{refl}
 use Rattle.spelling.specs.Spelling.{plain?}
 use Rattle.spelling.specs.Width.{width, widthTable}
