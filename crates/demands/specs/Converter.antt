@@ -13,11 +13,11 @@ use Rattle.octets.specs.Answer as answer
 use Rattle.octets.specs.Calls.{Call, writtenBy}
 use Rattle.records.specs.Message.{Message, form, valid?}
 use Rattle.records.specs.Decode.{Decoded, accepted, refused, decode}
-use Rattle.records.specs.MessageLaws.{decode-valid, decode-form, form-octets, forms-equal}
+use Rattle.records.proofs.MessageLaws.{decode-valid, decode-form, form-octets, forms-equal}
 use Rattle.json.specs.Text.{text}
-use Rattle.json.specs.Bound.{text-short}
+use Rattle.json.proofs.Bound.{text-short}
 use Rattle.json.specs.Converted.{outputOf, converted, toText, Converts}
-use Rattle.strict.specs.ReadingLaws.{Whole, text-splits, text-filled, text-visible}
+use Rattle.strict.proofs.ReadingLaws.{Whole, text-splits, text-filled, text-visible}
 use Rattle.demands.specs.FrontPage.Words.{reply, room, Accepted, Length, FitsIn, Room, stream, addForm, formsOf}
 use Rattle.demands.specs.Delivered.{call-succeeds, call-refuses, call-leaves, call-stays, calls-same}
 

@@ -12,17 +12,17 @@ use Rattle.octets.specs.Answer.{Output, output, refused, success, refusal, repo
 use Rattle.octets.specs.Calls.{Call, writtenBy}
 use Rattle.records.specs.Message.{Message, form}
 use Rattle.records.specs.Decode.{accepted, decode}
-use Rattle.records.specs.MessageLaws.{decode-form}
+use Rattle.records.proofs.MessageLaws.{decode-form}
 use Rattle.json.specs.View.{View, messageOf}
 use Rattle.json.specs.Limits.{within?}
 use Rattle.json.specs.Document.{Document}
 use Rattle.json.specs.Text.{text, documentOf}
 use Rattle.json.specs.Converted.{Converts}
 use Rattle.strict.specs.Meaning.{meaning}
-use Rattle.strict.specs.MeaningLaws.{view-in}
+use Rattle.strict.proofs.MeaningLaws.{view-in}
 use Rattle.strict.specs.Parser.{parse, parse-exact, parse-ends}
 use Rattle.strict.specs.Reading.{sized, meant, parsed, reading, toWire, Reads}
-use Rattle.strict.specs.ReadingLaws.{Means, means-text, means-one, reads-text, read-only}
+use Rattle.strict.proofs.ReadingLaws.{Means, means-text, means-one, reads-text, read-only}
 use Rattle.demands.specs.FrontPage.Words.{reply, room, Length, Accepted, Spells, InGrammar, HasText}
 use Rattle.demands.specs.Delivered.{call-succeeds, call-refuses, call-leaves, call-stays, calls-same}
 use Rattle.demands.specs.Converter as converter

@@ -2,5 +2,4 @@
 pub mod Edns
 pub mod EdnsLaws
 pub mod Element
-pub mod Ways
 pub mod Table

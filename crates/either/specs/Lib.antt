@@ -1,4 +1,3 @@
 -- Octets as they are, or as hexadecimal digits: what they are, and tests of every octet.
 pub mod Digits
 pub mod Either
-pub mod Every

@@ -21,8 +21,8 @@ use Rattle.records.specs.Read.{Entry, entry, bad, filled, questionAt, recordAt}
 use Rattle.records.specs.RecordLaws.{Fills, pieces-fill}
 use Rattle.records.specs.Parts.{HeadOf, recordHeadAt, withRdata, with-rdata, record-head, head-next, layoutIn, rdata-pieces, stepAt}
 use Rattle.records.specs.Answer.{padded, askedOf, questionRead, Asks, headRead, recordRead, Heads, stepRead}
-use Rattle.records.specs.Pieces.{breadth, layout-small}
-use Rattle.records.specs.Told.{form-part, asked, headed, tells, pieces-next}
+use Rattle.records.proofs.Pieces.{breadth, layout-small}
+use Rattle.records.proofs.Told.{form-part, asked, headed, tells, pieces-next}
 use Rattle.records.specs.declared.Asked.{Asked}
 use Rattle.records.specs.declared.Question.{Question as QuestionAnswer}
 use Rattle.records.specs.declared.Question.the-variants as question

@@ -18,8 +18,8 @@ use Rattle.names.specs.declared.Fault.{Fault as FaultRead}
 use Rattle.records.specs.Message.{questionForm, recordForm, headerForm, form, opt?}
 use Rattle.records.specs.Read.{Entry, entry, bad, questionAt, recordAt, Reached, reached, stopped, sectionAt, sectionFrom}
 use Rattle.records.specs.Decode.{headerOf, zOf, sectionsOf, messageRead, Decoded, accepted, refused, decode}
-use Rattle.records.specs.MessageLaws.{section-step, section-stop}
-use Rattle.records.specs.Kept.{header-same}
+use Rattle.records.proofs.MessageLaws.{section-step, section-stop}
+use Rattle.records.proofs.Kept.{header-same}
 use Rattle.forms.specs.Putting.{Part, mapped, questionPart, recordPart, partAt, Run, ran, halted, partThen, turned, sectionRun, Runs, runs, halts, octetsThen, chained, messageRun}
 use Rattle.forms.specs.declared.Came.{Came}
 use Rattle.forms.specs.declared.Came.the-variants as came

@@ -1,3 +1,1 @@
 -- Lines and their answers, computed.
-pub mod TextLines
-pub mod WireLines

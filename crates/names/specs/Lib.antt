@@ -3,6 +3,5 @@ pub mod Name
 pub mod Walk
 pub mod NameLaws
 pub mod Steps
-pub mod Boundaries
 pub mod Answer
 pub mod Ways

@@ -1,7 +1,6 @@
 -- Octets, numbers and texts: the definitions that every layer shares.
 pub mod Lists
 pub mod Bits
-pub mod Arms
 pub mod Fields
 pub mod Parsed
 pub mod Codec
@@ -10,4 +9,3 @@ pub mod Hexadecimal
 pub mod Answer
 pub mod Overlay
 pub mod Calls
-pub mod Writing

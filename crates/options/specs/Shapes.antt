@@ -9,7 +9,7 @@ use borrow.Author.Tests.{le-leb, lt-leb, ne-eqb, leb-true, eqb-true, not-false}
 use lib.Dec.{leb, eqb}
 use lib.ListN.{length, take, drop}
 use Rattle.octets.specs.Lists.{all, lookup, present?}
-use Rattle.octets.specs.Arms.{Missed, armsOf, missed-row}
+use Rattle.octets.proofs.Arms.{Missed, armsOf, missed-row}
 use Rattle.octets.specs.Fields.{fourAt}
 use Rattle.spelling.specs.Spelling.{printable?}
 use Rattle.options.specs.Options.{Form, unlisted, rows, row-form, formOf, shape}

@@ -1,3 +1,2 @@
 -- One octet of a label or of a string in a text.
 pub mod Octet
-pub mod Character

@@ -1,2 +1,1 @@
 -- What the writers of the EDNS element have written.
-pub mod Writing

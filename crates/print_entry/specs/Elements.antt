@@ -15,7 +15,7 @@ use Rattle.records.specs.declared.Head.{Head}
 use Rattle.spelling.specs.Spelling.{signed, signedText}
 use Rattle.spelling.specs.Form.{formText}
 use Rattle.edns.specs.Element.{showsEdns, elementText}
-use Rattle.json.specs.ViewLaws.{entryOf}
+use Rattle.json.proofs.ViewLaws.{entryOf}
 use Rattle.json.specs.Document.{questionText, itemText}
 use Rattle.json.specs.Text.{item}
 use Rattle.print_head.specs.Head.{numberText}

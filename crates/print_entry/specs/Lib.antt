@@ -1,5 +1,3 @@
 -- Questions and records of a message as the elements of its text.
 pub mod Prints
 pub mod Elements
-pub mod Writing
-pub mod Showing

@@ -12,9 +12,9 @@ use Rattle.records.specs.Message.{Record, Message, opt?}
 use Rattle.records.specs.Read.{Entry, entry, bad, Reached, reached, stopped, Section, questionAt, recordAt, sectionAt, sectionFrom}
 use Rattle.records.specs.Decode.{headerOf, sectionsOf, messageRead, Decoded, accepted, refused, decode}
 use Rattle.records.specs.RecordLaws.{entry-value}
-use Rattle.records.specs.MessageLaws.{section-step, section-stop, from-reached, section-count, from-count, decode-back, stopped≢reached}
+use Rattle.records.proofs.MessageLaws.{section-step, section-stop, from-reached, section-count, from-count, decode-back, stopped≢reached}
 use Rattle.json.specs.View.{Additional, additionalOf, viewOf}
-use Rattle.json.specs.ViewLaws.{entryOf, map-long, additional-map}
+use Rattle.json.proofs.ViewLaws.{entryOf, map-long, additional-map}
 use Rattle.json.specs.Document.{Document, questionText, recordText, itemText, documentText}
 use Rattle.json.specs.Text.{recordItem, item, documentOf, viewText, text}
 use Rattle.print_entry.specs.Prints.{texts, entryThen, Readable, Prints}

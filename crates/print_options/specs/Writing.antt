@@ -15,7 +15,7 @@ use Rattle.octets.specs.Hexadecimal.{hexOctet, hexText}
 use Rattle.octets.specs.Overlay.{Wrote, then, each-ended}
 use Rattle.spelling.specs.Spelling.{stringText}
 use Rattle.options.specs.Options.{Form, Value, rows, members, formOf, valueText, words, shape, zero?, present, errorTail, other, memberOf, memberText}
-use Rattle.octets.specs.Arms.{Missed, armsOf}
+use Rattle.octets.proofs.Arms.{Missed, armsOf}
 use Rattle.options.specs.Shapes.{none-shaped, Shaped, expire-four, cookie-sizes, keepalive-two, keytag-even, error-parts}
 
 -- the text of an option's member

@@ -12,7 +12,7 @@ use Rattle.octets.specs.Lists.{ascii, ended, listed}
 use Rattle.octets.specs.Fields.{twoAt, drop-one}
 use Rattle.octets.specs.Decimal.{decimal}
 use Rattle.octets.specs.Overlay.{Wrote, then}
-use Rattle.octets.specs.Writing.{decimal-short}
+use Rattle.octets.proofs.Writing.{decimal-short}
 use Rattle.options.specs.Options.{words}
 
 -- ---- numbers of one or two octets each

@@ -1,3 +1,2 @@
 -- What the writers of the parts of option values have written.
-pub mod Parts
 pub mod Entries

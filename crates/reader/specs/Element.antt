@@ -21,7 +21,7 @@ use Rattle.edns.specs.Edns.{rcodes, flags, fullRcode, optionForm, option?, risi
 use Rattle.strict.specs.Grammar.{MemberIn, EdnsIn}
 use Rattle.strict.specs.Parser.{flags-distinct, rcodes-distinct, membersEndText, options-fit, optionMembers, ednsElement}
 use Rattle.strict.specs.Members.{optionOf, member?}
-use Rattle.strict.specs.OptionLaws.{key-holds, option-member}
+use Rattle.strict.proofs.OptionLaws.{key-holds, option-member}
 use Rattle.strict.specs.Meaning.{itemEdns, ednsItem?}
 use Rattle.tokens.specs.declared.Cursor.{Cursor}
 use Rattle.tokens.specs.Cursor.{Keeps, keeps-then, Passed}

@@ -11,4 +11,3 @@ pub mod Items
 pub mod Sections
 pub mod Head
 pub mod Whole
-pub mod Promise

@@ -20,7 +20,7 @@ use Rattle.options.specs.Options.{members, Value, formOf, shape, EdnsOption, Me
 use Rattle.edns.specs.Edns.{optionForm, above?, rising?}
 use Rattle.strict.specs.Grammar.{MemberIn}
 use Rattle.strict.specs.Members.{octetsOf, value?, optionOf, member?}
-use Rattle.strict.specs.OptionLaws.{key-word}
+use Rattle.strict.proofs.OptionLaws.{key-word}
 use Rattle.strict.specs.Parser.{value, members-distinct, member-apart, knownMember, otherMember, member, optionMembers}
 use Rattle.tokens.specs.declared.Cursor.{Cursor}
 use Rattle.tokens.specs.Cursor.{Safe, Keeps, keeps-same, keeps-then, Passed, Came, Finds, stopped, reads-got, clash}

@@ -17,7 +17,7 @@ use Rattle.octets.specs.Decimal.{natural, number, till}
 use Rattle.octets.specs.Hexadecimal.{hex}
 use Rattle.names.specs.Name.{Name, name?, nameForm}
 use Rattle.records.specs.Layout.{layouts, layoutOf, rdataAt, rdataFits?}
-use Rattle.records.specs.Pieces.{layout-beyond}
+use Rattle.records.proofs.Pieces.{layout-beyond}
 use Rattle.records.specs.Message.{record?, question?, questionForm, recordForm, opt?}
 use Rattle.spelling.specs.Spelling.{Signed}
 use Rattle.edns.specs.Element.{showsEdns, shows-edns}
@@ -26,7 +26,7 @@ use Rattle.strict.specs.Grammar.{SignedNumber}
 use Rattle.strict.specs.Spelt.{name, signedNumber}
 use Rattle.strict.specs.Parser.{questionCodec, recordCodec}
 use Rattle.strict.specs.Meaning.{itemRecord, ttl?, unsigned}
-use Rattle.strict.specs.MeaningLaws.{unsigned-back}
+use Rattle.strict.proofs.MeaningLaws.{unsigned-back}
 use Rattle.tokens.specs.declared.Cursor.{Cursor}
 use Rattle.tokens.specs.declared.Amount.{Amount}
 use Rattle.tokens.specs.declared.Span.{Span}

@@ -4,11 +4,5 @@ pub mod Message
 pub mod Read
 pub mod Decode
 pub mod RecordLaws
-pub mod MessageLaws
-pub mod Boundaries
 pub mod Parts
-pub mod Kept
 pub mod Answer
-pub mod Reading
-pub mod Pieces
-pub mod Told

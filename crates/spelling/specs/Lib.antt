@@ -3,5 +3,3 @@ pub mod Spelling
 pub mod Table
 pub mod Width
 pub mod Form
-pub mod Writing
-pub mod Boundaries

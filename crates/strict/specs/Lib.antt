@@ -2,11 +2,6 @@
 pub mod Grammar
 pub mod Spelt
 pub mod Parser
-pub mod Visible
 pub mod Members
 pub mod Meaning
-pub mod OptionLaws
-pub mod MeaningLaws
 pub mod Reading
-pub mod ReadingLaws
-pub mod Boundaries

@@ -4,7 +4,7 @@ use native.Mathlib.Omega.{arith}
 use Rattle.octets.specs.Lists.{paired}
 use Rattle.records.specs.Layout.{rdataFits?}
 use Rattle.digits.specs.Skipping.{name-ends}
-use Rattle.digits.specs.Fitting.{FitLoop, fits-start, fits-end, fits-some, fits-short, fits-part, fits-named, fits-unfit, fits-name}
+use Rattle.digits.proofs.Fitting.{FitLoop, fits-start, fits-end, fits-some, fits-short, fits-part, fits-named, fits-unfit, fits-name}
 use borrow.Author.Needs.{needs}
 use Rattle.digits.proofs.fits_layout.Statement.{statement}
 use Rattle.digits.proofs.fits_layout.Tie as tie

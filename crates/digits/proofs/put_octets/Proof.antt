@@ -4,7 +4,7 @@ use Prim.Native.Nat.{_≤_, _+_, _-_}
 use lib.ListN.{take}
 use Rattle.octets.specs.Lists.{paired}
 use Rattle.octets.specs.Overlay.{Wrote, nothing, same-long}
-use Rattle.digits.specs.Digits.{octets-past, octets-step, octets-end}
+use Rattle.digits.proofs.Digits.{octets-past, octets-step, octets-end}
 use borrow.Author.Needs.{needs}
 use Rattle.digits.proofs.put_octets.Statement.{statement}
 use Rattle.digits.proofs.put_octets.Tie as tie

@@ -1,5 +1,5 @@
 -- `edns::has_edns_fields` meets its contract: the tests in order.
-use Rattle.edns.specs.Ways.{fields-root, fields-version, fields-flags, fields-rcode}
+use Rattle.edns.proofs.Ways.{fields-root, fields-version, fields-flags, fields-rcode}
 use borrow.Author.Needs.{needs}
 use Rattle.edns.proofs.has_edns_fields.Statement.{statement}
 use Rattle.edns.proofs.has_edns_fields.Tie as tie

@@ -1,5 +1,5 @@
 -- `edns::is_edns` meets its contract: the tests without RDATA, then RDATA.
-use Rattle.edns.specs.Ways.{shows-fields, shows-options}
+use Rattle.edns.proofs.Ways.{shows-fields, shows-options}
 use borrow.Author.Needs.{needs}
 use Rattle.edns.proofs.is_edns.Statement.{statement}
 use Rattle.edns.proofs.is_edns.Tie as tie

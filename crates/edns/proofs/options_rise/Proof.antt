@@ -2,7 +2,7 @@
 use Prim.Native.Nat.{_≤_, _-_}
 use Rattle.either.specs.Either.{octetsIn}
 use Rattle.edns.specs.Element.{optionsRise}
-use Rattle.edns.specs.Ways.{RiseLoop, rises-start, rises-cut, rises-short, rises-low, rises-more, rises-end}
+use Rattle.edns.proofs.Ways.{RiseLoop, rises-start, rises-cut, rises-short, rises-low, rises-more, rises-end}
 use borrow.Author.Needs.{needs}
 use Rattle.edns.proofs.options_rise.Statement.{statement}
 use Rattle.edns.proofs.options_rise.Tie as tie

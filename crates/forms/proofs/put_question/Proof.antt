@@ -1,7 +1,7 @@
 -- `forms::put_question` meets its contract: the question's fault, or its form.
 use borrow.Author.Needs.{needs}
 use native.Mathlib.Omega.{arith}
-use Rattle.records.specs.Told.{asks-within, question-room}
+use Rattle.records.proofs.Told.{asks-within, question-room}
 use Rattle.forms.specs.Putting.{question-faults, question-puts, named-within, part-short}
 use Rattle.forms.proofs.put_question.Statement.{statement}
 use Rattle.forms.proofs.put_question.Tie as tie

@@ -10,8 +10,8 @@ use lib.ListN.{length}
 use Rattle.octets.specs.Overlay.{same-long}
 use Rattle.records.specs.Layout.{rdataAt}
 use Rattle.records.specs.Parts.{layoutIn}
-use Rattle.records.specs.Pieces.{part-within, name-within, done-within}
-use Rattle.records.specs.Told.{name-room}
+use Rattle.records.proofs.Pieces.{part-within, name-within, done-within}
+use Rattle.records.proofs.Told.{name-room}
 use Rattle.forms.specs.Putting.{RdataLoop, restAt, rest-first, rest-part, rest-name, rest-done, rest-misfit, lays-short, wrote-part, part-room}
 use Rattle.forms.proofs.put_rdata.Statement.{statement}
 use Rattle.forms.proofs.put_rdata.Tie as tie

@@ -1,7 +1,7 @@
 -- `forms::put_record` meets its contract: the head's fault, RDATA's fault, or RDATA and then its length before it.
 use borrow.Author.Needs.{needs}
 use native.Mathlib.Omega.{arith}
-use Rattle.records.specs.Told.{heads-within, record-room}
+use Rattle.records.proofs.Told.{heads-within, record-room}
 use Rattle.forms.specs.Putting.{record-faults, record-misses, record-puts, laying-within, named-within, part-short}
 use Rattle.forms.proofs.put_record.Statement.{statement}
 use Rattle.forms.proofs.put_record.Tie as tie

@@ -1,7 +1,7 @@
 -- `hex_lines::hex_value` meets its contract: one way for each range.
 use borrow.Author.Needs.{needs}
-use Rattle.hex_lines.specs.Digits.{before-digits, decimal-digit, before-capitals, capital-digit, before-small}
-use Rattle.hex_lines.specs.Digits.{small-digit, after-small}
+use Rattle.hex_lines.proofs.Digits.{before-digits, decimal-digit, before-capitals, capital-digit, before-small}
+use Rattle.hex_lines.proofs.Digits.{small-digit, after-small}
 use Rattle.hex_lines.proofs.hex_value.Statement.{statement}
 use Rattle.hex_lines.proofs.hex_value.Tie as tie
 

@@ -2,7 +2,7 @@
 use borrow.Author.Needs.{needs}
 use Prim.Native.Nat.{_≤_, _-_}
 use lib.ListN.{length}
-use Rattle.hex_lines.specs.Steps.{Looked, looked-start, first-bad, second-bad, both-good, looked-end}
+use Rattle.hex_lines.proofs.Steps.{Looked, looked-start, first-bad, second-bad, both-good, looked-end}
 use Rattle.hex_lines.proofs.is_hex.Statement.{statement}
 use Rattle.hex_lines.proofs.is_hex.Tie as tie
 

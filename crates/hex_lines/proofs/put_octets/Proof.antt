@@ -4,7 +4,7 @@ use mathlib.Core.Path.{_≡_}
 use Prim.Native.Nat.{_*_, _-_, _≤_}
 use native.Mathlib.Omega.{arith}
 use lib.ListN.{length}
-use Rattle.hex_lines.specs.Steps.{HexLoop, rest-start, first-below, second-below, rest-more, rest-end}
+use Rattle.hex_lines.proofs.Steps.{HexLoop, rest-start, first-below, second-below, rest-more, rest-end}
 use Rattle.hex_lines.proofs.put_octets.Statement.{statement}
 use Rattle.hex_lines.proofs.put_octets.Tie as tie
 

@@ -1,7 +1,7 @@
 -- `hex_lines::unhex` meets its contract, by what `is_hex` answers.
 use borrow.Author.Needs.{needs}
 use mathlib.Core.Path.{sym, _∙_}
-use Rattle.hex_lines.specs.Steps.{unhexed-bad, unhexed-good}
+use Rattle.hex_lines.proofs.Steps.{unhexed-bad, unhexed-good}
 use Rattle.hex_lines.proofs.unhex.Statement.{statement}
 use Rattle.hex_lines.proofs.unhex.Tie as tie
 

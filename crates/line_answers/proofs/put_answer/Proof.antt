@@ -1,10 +1,10 @@
 -- `line_answers::put_answer` meets its contract: one way for each kind of line.
 use borrow.Author.Needs.{needs}
 use native.Mathlib.Omega.{arith}
-use Rattle.hex_lines.specs.Steps.{within, octets-read}
+use Rattle.hex_lines.proofs.Steps.{within, octets-read}
 use Rattle.line_answers.specs.Answers.{textLine, textLeft}
-use Rattle.line_answers.specs.Limits.{over-limit, over-left}
-use Rattle.line_answers.specs.Answering.{read-left, bad-answer, read-answer}
+use Rattle.line_answers.proofs.Limits.{over-limit, over-left}
+use Rattle.line_answers.proofs.Answering.{read-left, bad-answer, read-answer}
 use Rattle.line_answers.proofs.put_answer.Statement.{statement}
 use Rattle.line_answers.proofs.put_answer.Tie as tie
 

@@ -1,7 +1,7 @@
 -- `line_answers::put_message` meets its contract, by the converter's answer.
 use borrow.Author.Needs.{needs}
 use native.Mathlib.Omega.{arith}
-use Rattle.line_answers.specs.Answering.{text-answer, text-within, refused-answer, place-below}
+use Rattle.line_answers.proofs.Answering.{text-answer, text-within, refused-answer, place-below}
 use Rattle.line_answers.proofs.put_message.Statement.{statement}
 use Rattle.line_answers.proofs.put_message.Tie as tie
 

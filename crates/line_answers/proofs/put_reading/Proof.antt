@@ -1,7 +1,7 @@
 -- `line_answers::put_reading` meets its contract: a line over the limit, or one within it.
 use borrow.Author.Needs.{needs}
 use Rattle.line_answers.specs.Answers.{wireLine, wireLeft}
-use Rattle.line_answers.specs.Limits.{over-limit, over-left, in-limit, in-left}
+use Rattle.line_answers.proofs.Limits.{over-limit, over-left, in-limit, in-left}
 use Rattle.line_answers.proofs.put_reading.Statement.{statement}
 use Rattle.line_answers.proofs.put_reading.Tie as tie
 

@@ -1,8 +1,8 @@
 -- `line_answers::put_wire` meets its contract, by the reader's answer.
 use borrow.Author.Needs.{needs}
 use native.Mathlib.Omega.{arith}
-use Rattle.line_answers.specs.Places.{place-first}
-use Rattle.line_answers.specs.Wire.{message-within, message-answer, refused-answer}
+use Rattle.line_answers.proofs.Places.{place-first}
+use Rattle.line_answers.proofs.Wire.{message-within, message-answer, refused-answer}
 use Rattle.line_answers.proofs.put_wire.Statement.{statement}
 use Rattle.line_answers.proofs.put_wire.Tie as tie
 

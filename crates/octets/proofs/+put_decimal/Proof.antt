@@ -1,7 +1,7 @@
 -- `octets::put_decimal` meets its contract: the digits of a tenth, and then the last digit.
 use borrow.Author.Needs.{needs}
 use native.Mathlib.Omega.{arith}
-use Rattle.octets.specs.Writing.{decimal-longer, decimal-length, wrote-digit, wrote-digits}
+use Rattle.octets.proofs.Writing.{decimal-longer, decimal-length, wrote-digit, wrote-digits}
 use Prim.Native.Nat.{ℕ, _<_}
 use borrow.Fn.Kinds.{In}
 use borrow.Fn.PlainCycle.{Measures, is, falls, and}

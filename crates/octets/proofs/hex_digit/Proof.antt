@@ -1,6 +1,6 @@
 -- `octets::hex_digit` meets its contract: one way for each kind of digit.
 use borrow.Author.Needs.{needs}
-use Rattle.octets.specs.Writing.{hex-low, hex-high}
+use Rattle.octets.proofs.Writing.{hex-low, hex-high}
 use Rattle.octets.proofs.hex_digit.Statement.{statement}
 use Rattle.octets.proofs.hex_digit.Tie as tie
 

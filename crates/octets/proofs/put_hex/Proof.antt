@@ -7,7 +7,7 @@ use lib.ListN.{length, take}
 use Rattle.octets.specs.Hexadecimal.{hexOctet}
 use Rattle.octets.specs.Overlay.{Wrote, past, each-start, each-step, each-end, same-long}
 use Rattle.octets.specs.Lists.{each}
-use Rattle.octets.specs.Writing.{each-hex-length}
+use Rattle.octets.proofs.Writing.{each-hex-length}
 use Rattle.octets.proofs.put_hex.Statement.{statement}
 use Rattle.octets.proofs.put_hex.Tie as tie
 

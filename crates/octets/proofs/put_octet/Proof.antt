@@ -1,6 +1,6 @@
 -- `octets::put_octet` meets its contract: two digits.
 use borrow.Author.Needs.{needs}
-use Rattle.octets.specs.Writing.{wrote-octet}
+use Rattle.octets.proofs.Writing.{wrote-octet}
 use Rattle.octets.proofs.put_octet.Statement.{statement}
 use Rattle.octets.proofs.put_octet.Tie as tie
 

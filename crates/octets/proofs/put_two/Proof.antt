@@ -1,6 +1,6 @@
 -- `octets::put_two` meets its contract: two octets.
 use borrow.Author.Needs.{needs}
-use Rattle.octets.specs.Writing.{wrote-two}
+use Rattle.octets.proofs.Writing.{wrote-two}
 use Rattle.octets.proofs.put_two.Statement.{statement}
 use Rattle.octets.proofs.put_two.Tie as tie
 

@@ -1,6 +1,6 @@
 -- `octets::store_octet` meets its contract: two digits.
 use borrow.Author.Needs.{needs}
-use Rattle.octets.specs.Writing.{wrote-octet}
+use Rattle.octets.proofs.Writing.{wrote-octet}
 use Rattle.octets.proofs.store_octet.Statement.{statement}
 use Rattle.octets.proofs.store_octet.Tie as tie
 

@@ -3,8 +3,8 @@ use Prim.Native.Nat.{_-_}
 use Rattle.octets.specs.Lists.{all}
 use Rattle.either.specs.Either.{octetsIn}
 use Rattle.options.specs.Options.{zero?}
-use Rattle.options.specs.Every.{zero-is, zero-not}
-use Rattle.either.specs.Every.{EveryLoop, rest-start, rest-next, rest-fails, rest-ends}
+use Rattle.options.proofs.Every.{zero-is, zero-not}
+use Rattle.either.proofs.Every.{EveryLoop, rest-start, rest-next, rest-fails, rest-ends}
 use borrow.Author.Needs.{needs}
 use Rattle.options.proofs.all_zero.Statement.{statement}
 use Rattle.options.proofs.all_zero.Tie as tie

@@ -4,8 +4,8 @@ use lib.ListN.{drop}
 use Rattle.octets.specs.Lists.{all}
 use Rattle.either.specs.Either.{octetsIn}
 use Rattle.spelling.specs.Spelling.{printable?}
-use Rattle.options.specs.Every.{printable-is, printable-low, printable-high}
-use Rattle.either.specs.Every.{EveryLoop, rest-start, rest-next, rest-fails, rest-ends}
+use Rattle.options.proofs.Every.{printable-is, printable-low, printable-high}
+use Rattle.either.proofs.Every.{EveryLoop, rest-start, rest-next, rest-fails, rest-ends}
 use borrow.Author.Needs.{needs}
 use Rattle.options.proofs.is_text.Statement.{statement}
 use Rattle.options.proofs.is_text.Tie as tie

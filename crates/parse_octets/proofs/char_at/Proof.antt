@@ -1,4 +1,4 @@
-use Rattle.parse_octets.specs.Character.{char-bare, char-other, char-quote, char-backslash, char-single}
+use Rattle.parse_octets.proofs.Character.{char-bare, char-other, char-quote, char-backslash, char-single}
 use borrow.Author.Needs.{needs}
 use Rattle.parse_octets.proofs.char_at.Statement.{statement}
 use Rattle.parse_octets.proofs.char_at.Tie as tie

@@ -1,4 +1,4 @@
-use Rattle.parse_octets.specs.Character.{bare-low, bare-high, bare-quote, bare-backslash, bare-is}
+use Rattle.parse_octets.proofs.Character.{bare-low, bare-high, bare-quote, bare-backslash, bare-is}
 use borrow.Author.Needs.{needs}
 use Rattle.parse_octets.proofs.is_bare.Statement.{statement}
 use Rattle.parse_octets.proofs.is_bare.Tie as tie

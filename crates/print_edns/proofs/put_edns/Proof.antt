@@ -1,5 +1,5 @@
 -- `print_edns::put_edns` meets its contract: its parts in order.
-use Rattle.print_edns.specs.Writing.{shows-rise, wrote-element}
+use Rattle.print_edns.proofs.Writing.{shows-rise, wrote-element}
 use borrow.Author.Needs.{needs}
 use Rattle.print_edns.proofs.put_edns.Statement.{statement}
 use Rattle.print_edns.proofs.put_edns.Tie as tie

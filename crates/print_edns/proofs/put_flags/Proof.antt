@@ -2,7 +2,7 @@
 use native.Mathlib.Omega.{arith}
 use Rattle.octets.specs.Lists.{rowText}
 use Rattle.edns.specs.Edns.{flags}
-use Rattle.print_edns.specs.Writing.{text-is}
+use Rattle.print_edns.proofs.Writing.{text-is}
 use borrow.Author.Needs.{needs}
 use Rattle.print_edns.proofs.put_flags.Statement.{statement}
 use Rattle.print_edns.proofs.put_flags.Tie as tie

@@ -1,5 +1,5 @@
 -- `print_edns::put_head` meets its contract: its parts in order.
-use Rattle.print_edns.specs.Writing.{wrote-head}
+use Rattle.print_edns.proofs.Writing.{wrote-head}
 use borrow.Author.Needs.{needs}
 use Rattle.print_edns.proofs.put_head.Statement.{statement}
 use Rattle.print_edns.proofs.put_head.Tie as tie

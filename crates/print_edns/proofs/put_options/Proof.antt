@@ -3,7 +3,7 @@ use Prim.Native.Nat.{_+_, _*_, _-_, _≤_}
 use native.Mathlib.Omega.{arith}
 use lib.ListN.{length}
 use Rattle.octets.specs.Overlay.{same-long}
-use Rattle.print_edns.specs.Writing.{OptionsLoop, left-start, left-room, left-more, left-end}
+use Rattle.print_edns.proofs.Writing.{OptionsLoop, left-start, left-room, left-more, left-end}
 use borrow.Author.Needs.{needs}
 use Rattle.print_edns.proofs.put_options.Statement.{statement}
 use Rattle.print_edns.proofs.put_options.Tie as tie

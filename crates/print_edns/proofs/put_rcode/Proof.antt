@@ -2,7 +2,7 @@
 use Rattle.octets.specs.Lists.{each}
 use Rattle.edns.specs.Edns.{rcodes}
 use Rattle.edns.specs.Table.{text-room, text-end}
-use Rattle.print_edns.specs.Writing.{rcode-none, rcode-is, rcode-short}
+use Rattle.print_edns.proofs.Writing.{rcode-none, rcode-is, rcode-short}
 use borrow.Author.Needs.{needs}
 use Rattle.print_edns.proofs.put_rcode.Statement.{statement}
 use Rattle.print_edns.proofs.put_rcode.Tie as tie

@@ -3,8 +3,8 @@ use Prim.Native.Nat.{_+_, _-_}
 use native.Mathlib.Omega.{arith}
 use borrow.Author.Needs.{needs}
 use lib.ListN.{drop}
-use Rattle.print_entry.specs.Showing.{shows-many, shows-other, shows-lone}
-use Rattle.print_entry.specs.Writing.{part-short}
+use Rattle.print_entry.proofs.Showing.{shows-many, shows-other, shows-lone}
+use Rattle.print_entry.proofs.Writing.{part-short}
 use Rattle.print_entry.proofs.is_element.Statement.{statement}
 use Rattle.print_entry.proofs.is_element.Tie as tie
 

@@ -1,6 +1,6 @@
 -- `print_entry::put_element` meets its contract: a question or a record.
 use borrow.Author.Needs.{needs}
-use Rattle.print_entry.specs.Showing.{question-of, element-question, record-of, element-record}
+use Rattle.print_entry.proofs.Showing.{question-of, element-question, record-of, element-record}
 use Rattle.print_entry.proofs.put_element.Statement.{statement}
 use Rattle.print_entry.proofs.put_element.Tie as tie
 

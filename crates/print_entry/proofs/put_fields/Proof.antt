@@ -1,6 +1,6 @@
 -- `print_entry::put_fields` meets its contract: the first members, TTL, and the title of RDATA.
 use borrow.Author.Needs.{needs}
-use Rattle.print_entry.specs.Writing.{wrote-fields}
+use Rattle.print_entry.proofs.Writing.{wrote-fields}
 use Rattle.print_entry.proofs.put_fields.Statement.{statement}
 use Rattle.print_entry.proofs.put_fields.Tie as tie
 

@@ -1,6 +1,6 @@
 -- `print_entry::put_ordinary` meets its contract: the fields, RDATA and the brace.
 use borrow.Author.Needs.{needs}
-use Rattle.print_entry.specs.Showing.{ordinary-rdata, ordinary-prints}
+use Rattle.print_entry.proofs.Showing.{ordinary-rdata, ordinary-prints}
 use Rattle.print_entry.proofs.put_ordinary.Statement.{statement}
 use Rattle.print_entry.proofs.put_ordinary.Tie as tie
 

@@ -2,8 +2,8 @@
 use Prim.Native.Nat.{_-_}
 use native.Mathlib.Omega.{arith}
 use borrow.Author.Needs.{needs}
-use Rattle.records.specs.Told.{asks-within, question-room}
-use Rattle.print_entry.specs.Writing.{part-short, question-faultless, question-prints}
+use Rattle.records.proofs.Told.{asks-within, question-room}
+use Rattle.print_entry.proofs.Writing.{part-short, question-faultless, question-prints}
 use Rattle.print_entry.proofs.put_question.Statement.{statement}
 use Rattle.print_entry.proofs.put_question.Tie as tie
 

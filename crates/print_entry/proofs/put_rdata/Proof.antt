@@ -5,11 +5,11 @@ use native.Mathlib.Omega.{arith}
 use borrow.Author.Needs.{needs}
 use lib.ListN.{drop, length}
 use Rattle.octets.specs.Overlay.{same-long}
-use Rattle.records.specs.Pieces.{part-within, name-within, done-within}
+use Rattle.records.proofs.Pieces.{part-within, name-within, done-within}
 use Rattle.print_entry.specs.Prints.{PrintLoop}
 use Rattle.print_entry.specs.Elements.{rdataText, piecesText}
-use Rattle.print_entry.specs.Writing.{hex-room, hex-short, pieces-all, pieces-part, pieces-name, pieces-done, pieces-faultless}
-use Rattle.records.specs.Told.{name-room}
+use Rattle.print_entry.proofs.Writing.{hex-room, hex-short, pieces-all, pieces-part, pieces-name, pieces-done, pieces-faultless}
+use Rattle.records.proofs.Told.{name-room}
 use Rattle.print_entry.proofs.put_rdata.Statement.{statement}
 use Rattle.print_entry.proofs.put_rdata.Tie as tie
 

@@ -2,9 +2,9 @@
 use Prim.Native.Nat.{_-_}
 use native.Mathlib.Omega.{arith}
 use borrow.Author.Needs.{needs}
-use Rattle.records.specs.Told.{heads-within, record-room}
-use Rattle.print_entry.specs.Showing.{record-faultless, record-readable, record-prints}
-use Rattle.print_entry.specs.Writing.{part-short}
+use Rattle.records.proofs.Told.{heads-within, record-room}
+use Rattle.print_entry.proofs.Showing.{record-faultless, record-readable, record-prints}
+use Rattle.print_entry.proofs.Writing.{part-short}
 use Rattle.print_entry.proofs.put_record.Statement.{statement}
 use Rattle.print_entry.proofs.put_record.Tie as tie
 

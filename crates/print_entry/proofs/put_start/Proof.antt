@@ -1,6 +1,6 @@
 -- `print_entry::put_start` meets its contract: the four members' texts in order.
 use borrow.Author.Needs.{needs}
-use Rattle.print_entry.specs.Writing.{wrote-start}
+use Rattle.print_entry.proofs.Writing.{wrote-start}
 use Rattle.print_entry.proofs.put_start.Statement.{statement}
 use Rattle.print_entry.proofs.put_start.Tie as tie
 

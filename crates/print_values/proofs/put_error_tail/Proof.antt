@@ -1,6 +1,6 @@
 -- `print_values::put_error_tail` meets its contract: no text, and text.
 use borrow.Author.Needs.{needs}
-use Rattle.print_values.specs.Parts.{error-bare, error-text}
+use Rattle.print_values.proofs.Parts.{error-bare, error-text}
 use Rattle.print_values.proofs.put_error_tail.Statement.{statement}
 use Rattle.print_values.proofs.put_error_tail.Tie as tie
 

@@ -1,5 +1,5 @@
 use borrow.Author.Needs.{needs}
-use Rattle.reader.specs.Promise.{read-stopped, read-left, read-meaningless, read-large, read-long, read-message}
+use Rattle.reader.proofs.Promise.{read-stopped, read-left, read-meaningless, read-large, read-long, read-message}
 use Rattle.reader.proofs.read.Statement.{statement}
 use Rattle.reader.proofs.read.Tie as tie
 

@@ -2,7 +2,7 @@
 use borrow.Author.Needs.{needs}
 use Prim.Native.Nat.{_≤_, _-_}
 use lib.ListN.{length}
-use Rattle.records.specs.Reading.{FieldsLoop, fields-start, fields-more, begun-faulty, name-within, begun-cut, begun-whole, begun-fits}
+use Rattle.records.proofs.Reading.{FieldsLoop, fields-start, fields-more, begun-faulty, name-within, begun-cut, begun-whole, begun-fits}
 use Rattle.records.proofs.begun_at.Statement.{statement}
 use Rattle.records.proofs.begun_at.Tie as tie
 

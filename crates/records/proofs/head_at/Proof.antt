@@ -2,7 +2,7 @@
 use borrow.Author.Needs.{needs}
 use mathlib.Core.List.{[], _∷_}
 use native.Mathlib.Omega.{arith}
-use Rattle.records.specs.Reading.{begins, head-faulty, head-cut, head-whole}
+use Rattle.records.proofs.Reading.{begins, head-faulty, head-cut, head-whole}
 use Rattle.records.proofs.head_at.Statement.{statement}
 use Rattle.records.proofs.head_at.Tie as tie
 

@@ -1,6 +1,6 @@
 -- `records::nth_piece` meets its contract: one way for each place.
 use borrow.Author.Needs.{needs}
-use Rattle.records.specs.Pieces.{nth-first, nth-second, nth-third, nth-none}
+use Rattle.records.proofs.Pieces.{nth-first, nth-second, nth-third, nth-none}
 use Rattle.records.proofs.nth_piece.Statement.{statement}
 use Rattle.records.proofs.nth_piece.Tie as tie
 

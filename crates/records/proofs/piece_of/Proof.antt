@@ -11,9 +11,9 @@ use Prim.Native.Nat.{ℕ, _≤_, _<_}
 use native.Mathlib.Omega.{arith}
 use lib.Dec.{leb, ltb}
 use Rattle.octets.specs.Lists.{lookup}
-use Rattle.octets.specs.Arms.{ranged, Missed, keyed?, missed-key, failed-row}
+use Rattle.octets.proofs.Arms.{ranged, Missed, keyed?, missed-key, failed-row}
 use Rattle.records.specs.Layout.{fixed, name, layouts, layoutOf}
-use Rattle.records.specs.Pieces.{piece-none, piece-listed, piece-free}
+use Rattle.records.proofs.Pieces.{piece-none, piece-listed, piece-free}
 use Rattle.records.proofs.piece_of.Statement.{statement}
 use Rattle.records.proofs.piece_of.Tie as tie
 

@@ -1,7 +1,7 @@
 -- `records::rdata_step` meets its contract: one way for each piece and each of its faults.
 use borrow.Author.Needs.{needs}
 use Prim.Native.Nat.{_+_}
-use Rattle.records.specs.Pieces.{step-surplus, step-done, step-short, step-part, step-faulty, step-name, with-steps}
+use Rattle.records.proofs.Pieces.{step-surplus, step-done, step-short, step-part, step-faulty, step-name, with-steps}
 use Rattle.records.proofs.rdata_step.Statement.{statement}
 use Rattle.records.proofs.rdata_step.Tie as tie
 

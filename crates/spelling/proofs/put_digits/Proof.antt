@@ -1,6 +1,6 @@
 -- `spelling::put_digits` meets its contract: two backslashes and three digits.
 use borrow.Author.Needs.{needs}
-use Rattle.spelling.specs.Writing.{wrote-digits}
+use Rattle.spelling.proofs.Writing.{wrote-digits}
 use Rattle.spelling.proofs.put_digits.Statement.{statement}
 use Rattle.spelling.proofs.put_digits.Tie as tie
 

@@ -3,7 +3,7 @@ use borrow.Author.Needs.{needs}
 use mathlib.Core.Path.{_≡_}
 use Prim.Native.Nat.{_≤_, _+_, _*_, _-_}
 use lib.ListN.{length}
-use Rattle.spelling.specs.Writing.{Begun, begun-start, wrote-empty, wrote-root, begun-end, begun-root, begun-label, begun-cut}
+use Rattle.spelling.proofs.Writing.{Begun, begun-start, wrote-empty, wrote-root, begun-end, begun-root, begun-label, begun-cut}
 use Rattle.spelling.proofs.put_name.Statement.{statement}
 use Rattle.spelling.proofs.put_name.Tie as tie
 

@@ -1,6 +1,6 @@
 -- `spelling::put_signed` meets its contract: the number itself, or a minus and its distance from 2 ^ 32.
 use borrow.Author.Needs.{needs}
-use Rattle.spelling.specs.Writing.{wrote-plus, wrote-minus}
+use Rattle.spelling.proofs.Writing.{wrote-plus, wrote-minus}
 use Rattle.spelling.proofs.put_signed.Statement.{statement}
 use Rattle.spelling.proofs.put_signed.Tie as tie
 

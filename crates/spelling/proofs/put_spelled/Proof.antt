@@ -1,7 +1,7 @@
 -- `spelling::put_spelled` meets its contract: past the end nothing is written; else one way for each kind of spelling.
 use borrow.Author.Needs.{needs}
 use Rattle.octets.specs.Overlay.{past}
-use Rattle.spelling.specs.Writing.{wrote-plain, wrote-dot, wrote-backslash, wrote-other}
+use Rattle.spelling.proofs.Writing.{wrote-plain, wrote-dot, wrote-backslash, wrote-other}
 use Rattle.spelling.proofs.put_spelled.Statement.{statement}
 use Rattle.spelling.proofs.put_spelled.Tie as tie
 

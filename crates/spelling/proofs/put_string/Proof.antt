@@ -5,7 +5,7 @@ use lib.ListN.{length, take}
 use Rattle.octets.specs.Lists.{each}
 use Rattle.octets.specs.Overlay.{Wrote, each-start, each-step, same-long, then}
 use Rattle.spelling.specs.Spelling.{stringOctet}
-use Rattle.spelling.specs.Writing.{wrote-string}
+use Rattle.spelling.proofs.Writing.{wrote-string}
 use Rattle.spelling.proofs.put_string.Statement.{statement}
 use Rattle.spelling.proofs.put_string.Tie as tie
 

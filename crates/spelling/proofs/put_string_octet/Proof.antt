@@ -1,6 +1,6 @@
 -- `spelling::put_string_octet` meets its contract: a quote, a backslash, any other octet.
 use borrow.Author.Needs.{needs}
-use Rattle.spelling.specs.Writing.{wrote-quote, wrote-slash, wrote-itself}
+use Rattle.spelling.proofs.Writing.{wrote-quote, wrote-slash, wrote-itself}
 use Rattle.spelling.proofs.put_string_octet.Statement.{statement}
 use Rattle.spelling.proofs.put_string_octet.Tie as tie
 

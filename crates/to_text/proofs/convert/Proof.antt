@@ -1,7 +1,7 @@
 -- `to_text::convert` meets its contract: the refusal that was found, or the text.
 use mathlib.Core.List.{[]}
 use borrow.Author.Needs.{needs}
-use Rattle.to_text.specs.Promise.{converts, convert-refused, convert-accepted, convert-bounded, convert-whole}
+use Rattle.to_text.proofs.Promise.{converts, convert-refused, convert-accepted, convert-bounded, convert-whole}
 use Rattle.to_text.proofs.convert.Statement.{statement}
 use Rattle.to_text.proofs.convert.Tie as tie
 

@@ -1,7 +1,7 @@
 -- `to_text::deliver` meets its contract: the text is measured first, or written where there is room for the longest.
 use native.Mathlib.Omega.{arith}
 use borrow.Author.Needs.{needs}
-use Rattle.to_text.specs.Promise.{gives-text}
+use Rattle.to_text.proofs.Promise.{gives-text}
 use Rattle.to_text.proofs.deliver.Statement.{statement}
 use Rattle.to_text.proofs.deliver.Tie as tie
 

@@ -1,6 +1,6 @@
 -- `to_text::deliver_measured` meets its contract: a first run measures, and a second one writes where there is room.
 use borrow.Author.Needs.{needs}
-use Rattle.to_text.specs.Promise.{measured-long, measured-text}
+use Rattle.to_text.proofs.Promise.{measured-long, measured-text}
 use Rattle.to_text.proofs.deliver_measured.Statement.{statement}
 use Rattle.to_text.proofs.deliver_measured.Tie as tie
 

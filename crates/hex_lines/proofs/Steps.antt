@@ -15,7 +15,7 @@ use Rattle.octets.specs.Lists as lists
 use Rattle.octets.specs.Overlay.{overlay, Wrote, then, nothing, overlay-first}
 use Rattle.hex_lines.specs.Hex.{hexValue, octetThen, unhexed, hexAnswer, hexLeft, Unhexed, OctetsWithin, valueOr16, hex?}
 use Rattle.hex_lines.specs.Hex.{octetsFound}
-use Rattle.hex_lines.specs.Digits.{Digit, digit, other, hexValue-digit, is-digit, no-digit}
+use Rattle.hex_lines.proofs.Digits.{Digit, digit, other, hexValue-digit, is-digit, no-digit}
 use Rattle.hex_lines.specs.declared.Hex.{Hex}
 use Rattle.hex_lines.specs.declared.Hex.the-variants.{Octets, Bad}
 

@@ -14,7 +14,7 @@ use Rattle.names.specs.Walk.{part, rdata, Named, named, faulty, nameFrom}
 use Rattle.records.specs.Layout.{Piece, fixed, name, Laid, laid, misfit, before, pieces, laid?, rdataFits?}
 use Rattle.records.specs.Parts.{layoutIn, rdata-pieces}
 use Rattle.records.specs.Answer.{pieceRead}
-use Rattle.records.specs.Pieces.{layout-small, headed}
+use Rattle.records.proofs.Pieces.{layout-small, headed}
 use Rattle.records.specs.declared.Piece.{Piece as PieceRead}
 use Rattle.records.specs.declared.Piece.the-variants as piece
 use Rattle.digits.specs.Skipping.{skipped, nameEnd}

@@ -15,11 +15,11 @@ use Rattle.octets.specs.declared.Outcome.{Outcome}
 use Rattle.octets.specs.declared.Outcome.the-variants.{Length, Refused}
 use Rattle.records.specs.Message.{Message, form, opt?}
 use Rattle.records.specs.Decode.{Decoded, accepted, refused, decode}
-use Rattle.records.specs.MessageLaws.{decode-valid}
+use Rattle.records.proofs.MessageLaws.{decode-valid}
 use Rattle.forms.specs.Uncompressed.{scanOf, Uncompressed}
 use Rattle.forms.specs.declared.Scan.{Scan}
 use Rattle.json.specs.Converted.{converted, toText, Converts}
-use Rattle.json.specs.Bound.{text-short}
+use Rattle.json.proofs.Bound.{text-short}
 use Rattle.print_message.specs.Whole.{profileText, AcceptedMessage}
 
 -- ---- an accepted message

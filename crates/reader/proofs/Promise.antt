@@ -19,7 +19,7 @@ use Rattle.octets.specs.Fields.{drop-one, empty}
 use Rattle.octets.specs.Overlay.{Wrote}
 use Rattle.records.specs.Message.{form}
 use Rattle.json.specs.View.{messageOf}
-use Rattle.json.specs.ViewLaws.{small-form, within-small}
+use Rattle.json.proofs.ViewLaws.{small-form, within-small}
 use Rattle.json.specs.Limits.{within?}
 use Rattle.json.specs.Document.{Document}
 use Rattle.strict.specs.Meaning.{documentView, counts?, meaning}

@@ -11,7 +11,7 @@ use Rattle.octets.specs.declared.Outcome.{Outcome}
 use Rattle.octets.specs.declared.Outcome.the-variants.{Length, Refused}
 use Rattle.strict.specs.Reading.{reading, toWire}
 use Rattle.line_answers.specs.Answers.{refusalLine, answerText, asHex}
-use Rattle.line_answers.specs.Calls.{Told, told, told-by, callLine, told-line}
+use Rattle.line_answers.proofs.Calls.{Told, told, told-by, callLine, told-line}
 
 -- ---- the reader's answer
 -- what `towire` prints for a text is what a call reports and leaves, whatever its buffer of that length held

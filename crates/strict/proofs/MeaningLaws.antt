@@ -25,7 +25,7 @@ use Rattle.json.specs.Document as doc
 use Rattle.strict.specs.Members.{optionOf, member?}
 use Rattle.strict.specs.Grammar.{Label, Labels, SignedNumber, QuestionIn, RecordIn, MemberIn, EdnsIn, ItemIn, DocumentIn}
 use Rattle.strict.specs.Meaning.{unsigned, itemRecord, itemEdns, itemAdditional, documentView, ttl?, recordItem?, ednsItem?, item?, counts?, agrees?, meaning}
-use Rattle.strict.specs.OptionLaws.{one-some, member-option, option-member}
+use Rattle.strict.proofs.OptionLaws.{one-some, member-option, option-member}
 
 -- ---- TTL
 -- the 32 bits of a TTL are read back from its number, which is in range and no -0

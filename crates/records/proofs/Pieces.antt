@@ -9,7 +9,7 @@ use borrow.Author.Tests.{le-ltb, lt-ltb, ne-eqb, ltb-false}
 use lib.Dec.{ltb, eqb}
 use lib.ListN.{length, drop, replicate, length-drop, drop-of-length-le}
 use Rattle.octets.specs.Lists.{All, lookup}
-use Rattle.octets.specs.Arms.{past-rows}
+use Rattle.octets.proofs.Arms.{past-rows}
 use Rattle.names.specs.Name.{Name, nameForm, short, surplus}
 use Rattle.names.specs.Name as name
 use Rattle.names.specs.Walk.{rdata, named, faulty, nameAt}
@@ -23,7 +23,7 @@ use Rattle.names.specs.declared.NameRead.{NameRead}
 use Rattle.records.specs.Layout.{Piece, fixed, name, layouts, layoutOf}
 use Rattle.records.specs.Parts.{layoutOr, layoutIn, part-to, done, stops, nameStep, stepAt}
 use Rattle.records.specs.Answer.{padded, pieceRead, nthOf, plainly, faultStep, stepRead, Steps}
-use Rattle.records.specs.Reading.{name-read, name-faulty}
+use Rattle.records.proofs.Reading.{name-read, name-faulty}
 use Rattle.records.specs.declared.Piece.{Piece as PieceRead}
 use Rattle.records.specs.declared.Piece.the-variants as piece
 use Rattle.records.specs.declared.Step.{Step}

@@ -13,13 +13,13 @@ use Rattle.octets.specs.declared.Outcome.{Outcome}
 use Rattle.octets.specs.declared.Outcome.the-variants.{Length, Refused}
 use Rattle.json.specs.Converted.{converted, toText}
 use Rattle.hex_lines.specs.Hex.{Unhexed}
-use Rattle.hex_lines.specs.Steps.{read-none, read-octets}
+use Rattle.hex_lines.proofs.Steps.{read-none, read-octets}
 use Rattle.hex_lines.specs.declared.Hex.{Hex}
 use Rattle.hex_lines.specs.declared.Hex.the-variants.{Octets, Bad}
 use Rattle.line_answers.specs.Answers.{refusalLine, answerText, asText, textLine, textLeft}
-use Rattle.line_answers.specs.Places.{place-within}
-use Rattle.line_answers.specs.Calls.{Told, told, told-by, callLine, told-line}
-use Rattle.line_answers.specs.Limits.{in-limit, in-left}
+use Rattle.line_answers.proofs.Places.{place-within}
+use Rattle.line_answers.proofs.Calls.{Told, told, told-by, callLine, told-line}
+use Rattle.line_answers.proofs.Limits.{in-limit, in-left}
 
 -- ---- the converter's answer
 -- what `totext` prints for a message is what a call reports and leaves, whatever its buffer of that length held

@@ -11,7 +11,7 @@ use Rattle.names.specs.Name.{name?, label?, nameForm}
 use Rattle.names.specs.Walk.{walk, nameFrom}
 use Rattle.records.specs.Message.{header?, question?, record?, form, headerForm, questionForm, recordForm}
 use Rattle.records.specs.Layout.{rdataFits?, layouts, layoutOf, pieces, rdataAt}
-use Rattle.records.specs.Boundaries.{Verdict, taken, refuses}
+use Rattle.records.proofs.Boundaries.{Verdict, taken, refuses}
 use Rattle.edns.specs.Edns.{rcodes, edns?, option?, rising?, divided, optionsOf, ednsOf, ednsRecord, optionForm, small-option?, flags}
 use Rattle.json.specs.Sample.{textWith}
 use Rattle.spelling.specs.Spelling.{plain?, printable?, spelled, stringOctet}

@@ -14,7 +14,7 @@ use Rattle.octets.specs.Fields.{twoAt, fourAt}
 use Rattle.octets.specs.Overlay.{Wrote, then}
 use Rattle.octets.specs.Decimal.{decimal}
 use Rattle.octets.specs.Hexadecimal.{hexOctet, hexText}
-use Rattle.records.specs.Told.{form-part, asked, tells, pieces-next}
+use Rattle.records.proofs.Told.{form-part, asked, tells, pieces-next}
 use Rattle.names.specs.Name.{Name, nameForm, cut, Fault}
 use Rattle.names.specs.Walk.{part, message, Named, named, faulty, nameAt}
 use Rattle.names.specs.NameLaws.{Sized, read-sized, named-name, faulty≢named}

@@ -14,13 +14,13 @@ use Rattle.octets.specs.Bits.{and-left, and-right, all→All, All-map, octets-i
 use Rattle.octets.specs.Fields.{two, twoAt, fourAt, twoAt-word, fourAt-long}
 use Rattle.octets.specs.Decimal.{decimal}
 use Rattle.octets.specs.Hexadecimal.{hexOctet, hexText}
-use Rattle.octets.specs.Writing.{decimal-short, each-hex-length}
+use Rattle.octets.proofs.Writing.{decimal-short, each-hex-length}
 use Rattle.octets.specs.Overlay.{each-ended}
 use Rattle.names.specs.Name.{Name, nameForm}
 use Rattle.names.specs.NameLaws.{form-long}
 use Rattle.records.specs.Message.{Question, Record, Message, questionForm, recordForm, form, question?, record?, section?, valid?, bit?}
-use Rattle.records.specs.MessageLaws.{Bounds, valid-parts}
-use Rattle.records.specs.MessageLaws as message
+use Rattle.records.proofs.MessageLaws.{Bounds, valid-parts}
+use Rattle.records.proofs.MessageLaws as message
 use Rattle.records.specs.RecordLaws.{question-parts, record-parts, record-long}
 use Rattle.spelling.specs.Spelling.{spelled, labelText, nameText, plus, minus, signed, signedText, printable?, stringOctet, stringText}
 use Rattle.spelling.specs.Width.{spelled-width, width-range}
@@ -30,7 +30,7 @@ use Rattle.edns.specs.Edns.{rcodes, Edns, ednsItem, ednsRecord, edns?, option?,
 use Rattle.edns.specs.EdnsLaws.{option-long}
 use Rattle.json.specs.View.{Additional, View, viewOf, recordOf, messageOf, additional?, additionals?, view?}
 use Rattle.json.specs.View as view
-use Rattle.json.specs.ViewLaws.{message-view, view-valid, view-additional, message-valid, map-long}
+use Rattle.json.proofs.ViewLaws.{message-view, view-valid, view-additional, message-valid, map-long}
 use Rattle.json.specs.Document.{questionText, recordText, itemText, headText, documentText}
 use Rattle.json.specs.Text.{recordItem, item, documentOf, viewText, text}
 

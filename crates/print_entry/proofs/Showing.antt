@@ -22,19 +22,19 @@ use Rattle.records.specs.Read.{Entry, entry, recordAt, filled}
 use Rattle.records.specs.RecordLaws.{laid-octets, misfit≢laid}
 use Rattle.records.specs.Parts.{HeadOf, recordHeadAt, withRdata, with-rdata, record-head, head-next}
 use Rattle.records.specs.Answer.{padded, headRead, recordRead}
-use Rattle.records.specs.Told.{form-part, headed}
+use Rattle.records.proofs.Told.{form-part, headed}
 use Rattle.records.specs.declared.Head.{Head}
 use Rattle.records.specs.declared.Record.the-variants as record′
 use Rattle.records.specs.declared.RecordRead.{RecordRead}
 use Rattle.spelling.specs.Spelling.{signed, signedText}
 use Rattle.edns.specs.Edns.{Edns, ednsOf}
 use Rattle.edns.specs.Element.{showsEdns, elementText, shows-edns, element-text}
-use Rattle.json.specs.ViewLaws.{entryOf}
+use Rattle.json.proofs.ViewLaws.{entryOf}
 use Rattle.json.specs.Document.{recordText, itemText}
 use Rattle.json.specs.Text.{recordItem, item}
 use Rattle.print_entry.specs.Prints.{texts, Readable, readable-value, readable≢bad, Prints, prints-text, prints-between}
 use Rattle.print_entry.specs.Elements.{fieldsText, hexOfRdata, rdataText, ordinaryText, rcodeOf, rdataOf, shows?, shownText, questionTextAt, entryText, recordTextAt, textAt}
-use Rattle.print_entry.specs.Writing.{front-text, head-sized}
+use Rattle.print_entry.proofs.Writing.{front-text, head-sized}
 use Rattle.print_entry.specs.declared.Element.{Element}
 use Rattle.print_entry.specs.declared.Element.the-variants as element
 

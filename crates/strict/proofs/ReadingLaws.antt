@@ -14,17 +14,17 @@ use Rattle.octets.specs.Codec.{Splits}
 use Rattle.octets.specs.Answer.{Output, output, refused}
 use Rattle.records.specs.Message.{Message, form, valid?}
 use Rattle.records.specs.Decode.{accepted, decode}
-use Rattle.records.specs.MessageLaws.{decode-form, decode-valid}
+use Rattle.records.proofs.MessageLaws.{decode-form, decode-valid}
 use Rattle.json.specs.View.{View, view?, viewOf, messageOf}
-use Rattle.json.specs.ViewLaws.{message-view, view-valid, view-message, message-valid, small-form, within-small}
+use Rattle.json.proofs.ViewLaws.{message-view, view-valid, view-message, message-valid, small-form, within-small}
 use Rattle.json.specs.Limits.{within?}
 use Rattle.json.specs.Document.{Document, documentText}
 use Rattle.json.specs.Text.{documentOf, viewText, text}
 use Rattle.json.specs.Converted.{converted}
 use Rattle.strict.specs.Meaning.{meaning}
-use Rattle.strict.specs.MeaningLaws.{view-in, meaning-document, document-meaning}
+use Rattle.strict.proofs.MeaningLaws.{view-in, meaning-document, document-meaning}
 use Rattle.strict.specs.Parser.{parse, parse-exact, parse-ends, document-unique, document-filled}
-use Rattle.strict.specs.Visible.{visible}
+use Rattle.strict.proofs.Visible.{visible}
 use Rattle.strict.specs.Reading.{meant, parsed, reading}
 
 -- ---- a text and its meaning

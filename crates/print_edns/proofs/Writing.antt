@@ -18,7 +18,7 @@ use Rattle.options.specs.Options.{EdnsOption, memberOf, memberText}
 use Rattle.edns.specs.Edns.{prepend, optionsOf, rcodes, flags, fullRcode, ednsItem, ednsText}
 use Rattle.edns.specs.Element.{risen?, optionsRise, listOf, optionsIn, optionsText, showsEdns, elementText, ednsHeadText}
 use Rattle.edns.specs.Table.{tableOctets, rowAt, text-none, text-row, text-short}
-use Rattle.edns.specs.Ways.{here, options-end, options-none, options-more}
+use Rattle.edns.proofs.Ways.{here, options-end, options-none, options-more}
 
 -- ---- FLAGS and RCODE
 -- the text of a key

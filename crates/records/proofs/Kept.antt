@@ -17,7 +17,7 @@ use Rattle.records.specs.Message.{Message, Question, Record, questionFor
 use Rattle.records.specs.Read.{entry, firstCut, questionAt, recordAt, reached, sectionAt, sectionFrom}
 use Rattle.records.specs.Decode.{headerOf, zOf, sectionsOf, messageRead, accepted, decode}
 use Rattle.records.specs.RecordLaws.{laid-octets, pieces-fill, pieces-same, pieces-whole, fields-room, entry-value, entry-next, with-name-back, with-fields-back, filled-back, room-back}
-use Rattle.records.specs.MessageLaws.{section-count, from-count, from-reached, decode-back}
+use Rattle.records.proofs.MessageLaws.{section-count, from-count, from-reached, decode-back}
 use Rattle.records.specs.Parts.{layoutIn, rdata-pieces}
 
 -- ---- the header

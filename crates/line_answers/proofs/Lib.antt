@@ -1,0 +1,6 @@
+-- Laws that no definition needs.
+pub mod Places
+pub mod Calls
+pub mod Limits
+pub mod Answering
+pub mod Wire

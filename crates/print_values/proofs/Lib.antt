@@ -1,0 +1,2 @@
+-- Laws that no definition needs.
+pub mod Parts

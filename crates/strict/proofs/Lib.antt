@@ -1,0 +1,6 @@
+-- Laws that no definition needs.
+pub mod Visible
+pub mod OptionLaws
+pub mod MeaningLaws
+pub mod ReadingLaws
+pub mod Boundaries
