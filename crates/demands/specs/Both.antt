@@ -16,7 +16,8 @@ pub c-success : (n v k : ℕ) → (answerOf (outcomeOf n v) ≡ success k) ↔ (
 c-success zero v k = (λ e. (refl, ap lengthOrNumber e), λ h. rw (h .1))
 c-success (suc n) v k = (λ e. not-success e, λ h. absurd (omega (arith, h .0)))
 
-pub same : (c d : Call) → Both c d → c .input ≡ d .input → room c ≡ room d → (reply c ≡ reply d) × (writtenBy c ≡ writtenBy d)
+pub same : (c d : Call) → Both c d → c .input ≡ d .input → room c ≡ room d
+    → (reply c ≡ reply d) × (writtenBy c ≡ writtenBy d)
 same c d (inl p) = converter.same c d (p .0) (p .1)
 same c d (inr p) = reader.same c d (p .0) (p .1)
 

@@ -22,7 +22,8 @@ use Rattle.demands.specs.FrontPage.Words.{reply, room, Accepted, Length,
 use Rattle.demands.specs.Delivered.{call-succeeds, call-refuses, call-leaves, call-stays, calls-same}
 
 -- ---- demand 1
-pub same : (c d : Call) → Converts c → Converts d → c .input ≡ d .input → room c ≡ room d → (reply c ≡ reply d) × (writtenBy c ≡ writtenBy d)
+pub same : (c d : Call) → Converts c → Converts d → c .input ≡ d .input → room c ≡ room d
+    → (reply c ≡ reply d) × (writtenBy c ≡ writtenBy d)
 unfolding toText
 same c d p q e n = calls-same 10 (converted (d .input)) c (rw e at p .promise) d (q .promise) n
 
@@ -63,11 +64,13 @@ module _ (c : Call) (made : Converts c) where
   leaves = call-leaves 10 (converted (c .input)) c (made .promise)
 
   -- ---- demand 2, its writing half
-  pub accepts : (n : ℕ) → (reply c ≡ success n) ↔ ((m : Message) × (decode (c .input) ≡ accepted m) × Length c n (text m))
+  pub accepts : (n : ℕ)
+      → (reply c ≡ success n) ↔ ((m : Message) × (decode (c .input) ≡ accepted m) × Length c n (text m))
   unfolding toText converted
   accepts n = (forward, backward)
     where
-      exact : (reply c ≡ success n) ↔ ((l : List ℕ) × (outputOf (decode (c .input)) ≡ output l) × (length l ≤ room c) × (n ≡ length l))
+      exact : (reply c ≡ success n) ↔ ((l : List ℕ) × (outputOf (decode (c .input)) ≡ output l) × (length l ≤ room c)
+          × (n ≡ length l))
       exact = call-succeeds 10 (outputOf (decode (c .input))) c (made .promise) n
 
       forward : reply c ≡ success n → (m : Message) × (decode (c .input) ≡ accepted m) × Length c n (text m)
@@ -80,23 +83,29 @@ module _ (c : Call) (made : Converts c) where
       backward u = let (m, d, (h, k)) = u in exact .1 (text m, ap outputOf d, h, k)
 
   pub declines : (k p : ℕ) → (reply c ≡ refusal k p)
-      ↔ ((decode (c .input) ≡ refused k p) ⊎ ((m : Message) × (decode (c .input) ≡ accepted m) × (room c < length (text m)) × (k ≡ 10) × (p ≡ 0)))
+      ↔ ((decode (c .input) ≡ refused k p)
+      ⊎ ((m : Message) × (decode (c .input) ≡ accepted m) × (room c < length (text m)) × (k ≡ 10) × (p ≡ 0)))
   unfolding toText converted
   declines k p = (λ e. forward (exact .0 e), λ u. exact .1 (backward u))
     where
       d : Decoded
       d = decode (c .input)
 
-      exact : (reply c ≡ refusal k p) ↔ ((outputOf d ≡ answer.refused k p) ⊎ ((l : List ℕ) × (outputOf d ≡ output l) × (room c < length l) × (k ≡ 10) × (p ≡ 0)))
+      exact : (reply c ≡ refusal k p)
+          ↔ ((outputOf d ≡ answer.refused k p)
+          ⊎ ((l : List ℕ) × (outputOf d ≡ output l) × (room c < length l) × (k ≡ 10) × (p ≡ 0)))
       exact = call-refuses 10 (outputOf d) c (made .promise) k p
 
-      forward : (outputOf d ≡ answer.refused k p) ⊎ ((l : List ℕ) × (outputOf d ≡ output l) × (room c < length l) × (k ≡ 10) × (p ≡ 0))
+      forward : (outputOf d ≡ answer.refused k p)
+          ⊎ ((l : List ℕ) × (outputOf d ≡ output l) × (room c < length l) × (k ≡ 10) × (p ≡ 0))
           → (d ≡ refused k p) ⊎ ((m : Message) × (d ≡ accepted m) × (room c < length (text m)) × (k ≡ 10) × (p ≡ 0))
       forward (inl e) = inl (refuses d k p e)
       forward (inr u) = let (l, o, h, j, q) = u in let (m, a, f) = outputs d l o in inr (m, a, rw f h, j, q)
 
-      backward : (d ≡ refused k p) ⊎ ((m : Message) × (d ≡ accepted m) × (room c < length (text m)) × (k ≡ 10) × (p ≡ 0))
-          → (outputOf d ≡ answer.refused k p) ⊎ ((l : List ℕ) × (outputOf d ≡ output l) × (room c < length l) × (k ≡ 10) × (p ≡ 0))
+      backward : (d ≡ refused k p) ⊎ ((m : Message) × (d ≡ accepted m) × (room c < length (text m)) × (k ≡ 10)
+          × (p ≡ 0))
+          → (outputOf d ≡ answer.refused k p) ⊎ ((l : List ℕ) × (outputOf d ≡ output l) × (room c < length l) × (k ≡ 10)
+          × (p ≡ 0))
       backward (inl e) = inl (ap outputOf e)
       backward (inr u) = let (m, a, h, j, q) = u in inr (text m, ap outputOf a, h, j, q)
 
@@ -157,7 +166,8 @@ unfolding stream messages flatten
 stream-texts [] made room = refl
 stream-texts (c ∷ l) made room = go (decode (c .input)) refl (room .0) (stream-texts l (made .1) (room .1))
   where
-    go : (d : Decoded) → decode (c .input) ≡ d → FitsIn d (length (c .before)) → stream l ≡ flatten (map text (messages l))
+    go : (d : Decoded) → decode (c .input) ≡ d → FitsIn d (length (c .before))
+        → stream l ≡ flatten (map text (messages l))
         → writtenBy c ++ stream l ≡ flatten (map text (addMessage d (messages l)))
     go (accepted m) e h k = ap₂ _++_ (writes c (made .0) m e h) k
     go (refused number place) e h k = rw (declines c (made .0) number place .1 (inl e)) k
@@ -167,7 +177,8 @@ unfolding formsOf messages
 forms-messages [] = refl
 forms-messages (c ∷ l) = go (decode (c .input)) (forms-messages l)
   where
-    go : (d : Decoded) → formsOf l ≡ map form (messages l) → addForm d (formsOf l) ≡ map form (addMessage d (messages l))
+    go : (d : Decoded) → formsOf l ≡ map form (messages l)
+        → addForm d (formsOf l) ≡ map form (addMessage d (messages l))
     go (accepted m) e = ap (λ z. form m ∷ z) e
     go (refused number place) e = e
 
@@ -177,10 +188,13 @@ same-forms [] [] h k e = refl
 same-forms [] (n ∷ m) h k e = absurd (nil≢cons e)
 same-forms (n ∷ l) [] h k e = absurd (nil≢cons (sym e))
 same-forms (a ∷ l) (b ∷ m) h k e =
-    ap₂ _∷_ (forms-equal a b (h .0 .0) (k .0 .0) (h .0 .1) (k .0 .1) .0 (head-eq-of-cons-eq e)) (same-forms l m (h .1) (k .1) (tail-eq-of-cons-eq e))
+    ap₂ _∷_ (forms-equal a b (h .0 .0) (k .0 .0) (h .0 .1) (k .0 .1) .0 (head-eq-of-cons-eq e))
+    (same-forms l m (h .1) (k .1) (tail-eq-of-cons-eq e))
 
--- two messages: their texts are equal exactly when their uncompressed forms are, and no text is a proper beginning of another
-module _ (c d : Call) (p : Converts c) (q : Converts d) (m n : Message) (a : decode (c .input) ≡ accepted m) (b : decode (d .input) ≡ accepted n) (r : Room c) (s : Room d) where
+-- two messages: their texts are equal exactly when their uncompressed forms are, and no text is a proper beginning of
+-- another
+module _ (c d : Call) (p : Converts c) (q : Converts d) (m n : Message) (a : decode (c .input) ≡ accepted m)
+    (b : decode (d .input) ≡ accepted n) (r : Room c) (s : Room d) where
   first : writtenBy c ≡ text m
   first = writes c p m a (rw a at r)
 
@@ -208,16 +222,21 @@ module _ (c d : Call) (p : Converts c) (q : Converts d) (m n : Message) (a : dec
   beginning rest e =
       let wm = decode-valid (c .input) m (p .octets) a in
       let wn = decode-valid (d .input) n (q .octets) b in
-      let u = prefix-free (λ m. T (valid? m)) text text-splits m n rest (wm .0) (wn .0) (ap (λ l. l ++ rest) (sym first) ∙ e ∙ second) in
+      let u = prefix-free (λ m. T (valid? m)) text text-splits m n rest (wm .0) (wn .0) (ap (λ l. l ++ rest) (sym first)
+      ∙ e ∙ second) in
       (ap form (u .0), u .1)
 
 -- both, as the front page has it
-pub told-apart : (c d : Call) → Converts c → Converts d → (m n : Message) → decode (c .input) ≡ accepted m → decode (d .input) ≡ accepted n → Room c → Room d
-    → ((writtenBy c ≡ writtenBy d) ↔ (form m ≡ form n)) × ((rest : List ℕ) → writtenBy c ++ rest ≡ writtenBy d → rest ≡ [])
+pub told-apart : (c d : Call) → Converts c → Converts d → (m n : Message) → decode (c .input) ≡ accepted m
+    → decode (d .input) ≡ accepted n → Room c → Room d
+    → ((writtenBy c ≡ writtenBy d) ↔ (form m ≡ form n)) × ((rest : List ℕ) → writtenBy c ++ rest ≡ writtenBy d
+    → rest ≡ [])
 told-apart c d p q m n a b r s = (equal c d p q m n a b r s, λ rest e. beginning c d p q m n a b r s rest e .1)
 
--- two whole lists of calls: what they wrote, set end to end, is equal exactly when the uncompressed forms of their accepted messages are
-pub lists : (l m : List Call) → All Converts l → All Converts m → All Room l → All Room m → (stream l ≡ stream m) ↔ (formsOf l ≡ formsOf m)
+-- two whole lists of calls: what they wrote, set end to end, is equal exactly when the uncompressed forms of their
+-- accepted messages are
+pub lists : (l m : List Call) → All Converts l → All Converts m → All Room l → All Room m
+    → (stream l ≡ stream m) ↔ (formsOf l ≡ formsOf m)
 lists l m p q r s = (forward, backward)
   where
     a : All Whole (messages l)
@@ -228,7 +247,8 @@ lists l m p q r s = (forward, backward)
 
     forward : stream l ≡ stream m → formsOf l ≡ formsOf m
     forward e =
-        let u = streams (λ m. T (valid? m)) text text-splits (λ m h. text-filled m) (messages l) (messages m) (messages-valid (messages l) a) (messages-valid (messages m) b) .0
+        let u = streams (λ m. T (valid? m)) text text-splits (λ m h. text-filled m) (messages l) (messages m)
+        (messages-valid (messages l) a) (messages-valid (messages m) b) .0
         (sym (stream-texts l p r) ∙ e ∙ stream-texts m q s) in
         forms-messages l ∙ ap (map form) u ∙ sym (forms-messages m)
 

@@ -11,7 +11,8 @@ use Rattle.records.specs.Layout.{layouts, layoutOf, pieces, rdataAt}
 use Rattle.records.specs.Message.{questionForm, recordForm, headerForm, form}
 use Rattle.records.specs.Read.{firstCut, questionAt, recordAt, sectionAt, sectionFrom}
 use Rattle.records.specs.Decode.{headerOf, sectionsOf, messageRead, decode}
-use Rattle.spelling.specs.Spelling.{plain?, spelled, labelText, nameText, signedText, printable?, stringOctet, stringText, signed}
+use Rattle.spelling.specs.Spelling.{plain?, spelled, labelText, nameText, signedText, printable?, stringOctet}
+use Rattle.spelling.specs.Spelling.{stringText, signed}
 use Rattle.options.specs.Options.{rows, members, formOf, valueText, words, shape, memberOf, memberText}
 use Rattle.edns.specs.Edns.{optionForm, divided, optionsOf, rising?, rcodes, ednsOf, flags, ednsText, ednsItem}
 use Rattle.json.specs.View.{additionalOf, viewOf}
@@ -27,7 +28,8 @@ pub record Example : Type 0 where
   pub gives : Output
 
 abbrev pub says : (rcode qdcount ancount arcount questions answers additional : String) → Output
-says rcode qdcount ancount arcount questions answers additional = output (textWith rcode qdcount ancount arcount questions answers additional)
+says rcode qdcount ancount arcount questions answers additional =
+    output (textWith rcode qdcount ancount arcount questions answers additional)
 
 unfoldable pub examples : List Example
 examples =
@@ -47,32 +49,43 @@ examples =
     -- TTL 80000000 is -2147483648
     ∷ record {
       message = "0000000000000001000000000000010001800000000000";
-      gives = says "0" "0" "1" "0" "" "{\"NAME\":\".\",\"TYPE\":1,\"CLASS\":1,\"TTL\":-2147483648,\"RDATAHEX\":\"\"}" "";
+      gives = says "0" "0" "1" "0" "" "{\"NAME\":\".\",\"TYPE\":1,\"CLASS\":1,\"TTL\":-2147483648,\"RDATAHEX\":\"\"}"
+          "";
     }
     -- label of the one octet 2E: `\\..`
-    ∷ record { message = "000000000001000000000000012E0000010001"; gives = says "0" "1" "0" "0" "{\"NAME\":\"\\\\..\",\"TYPE\":1,\"CLASS\":1}" "" "" }
+    ∷ record {
+      message = "000000000001000000000000012E0000010001";
+      gives = says "0" "1" "0" "0" "{\"NAME\":\"\\\\..\",\"TYPE\":1,\"CLASS\":1}" "" "";
+    }
     -- label of 00: `\\000.`
-    ∷ record { message = "00000000000100000000000001000000010001"; gives = says "0" "1" "0" "0" "{\"NAME\":\"\\\\000.\",\"TYPE\":1,\"CLASS\":1}" "" "" }
+    ∷ record {
+      message = "00000000000100000000000001000000010001";
+      gives = says "0" "1" "0" "0" "{\"NAME\":\"\\\\000.\",\"TYPE\":1,\"CLASS\":1}" "" "";
+    }
     -- pointer C00C as the first question's name: 5 at 12
     ∷ record { message = "000000000001000000000000C00C00010001"; gives = refused 5 12 }
     -- one additional record 00 0029 04D0 00008000 0004 00090000, header RCODE 0
     ∷ record {
       message = "00000000000000000000000100002904D000008000000400090000";
-      gives = says "0" "0" "0" "1" "" "" "{\"EDNS\":{\"Version\":0,\"FLAGS\":[\"DO\"],\"RCODE\":\"NoError\",\"UDPSIZE\":1232,\"EXPIRE\":\"NONE\"}}";
+      gives = says "0" "0" "0" "1" "" ""
+          "{\"EDNS\":{\"Version\":0,\"FLAGS\":[\"DO\"],\"RCODE\":\"NoError\",\"UDPSIZE\":1232,\"EXPIRE\":\"NONE\"}}";
     }
     -- the generic example of 004 (TTL 16859136, version 1) stays an ordinary record
     ∷ record {
       message = "00000000000000000000000100002904D0010140000006000F00020015";
-      gives = says "0" "0" "0" "1" "" "" "{\"NAME\":\".\",\"TYPE\":41,\"CLASS\":1232,\"TTL\":16859136,\"RDATAHEX\":\"000F00020015\"}";
+      gives = says "0" "0" "0" "1" "" ""
+          "{\"NAME\":\".\",\"TYPE\":41,\"CLASS\":1232,\"TTL\":16859136,\"RDATAHEX\":\"000F00020015\"}";
     }
     -- TTL first octet 1, header RCODE 7: BADCOOKIE
     ∷ record {
       message = "00000007000000000000000100002904D0010000000000";
-      gives = says "7" "0" "0" "1" "" "" "{\"EDNS\":{\"Version\":0,\"FLAGS\":[],\"RCODE\":\"BADCOOKIE\",\"UDPSIZE\":1232}}";
+      gives = says "7" "0" "0" "1" "" ""
+          "{\"EDNS\":{\"Version\":0,\"FLAGS\":[],\"RCODE\":\"BADCOOKIE\",\"UDPSIZE\":1232}}";
     }
     ∷ []
 
 -- every example, computed
-pub examples-hold : map (λ (e : Example). converted (hexed (e .message))) examples ≡ map (λ (e : Example). e .gives) examples
+pub examples-hold : map (λ (e : Example). converted (hexed (e .message))) examples ≡ map
+    (λ (e : Example). e .gives) examples
 unfolding examples lookup key? rowText decimal hexText nameForm walk nameFrom layouts layoutOf pieces rdataAt questionForm recordForm each headerForm form firstCut questionAt recordAt sectionAt sectionFrom headerOf sectionsOf messageRead decode plain? spelled labelText nameText signedText printable? stringOctet stringText rows members formOf valueText words shape memberOf memberText optionForm divided optionsOf rising? rcodes ednsOf additionalOf viewOf questionText recordText flags ednsText itemText headText documentText signed recordItem ednsItem item documentOf viewText text converted toText
 examples-hold = refl

@@ -1,4 +1,5 @@
--- The demands on the conversion of texts to messages, over its calls, and both round trips. The statements are in FrontPage.antt.
+-- The demands on the conversion of texts to messages, over its calls, and both round trips. The statements are in
+-- FrontPage.antt.
 use mathlib.Core.Path.{_≡_, refl, sym, _∙_, ap, subst}
 use mathlib.Core.Logic.{_↔_, _⊎_, inl, inr}
 use mathlib.Core.Bool.{Bool, true, false, false≢true}
@@ -28,7 +29,8 @@ use Rattle.demands.specs.Delivered.{call-succeeds, call-refuses, call-le
 use Rattle.demands.specs.Converter as converter
 
 -- ---- demand 1
-pub same : (c d : Call) → Reads c → Reads d → c .input ≡ d .input → room c ≡ room d → (reply c ≡ reply d) × (writtenBy c ≡ writtenBy d)
+pub same : (c d : Call) → Reads c → Reads d → c .input ≡ d .input → room c ≡ room d
+    → (reply c ≡ reply d) × (writtenBy c ≡ writtenBy d)
 unfolding toWire
 same c d p q e n = calls-same 23 (reading (d .input)) c (rw e at p) d q n
 
@@ -43,7 +45,8 @@ pub ruling : (t : List ℕ) → Ruling t (reading t)
 unfolding reading
 ruling t = go (parse t) refl
   where
-    sizes : (d : Document) (v : View) → parse t ≡ took d [] → meaning d ≡ some v → (b : Bool) → within? v ≡ b → Ruling t (sized v)
+    sizes : (d : Document) (v : View) → parse t ≡ took d [] → meaning d ≡ some v → (b : Bool) → within? v ≡ b
+        → Ruling t (sized v)
     sizes d v p m true e = rw e (read v (means-text t v .0 (record { document = d; spelled = p; meant = m })) e)
     sizes d v p m false e = rw e (large v (means-text t v .0 (record { document = d; spelled = p; meant = m })) e)
 
@@ -52,7 +55,8 @@ ruling t = go (parse t) refl
 
     means : (d : Document) → parse t ≡ took d [] → (o : Option View) → meaning d ≡ o → Ruling t (meant o)
     means d p none e = meaningless (d, parse-exact t d .0 p .0, parse-exact t d .0 p .1) λ v h.
-        let m = means-text t v .1 h in Option·none-ne-some v (sym e ∙ ap meaning (taken (sym p ∙ m .spelled)) ∙ m .meant)
+        let m = means-text t v .1 h in
+        Option·none-ne-some v (sym e ∙ ap meaning (taken (sym p ∙ m .spelled)) ∙ m .meant)
     means d p (some v) e = sizes d v p e (within? v) refl
 
     go : (o : Parsed Document) → parse t ≡ o → Ruling t (parsed o)
@@ -91,19 +95,22 @@ at-20 p (meaningless g f) = (no (λ e. omega arith), λ h. absurd (h .0 g))
 at-20 {t} p (large v h w) = (no (λ e. omega arith), λ k. absurd (k .0 (has-grammar t v h)))
 at-20 {t} p (read v h w) = (no (λ e. omega arith), λ k. absurd (k .0 (has-grammar t v h)))
 
-at-21 : {t : List ℕ} {o : Output} (p : ℕ) → Ruling t o → (o ≡ refused 21 p) ↔ (InGrammar t × ((v : View) → HasText t v → ⊥) × (p ≡ 0))
+at-21 : {t : List ℕ} {o : Output} (p : ℕ) → Ruling t o
+    → (o ≡ refused 21 p) ↔ (InGrammar t × ((v : View) → HasText t v → ⊥) × (p ≡ 0))
 unfolding numberIn placeIn
 at-21 p (ungrammatical g) = (no (λ e. omega arith), λ h. let (i, f, q) = h in absurd (g i))
 at-21 p (meaningless g f) = (λ e. (g, f, sym (ap placeIn e)), λ h. let (i, j, q) = h in rw q)
 at-21 p (large v h w) = (no (λ e. omega arith), λ k. let (i, f, q) = k in absurd (f v h))
 at-21 p (read v h w) = (no (λ e. omega arith), λ k. let (i, f, q) = k in absurd (f v h))
 
-at-22 : {t : List ℕ} {o : Output} (p : ℕ) → Ruling t o → (o ≡ refused 22 p) ↔ ((v : View) × HasText t v × (within? v ≡ false) × (p ≡ 0))
+at-22 : {t : List ℕ} {o : Output} (p : ℕ) → Ruling t o
+    → (o ≡ refused 22 p) ↔ ((v : View) × HasText t v × (within? v ≡ false) × (p ≡ 0))
 unfolding numberIn placeIn
 at-22 {t} p (ungrammatical g) = (no (λ e. omega arith), λ h. let (v, k, w, q) = h in absurd (g (has-grammar t v k)))
 at-22 p (meaningless g f) = (no (λ e. omega arith), λ h. let (v, k, w, q) = h in absurd (f v k))
 at-22 p (large v h w) = (λ e. (v, h, w, sym (ap placeIn e)), λ u. let (x, k, y, q) = u in rw q)
-at-22 {t} p (read v h w) = (no (λ e. omega arith), λ u. let (x, k, y, q) = u in absurd (false≢true (sym y ∙ has-one t x v k h ∙ w)))
+at-22 {t} p (read v h w) =
+    (no (λ e. omega arith), λ u. let (x, k, y, q) = u in absurd (false≢true (sym y ∙ has-one t x v k h ∙ w)))
 
 -- there is no other refusal
 others : {t : List ℕ} {o : Output} {k p : ℕ} → Ruling t o → o ≡ refused k p → (20 ≤ k) × (k ≤ 22) × (p ≡ 0)
@@ -123,10 +130,14 @@ module _ (c : Call) (made : Reads c) where
   unfolding toWire
   due k h p = (λ e. forward (exact .0 e), λ e. exact .1 (inl e))
     where
-      exact : (reply c ≡ refusal k p) ↔ ((reading (c .input) ≡ refused k p) ⊎ ((l : List ℕ) × (reading (c .input) ≡ output l) × (room c < length l) × (k ≡ 23) × (p ≡ 0)))
+      exact : (reply c ≡ refusal k p)
+          ↔ ((reading (c .input) ≡ refused k p)
+          ⊎ ((l : List ℕ) × (reading (c .input) ≡ output l) × (room c < length l) × (k ≡ 23) × (p ≡ 0)))
       exact = call-refuses 23 (reading (c .input)) c made k p
 
-      forward : (reading (c .input) ≡ refused k p) ⊎ ((l : List ℕ) × (reading (c .input) ≡ output l) × (room c < length l) × (k ≡ 23) × (p ≡ 0)) → reading (c .input) ≡ refused k p
+      forward : (reading (c .input) ≡ refused k p)
+          ⊎ ((l : List ℕ) × (reading (c .input) ≡ output l) × (room c < length l) × (k ≡ 23) × (p ≡ 0))
+          → reading (c .input) ≡ refused k p
       forward (inl e) = e
       forward (inr u) = let (l, o, r, j, q) = u in absurd (omega arith)
 
@@ -143,26 +154,33 @@ module _ (c : Call) (made : Reads c) where
   unfolding toWire
   accepts n = (forward, backward)
     where
-      exact : (reply c ≡ success n) ↔ ((l : List ℕ) × (reading (c .input) ≡ output l) × (length l ≤ room c) × (n ≡ length l))
+      exact : (reply c ≡ success n)
+          ↔ ((l : List ℕ) × (reading (c .input) ≡ output l) × (length l ≤ room c) × (n ≡ length l))
       exact = call-succeeds 23 (reading (c .input)) c made n
 
       forward : reply c ≡ success n → (m : Message) × Spells c m × Length c n (form m)
       forward e =
           let (l, o, h, k) = exact .0 e in
-          let r = read-only (c .input) l o in
-          (r .message, (converter.whole-accepted (r .message) (r .whole), r .its-text), (rw (r .its-form) h, rw (r .its-form) k))
+          let r = read-only (c .input) l o in (
+            r .message,
+            (converter.whole-accepted (r .message) (r .whole), r .its-text),
+            (rw (r .its-form) h, rw (r .its-form) k),
+          )
 
       backward : (m : Message) × Spells c m × Length c n (form m) → reply c ≡ success n
-      backward u = let (m, (a, e), (h, k)) = u in exact .1 (form m, ap reading (sym e) ∙ reads-text m (converter.accepted-whole m a), h, k)
+      backward u = let (m, (a, e), (h, k)) =
+          u in exact .1 (form m, ap reading (sym e) ∙ reads-text m (converter.accepted-whole m a), h, k)
 
   pub writes : (m : Message) → Spells c m → length (form m) ≤ room c → writtenBy c ≡ form m
   unfolding toWire
-  writes m (a, e) k = rw (made .answers, made .leaves, ← e, reads-text m (converter.accepted-whole m a)) (delivered-room 23 (form m) (c .before) k .1)
+  writes m (a, e) k = rw (made .answers, made .leaves, ← e, reads-text m (converter.accepted-whole m a))
+      (delivered-room 23 (form m) (c .before) k .1)
 
   pub grammar : (p : ℕ) → (reply c ≡ refusal 20 p) ↔ ((InGrammar (c .input) → ⊥) × (p ≡ 0))
   grammar p = both (due 20 (omega arith) p) (at-20 p (ruling (c .input)))
 
-  pub no-message : (p : ℕ) → (reply c ≡ refusal 21 p) ↔ (InGrammar (c .input) × ((v : View) → HasText (c .input) v → ⊥) × (p ≡ 0))
+  pub no-message : (p : ℕ)
+      → (reply c ≡ refusal 21 p) ↔ (InGrammar (c .input) × ((v : View) → HasText (c .input) v → ⊥) × (p ≡ 0))
   no-message p = both (due 21 (omega arith) p) (at-21 p (ruling (c .input)))
 
   pub limits : (p : ℕ) → (reply c ≡ refusal 22 p) ↔ ((v : View) × HasText (c .input) v × (within? v ≡ false) × (p ≡ 0))
@@ -172,7 +190,8 @@ module _ (c : Call) (made : Reads c) where
   unfolding toWire
   no-room p = (λ e. forward 23 (call-refuses 23 (reading (c .input)) c made 23 p .0 e) refl, backward)
     where
-      forward : (k : ℕ) → (reading (c .input) ≡ refused k p) ⊎ ((l : List ℕ) × (reading (c .input) ≡ output l) × (room c < length l) × (k ≡ 23) × (p ≡ 0)) → k ≡ 23
+      forward : (k : ℕ) → (reading (c .input) ≡ refused k p)
+          ⊎ ((l : List ℕ) × (reading (c .input) ≡ output l) × (room c < length l) × (k ≡ 23) × (p ≡ 0)) → k ≡ 23
           → (m : Message) × Spells c m × (room c < length (form m)) × (p ≡ 0)
       forward k (inl e) f = let (a, b, q) = others (ruling (c .input)) e in absurd (omega arith)
       forward k (inr u) f =
@@ -183,24 +202,29 @@ module _ (c : Call) (made : Reads c) where
       backward : (m : Message) × Spells c m × (room c < length (form m)) × (p ≡ 0) → reply c ≡ refusal 23 p
       backward u =
           let (m, (a, e), h, q) = u in
-          call-refuses 23 (reading (c .input)) c made 23 p .1 (inr (form m, ap reading (sym e) ∙ reads-text m (converter.accepted-whole m a), h, refl, q))
+          call-refuses 23 (reading (c .input)) c made 23 p .1
+          (inr (form m, ap reading (sym e) ∙ reads-text m (converter.accepted-whole m a), h, refl, q))
 
   -- there is no other answer
   pub numbers : (k p : ℕ) → reply c ≡ refusal k p → (20 ≤ k) × (k ≤ 23) × (p ≡ 0)
   unfolding toWire
   numbers k p e = go (call-refuses 23 (reading (c .input)) c made k p .0 e)
     where
-      go : (reading (c .input) ≡ refused k p) ⊎ ((l : List ℕ) × (reading (c .input) ≡ output l) × (room c < length l) × (k ≡ 23) × (p ≡ 0)) → (20 ≤ k) × (k ≤ 23) × (p ≡ 0)
+      go : (reading (c .input) ≡ refused k p)
+          ⊎ ((l : List ℕ) × (reading (c .input) ≡ output l) × (room c < length l) × (k ≡ 23) × (p ≡ 0))
+          → (20 ≤ k) × (k ≤ 23) × (p ≡ 0)
       go (inl e) = let (a, b, q) = others (ruling (c .input)) e in (a, omega arith, q)
       go (inr u) = let (l, o, h, j, q) = u in (omega arith, omega arith, q)
 
 -- ---- a buffer of 65,535 octets holds every message
 pub room-enough : (c : Call) → Reads c → 65535 ≤ room c → (p : ℕ) → reply c ≡ refusal 23 p → ⊥
-room-enough c made h p e = let (m, (a, f), k, q) = no-room c made p .0 e in omega (arith, converter.accepted-whole m a .1)
+room-enough c made h p e = let (m, (a, f), k, q) =
+    no-room c made p .0 e in omega (arith, converter.accepted-whole m a .1)
 
 -- ---- both round trips, over calls
 -- reading what the converter wrote gives the uncompressed form of its message
-pub there-and-back : (c d : Call) → Converts c → Reads d → (m : Message) → decode (c .input) ≡ accepted m → length (text m) ≤ room c
+pub there-and-back : (c d : Call) → Converts c → Reads d → (m : Message) → decode (c .input) ≡ accepted m
+    → length (text m) ≤ room c
     → d .input ≡ writtenBy c → length (form m) ≤ room d → (reply d ≡ success (length (form m))) × (writtenBy d ≡ form m)
 there-and-back c d p q m e h s k =
     let w : Accepted m = (c .input, p .octets, e) in
@@ -208,7 +232,8 @@ there-and-back c d p q m e h s k =
     (accepts d q (length (form m)) .1 (m, (w, t), (k, refl)), writes d q m (w, t) k)
 
 -- converting what the reader gave writes the same text
-pub back-and-there : (d c : Call) → Reads d → Converts c → (n : ℕ) → reply d ≡ success n → c .input ≡ writtenBy d → length (d .input) ≤ room c
+pub back-and-there : (d c : Call) → Reads d → Converts c → (n : ℕ) → reply d ≡ success n → c .input ≡ writtenBy d
+    → length (d .input) ≤ room c
     → (reply c ≡ success (length (d .input))) × (writtenBy c ≡ d .input)
 back-and-there d c p q n e s h =
     let (m, (a, t), (k, j)) = accepts d p n .0 e in

@@ -11,7 +11,8 @@ module _ (s : List ℕ) {size : ℕ} (z : size ≡ length s) where
   pub octets-past : (b : List ℕ) (at : ℕ) → length b ≤ at → Wrote b at s b (at + size)
   octets-past b at h = past b at s h (rw z)
 
-  pub octets-step : {b b₁ b₂ : List ℕ} {at r₁ r₂ i x : ℕ} → i < size → x ≡ getD s i 0 → Wrote b at (take i s) b₁ r₁ → Wrote b₁ r₁ (x ∷ []) b₂ r₂ → Wrote b at (take (i + 1) s) b₂ r₂
+  pub octets-step : {b b₁ b₂ : List ℕ} {at r₁ r₂ i x : ℕ} → i < size → x ≡ getD s i 0 → Wrote b at (take i s) b₁ r₁
+      → Wrote b₁ r₁ (x ∷ []) b₂ r₂ → Wrote b at (take (i + 1) s) b₂ r₂
   octets-step {i = i} h e p q =
       let k : i < length s = rw (← z) h in
       copy-step s k p (rw (← e) q)

@@ -46,7 +46,8 @@ module _ (s : List ℕ) (size at : ℕ) (l : List Piece) where
   unfolding pieces
   end-fits q = rw q (go (ltb at size) refl)
     where
-      go : (b : Bool) → ltb at size ≡ b → leb size at ≡ laid? (cond b (misfit (record { kind = surplus; octet = at })) (laid []))
+      go : (b : Bool) → ltb at size ≡ b
+          → leb size at ≡ laid? (cond b (misfit (record { kind = surplus; octet = at })) (laid []))
       go true h = lt-leb size at (ltb-true at size h)
       go false h = le-leb size at (ltb-false at size h)
 
@@ -58,11 +59,18 @@ module _ (s : List ℕ) (size at : ℕ) (l : List Piece) where
 
     part-fits : at + n ≤ size → fit l at ≡ fit (drop 1 l) (at + n)
     unfolding pieces
-    part-fits h = ap (λ (m : List Piece). fit m at) q ∙ rw (le-ltb size (at + n) h) (laid-before (part s at n) (pieces false (drop 1 l) s 0 size (at + n)))
+    part-fits h = ap (λ (m : List Piece). fit m at) q
+        ∙ rw (le-ltb size (at + n) h) (laid-before (part s at n) (pieces false (drop 1 l) s 0 size (at + n)))
 
   -- a name: there is none, or it ends at a place
   module _ (q : l ≡ name ∷ drop 1 l) where
-    name-fit : (w : Named) → nameFrom s (rdata 0 size) 0 at ≡ w → fit l at ≡ laid? (elim w as (λ x. Laid) [ named labels next ↦ before (nameForm labels) (pieces false (drop 1 l) s 0 size next) | faulty fault ↦ misfit fault ])
+    name-fit : (w : Named) → nameFrom s (rdata 0 size) 0 at ≡ w
+        → fit l at ≡ laid? (elim w as
+        (λ x. Laid) [
+          | named labels next ↦ before (nameForm labels)
+              (pieces false (drop 1 l) s 0 size next)
+          | faulty fault ↦ misfit fault
+        ])
     unfolding pieces
     name-fit w e = ap (λ (m : List Piece). fit m at) q ∙ rw (e, pieces)
 
@@ -79,14 +87,21 @@ module _ (s : List ℕ) (size at : ℕ) (l : List Piece) where
         go : (w : Named) → nameFrom s (rdata 0 size) 0 at ≡ w → skipped w ≡ To next → fit l at ≡ fit (drop 1 l) next
         go (named n i) e h =
             let same : i ≡ next = cc in
-            name-fit (named n i) e ∙ laid-before (nameForm n) (pieces false (drop 1 l) s 0 size i) ∙ ap (fit (drop 1 l)) same
+            name-fit (named n i) e ∙ laid-before (nameForm n) (pieces false (drop 1 l) s 0 size i)
+            ∙ ap (fit (drop 1 l)) same
         go (faulty fault) e h = let z : _≡_ {A = ℕ} 0 1 = cc in absurd (omega arith)
 
 -- ---- the ways of the code
-module _ {s : List ℕ} {kind size : ℕ} {v : Bool} {i at : ℕ} (f : FitLoop s kind size v i at) {p : PieceRead} (e : p ≡ pieceRead (drop i (layoutIn kind size))) where
+module _ {s : List ℕ} {kind size : ℕ} {v : Bool} {i at : ℕ} (f : FitLoop s kind size v i at) {p : PieceRead}
+    (e : p ≡ pieceRead (drop i (layoutIn kind size))) where
   -- the pieces after the i-th
-  behind : {next : ℕ} → v ≡ laid? (pieces false (drop 1 (drop i (layoutIn kind size))) s 0 size next) → FitLoop s kind size v (i + 1) next
-  behind {next} h = record { long = f .long; goes = h ∙ ap (λ (m : List Piece). laid? (pieces false m s 0 size next)) (drop-drop 1 i (layoutIn kind size)) }
+  behind : {next : ℕ} → v ≡ laid? (pieces false (drop 1 (drop i (layoutIn kind size))) s 0 size next)
+      → FitLoop s kind size v (i + 1) next
+  behind {next} h = record {
+    long = f .long;
+    goes = h ∙ ap (λ (m : List Piece). laid? (pieces false m s 0 size next))
+        (drop-drop 1 i (layoutIn kind size));
+  }
 
   -- only the first three pieces are there
   some : 1 ≤ length (drop i (layoutIn kind size)) → i < 3

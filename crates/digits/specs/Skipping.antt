@@ -6,7 +6,8 @@ use native.Mathlib.Omega.{arith}
 use lib.ListN.{length, getD}
 use Rattle.names.specs.Walk.{part, rdata, Named, named, faulty, labelled, nameFrom}
 use Rattle.names.specs.NameLaws.{read-sized}
-use Rattle.names.specs.Steps.{walkOn, name-walk, LengthOctet, step-past, step-root, step-cut, step-long, step-label, step-none}
+use Rattle.names.specs.Steps.{walkOn, name-walk, LengthOctet, step-past, step-root, step-cut, step-long, step-label}
+use Rattle.names.specs.Steps.{step-none}
 use Rattle.digits.specs.declared.Skipped.{Skipped}
 use Rattle.digits.specs.declared.Skipped.the-variants.{To, Unfit}
 

@@ -40,7 +40,8 @@ enum Skipped {
     Unfit,
 }
 
-// The end of the name at a place: pointers are not taken. `place` is the length octet, and `total` counts the octets of the labels so far.
+// The end of the name at a place: pointers are not taken. `place` is the length octet, and `total` counts the octets of
+// the labels so far.
 fn skip_name(hex: &[u8], at: usize) -> Skipped
     requires { ⌜ Hexes (now hex) ⌝ }
     ensures { λ r. ⌜ r ≡ nameEnd (paired (now (hex .entry))) at ⌝ }

@@ -24,7 +24,8 @@ abbrev pub firstOption : List ℕ → EdnsOption
 firstOption l = record { code = twoAt l 0; value = take (twoAt l 2) (drop 4 l) }
 
 -- one step: there is room for an option, or there is none
-divided-one : (n : ℕ) (l : List ℕ) → 4 + twoAt l 2 ≤ length l → divided (suc n) l ≡ prepend (firstOption l) (divided n (drop (4 + twoAt l 2) l))
+divided-one : (n : ℕ) (l : List ℕ) → 4 + twoAt l 2 ≤ length l
+    → divided (suc n) l ≡ prepend (firstOption l) (divided n (drop (4 + twoAt l 2) l))
 unfolding divided
 divided-one n [] h = absurd (omega arith)
 divided-one n (x ∷ l) h =
@@ -37,7 +38,8 @@ unfolding divided
 divided-none n [] h k = absurd (omega arith)
 divided-none n (x ∷ l) h k = rw (lt-leb (4 + twoAt (x ∷ l) 2) (length (x ∷ l)) k) (go (leb 4 (length (x ∷ l))))
   where
-    go : (b : Bool) → cond (b && false) (prepend (firstOption (x ∷ l)) (divided n (drop (4 + twoAt (x ∷ l) 2) (x ∷ l)))) none ≡ none
+    go : (b : Bool) → cond (b && false) (prepend (firstOption (x ∷ l)) (divided n (drop (4 + twoAt (x ∷ l) 2) (x ∷ l))))
+        none ≡ none
     go true = refl
     go false = refl
 
@@ -50,8 +52,10 @@ divided-bound (suc n) (suc m) l h k =
     go l h k (λ i j. divided-bound n m after i j) (leb 1 (length l)) (leb (4 + twoAt l 2) (length l)) refl refl
   where
     go : (l : List ℕ) → length l < suc n → length l < suc m
-        → (length (drop (4 + twoAt l 2) l) < n → length (drop (4 + twoAt l 2) l) < m → divided n (drop (4 + twoAt l 2) l) ≡ divided m (drop (4 + twoAt l 2) l))
-        → (a b : Bool) → leb 1 (length l) ≡ a → leb (4 + twoAt l 2) (length l) ≡ b → divided (suc n) l ≡ divided (suc m) l
+        → (length (drop (4 + twoAt l 2) l) < n → length (drop (4 + twoAt l 2) l) < m
+        → divided n (drop (4 + twoAt l 2) l) ≡ divided m (drop (4 + twoAt l 2) l))
+        → (a b : Bool) → leb 1 (length l) ≡ a → leb (4 + twoAt l 2) (length l) ≡ b
+        → divided (suc n) l ≡ divided (suc m) l
     go l h k f a true p q =
         let i = leb-true (4 + twoAt l 2) (length l) q in
         let long = length-drop (4 + twoAt l 2) l in
@@ -86,17 +90,20 @@ module _ (s : List ℕ) (at : ℕ) where
       let long = length-drop at s in
       divided-none (length (drop at s)) (drop at s) (omega arith) (omega (arith, two-here 2))
 
-  pub options-more : at + 4 + twoAt s (at + 2) ≤ length s → optionsOf (drop at s) ≡ prepend here (optionsOf (drop (at + 4 + twoAt s (at + 2)) s))
+  pub options-more : at + 4 + twoAt s (at + 2) ≤ length s
+      → optionsOf (drop at s) ≡ prepend here (optionsOf (drop (at + 4 + twoAt s (at + 2)) s))
   unfolding optionsOf
   options-more h =
       let long = length-drop at s in
       let size = twoAt s (at + 2) in
       let e : at + (4 + size) ≡ at + 4 + size = omega arith in
-      let after : drop (4 + size) (drop at s) ≡ drop (at + 4 + size) s = drop-drop (4 + size) at s ∙ ap (λ n. drop n s) e in
+      let after : drop (4 + size) (drop at s) ≡ drop (at + 4 + size) s =
+      drop-drop (4 + size) at s ∙ ap (λ n. drop n s) e in
       let short = length-drop (at + 4 + size) s in
       divided-one (length (drop at s)) (drop at s) (omega (arith, two-here 2))
       ∙ rw (two-here 2, two-here 0, add-zero, drop-drop 4 at s, after)
-      (ap (prepend here) (divided-bound (length (drop at s)) (suc (length (drop (at + 4 + size) s))) (drop (at + 4 + size) s) (omega arith) (omega arith)))
+      (ap (prepend here) (divided-bound (length (drop at s)) (suc (length (drop (at + 4 + size) s)))
+      (drop (at + 4 + size) s) (omega arith) (omega arith)))
 
 -- ---- codes rising
 -- the first code is at least this, and codes rise from there
@@ -118,11 +125,13 @@ rise-all (some []) = refl
 rise-all (some (o ∷ l)) = rw (leb·zero (o .code))
 
 -- an option, and those after it
-rise-low : (least : ℕ) (a : EdnsOption) (o : Option (List EdnsOption)) → a .code < least → rise? least (prepend a o) ≡ false
+rise-low : (least : ℕ) (a : EdnsOption) (o : Option (List EdnsOption)) → a .code < least
+    → rise? least (prepend a o) ≡ false
 rise-low least a none h = refl
 rise-low least a (some l) h = rw (lt-leb least (a .code) h)
 
-rise-next : (least : ℕ) (a : EdnsOption) (o : Option (List EdnsOption)) → least ≤ a .code → rise? least (prepend a o) ≡ rise? (a .code + 1) o
+rise-next : (least : ℕ) (a : EdnsOption) (o : Option (List EdnsOption)) → least ≤ a .code
+    → rise? least (prepend a o) ≡ rise? (a .code + 1) o
 unfolding rising?
 rise-next least a none h = refl
 rise-next least a (some []) h = rw (le-leb least (a .code) h)
@@ -163,7 +172,10 @@ module _ {s : List ℕ} {v : Bool} {least at : ℕ} (f : RiseLoop s v least at) 
 
         -- a code above the last
         pub rises-more : least ≤ code → RiseLoop s v (code + 1) (at + (4 + n))
-        rises-more i = record { goes = more ∙ rise-next least (here s at) (optionsOf (drop (at + (4 + n)) s)) (rw (← d) i) ∙ rw (← d) }
+        rises-more i = record {
+          goes = more ∙ rise-next least (here s at) (optionsOf (drop (at + (4 + n)) s))
+              (rw (← d) i) ∙ rw (← d);
+        }
 
 -- ---- the tests of an element, in order
 module _ (root : Bool) (ttl rcode : ℕ) where
@@ -174,12 +186,14 @@ module _ (root : Bool) (ttl rcode : ℕ) where
     pub fields-version : (ttl / 65536 % 256 ≡ 0 → ⊥) → false ≡ ednsFields root ttl rcode
     fields-version h = rw (not-false root a, ne-eqb (ttl / 65536 % 256) 0 h)
 
-    module _ (b : ttl / 65536 % 256 ≡ 0) {flags : Bool} (c : flags ≡ (eqb (ttl % 65536) 0 || eqb (ttl % 65536) 32768)) where
-      pub fields-flags : not flags ≡ true → false ≡ ednsFields root ttl rcode
-      fields-flags h = rw (not-false root a, eq-eqb (ttl / 65536 % 256) 0 b, ← c, not-true flags h)
+    module _ (b : ttl / 65536 % 256 ≡ 0) {flags : Bool} (c : flags ≡ (eqb (ttl % 65536) 0 || eqb (ttl % 65536) 32768))
+      where
+        pub fields-flags : not flags ≡ true → false ≡ ednsFields root ttl rcode
+        fields-flags h = rw (not-false root a, eq-eqb (ttl / 65536 % 256) 0 b, ← c, not-true flags h)
 
-      pub fields-rcode : not flags ≡ false → {key : Bool} → key ≡ key? (ttl / 16777216 * 16 + rcode) rcodes → key ≡ ednsFields root ttl rcode
-      fields-rcode d e = rw (not-false root a, eq-eqb (ttl / 65536 % 256) 0 b, ← c, not-false flags d) e
+        pub fields-rcode : not flags ≡ false → {key : Bool} → key ≡ key? (ttl / 16777216 * 16 + rcode) rcodes
+            → key ≡ ednsFields root ttl rcode
+        fields-rcode d e = rw (not-false root a, eq-eqb (ttl / 65536 % 256) 0 b, ← c, not-false flags d) e
 
   -- the tests without RDATA, then RDATA
   module _ (rdata : List ℕ) {fields : Bool} (e : fields ≡ ednsFields root ttl rcode) where
@@ -187,6 +201,7 @@ module _ (root : Bool) (ttl rcode : ℕ) where
     unfolding showsEdns
     shows-fields h = rw (← e, not-true fields h)
 
-    pub shows-options : not fields ≡ false → {rise : Bool} → rise ≡ optionsRise rdata → rise ≡ showsEdns root ttl rcode rdata
+    pub shows-options : not fields ≡ false → {rise : Bool}
+        → rise ≡ optionsRise rdata → rise ≡ showsEdns root ttl rcode rdata
     unfolding showsEdns
     shows-options h f = rw (← e, not-false fields h) f

@@ -78,7 +78,8 @@ pub record Edns : Type 0 where
 abbrev pub fullRcode : ℕ → ℕ → ℕ
 fullRcode rcode extended = extended * 16 + rcode
 
--- what a TYPE 41 record is as an EDNS element, if its owner is the root, its version octet is 0, its flags are 0 or 0x8000,
+-- what a TYPE 41 record is as an EDNS element, if its owner is the root, its version octet is 0, its flags are 0 or
+-- 0x8000,
 -- RCODE is in the list, and RDATA divides exactly into options with codes strictly rising
 unfoldable pub ednsOf : ℕ → Record → Option Edns
 ednsOf rcode r =
@@ -88,13 +89,20 @@ ednsOf rcode r =
     elim (optionsOf (r .rdata)) [
       | none ↦ none
       | some options ↦
-          cond (none? (r .name) && eqb version 0 && (eqb flags 0 || eqb flags 32768) && key? (fullRcode rcode extended) rcodes && rising? options)
+          cond (none? (r .name) && eqb version 0 && (eqb flags 0 || eqb flags 32768)
+          && key? (fullRcode rcode extended) rcodes && rising? options)
           (some (record { size = r .class; extended = extended; dnssecOk = flags / 32768; options = options })) none
     ]
 
 -- the record of an EDNS element
 unfoldable pub ednsRecord : Edns → Record
-ednsRecord e = record { name = []; type = 41; class = e .size; ttl = e .extended * 16777216 + e .dnssecOk * 32768; rdata = each optionForm (e .options) }
+ednsRecord e = record {
+  name = [];
+  type = 41;
+  class = e .size;
+  ttl = e .extended * 16777216 + e .dnssecOk * 32768;
+  rdata = each optionForm (e .options);
+}
 
 -- ---- what is valid, limits of size aside
 unfoldable pub option? : EdnsOption → Bool

@@ -18,7 +18,8 @@ use Rattle.names.specs.Walk.{part}
 use Rattle.records.specs.Layout.{layoutOf, layouts, laid, laid?, rdataAt, rdataFits?}
 use Rattle.records.specs.Message.{Record, bit?, record?}
 use Rattle.options.specs.Options.{EdnsOption}
-use Rattle.edns.specs.Edns.{optionForm, prepend, divided, optionsOf, rising?, rcodes, Edns, fullRcode, ednsOf, ednsRecord, option?, edns?, small?, small-option?}
+use Rattle.edns.specs.Edns.{optionForm, prepend, divided, optionsOf, rising?, rcodes, Edns, fullRcode, ednsOf}
+use Rattle.edns.specs.Edns.{ednsRecord, option?, edns?, small?, small-option?}
 
 -- ---- options in RDATA
 -- one step of dividing: the octets of an option, then the rest
@@ -36,14 +37,22 @@ divided-step n o r h k =
     let code : twoAt l 0 ≡ o .code = two-back (o .code) h in
     let long : length l ≡ 4 + length v + length r = omega (arith, length-append v r) in
     let after : drop (4 + length v) l ≡ r = sym (drop-drop (length v) 4 l) ∙ drop-append-seam v r in
-    rw (size, code, le-leb 4 (length l) (omega arith), le-leb (4 + length v) (length l) (omega arith), after, take-append-seam v r)
+    rw (
+      size,
+      code,
+      le-leb 4 (length l) (omega arith),
+      le-leb (4 + length v) (length l) (omega arith),
+      after,
+      take-append-seam v r,
+    )
 
 pub option-long : (o : EdnsOption) → length (optionForm o) ≡ 4 + length (o .value)
 unfolding optionForm
 option-long o = omega arith
 
 -- a list of options is divided into itself, if there is a step for each and one more
-divided-back : (n : ℕ) (l : List EdnsOption) → length (each optionForm l) < n → All (λ o. (o .code < 65536) × (length (o .value) < 65536)) l
+divided-back : (n : ℕ) (l : List EdnsOption) → length (each optionForm l) < n
+    → All (λ o. (o .code < 65536) × (length (o .value) < 65536)) l
     → divided n (each optionForm l) ≡ some l
 unfolding each
 divided-back zero l m h = absurd (omega arith)
@@ -53,7 +62,8 @@ divided-back (suc n) (o ∷ l) m h =
     divided-step n o (each optionForm l) (h .0 .0) (h .0 .1)
     ∙ ap (prepend o) (divided-back n l (omega (arith, option-long o)) (h .1))
 
-pub options-back : (l : List EdnsOption) → All (λ o. (o .code < 65536) × (length (o .value) < 65536)) l → optionsOf (each optionForm l) ≡ some l
+pub options-back : (l : List EdnsOption) → All (λ o. (o .code < 65536) × (length (o .value) < 65536)) l
+    → optionsOf (each optionForm l) ≡ some l
 unfolding optionsOf
 options-back l h = divided-back (suc (length (each optionForm l))) l (omega arith) h
 
@@ -63,11 +73,13 @@ data Divides (n : ℕ) (l : List ℕ) : List EdnsOption → Type 0 where
   goes : {options : List EdnsOption} → 4 + twoAt l 2 ≤ length l → divided n (drop (4 + twoAt l 2) l) ≡ some options
       → Divides n l (record { code = twoAt l 0; value = take (twoAt l 2) (drop 4 l) } ∷ options)
 
-prepend-back : {A : Type 0} (a : A) (o : Option (List A)) (l : List A) → prepend a o ≡ some l → (m : List A) × (o ≡ some m) × (a ∷ m ≡ l)
+prepend-back : {A : Type 0} (a : A) (o : Option (List A)) (l : List A) → prepend a o ≡ some l
+    → (m : List A) × (o ≡ some m) × (a ∷ m ≡ l)
 prepend-back a none l e = absurd (Option·none-ne-some l e)
 prepend-back a (some m) l e = (m, refl, Option·some-injective (a ∷ m) l e)
 
-divided-divides : (n : ℕ) (l : List ℕ) (options : List EdnsOption) → divided (suc n) l ≡ some options → Divides n l options
+divided-divides : (n : ℕ) (l : List ℕ) (options : List EdnsOption) → divided (suc n) l ≡ some options
+    → Divides n l options
 unfolding divided
 divided-divides n [] options e = subst (Divides n []) (Option·some-injective [] options e) (ends refl)
 divided-divides n (x ∷ t) options e = go (leb 4 (length l)) (leb (4 + twoAt l 2) (length l)) refl e
@@ -76,7 +88,8 @@ divided-divides n (x ∷ t) options e = go (leb 4 (length l)) (leb (4 + twoAt l 
     l = x ∷ t
 
     go : (a b : Bool) → leb (4 + twoAt l 2) (length l) ≡ b
-        → cond (a && b) (prepend (record { code = twoAt l 0; value = take (twoAt l 2) (drop 4 l) }) (divided n (drop (4 + twoAt l 2) l))) none ≡ some options
+        → cond (a && b) (prepend (record { code = twoAt l 0; value = take (twoAt l 2) (drop 4 l) })
+        (divided n (drop (4 + twoAt l 2) l))) none ≡ some options
         → Divides n l options
     go true true p e =
         let (m, q, r) = prepend-back _ _ options e in
@@ -132,29 +145,35 @@ divides-form n l (a ∷ options) o f (goes h e) =
       both (small-option? a) (all small-option? options) small r,
     )
 
-divided-form : (n : ℕ) (l : List ℕ) (options : List EdnsOption) → Octets l → divided n l ≡ some options → Divided l options
+divided-form : (n : ℕ) (l : List ℕ) (options : List EdnsOption) → Octets l → divided n l ≡ some options
+    → Divided l options
 unfolding divided
 divided-form zero l options o e = absurd (Option·none-ne-some options e)
 divided-form (suc n) l options o e =
-    divides-form n l options o (λ m e. divided-form n (drop (4 + twoAt l 2) l) m (drop-octets (4 + twoAt l 2) l o) e) (divided-divides n l options e)
+    divides-form n l options o (λ m e. divided-form n (drop (4 + twoAt l 2) l) m (drop-octets (4 + twoAt l 2) l o) e)
+    (divided-divides n l options e)
 
 pub options-form : (l : List ℕ) (options : List EdnsOption) → Octets l → optionsOf l ≡ some options → Divided l options
 unfolding optionsOf
 options-form l options o e = divided-form (suc (length l)) l options o e
 
 -- the tests of options as bounds
-options-in : (l : List EdnsOption) → T (all option? l) → T (all small-option? l) → All (λ o. (o .code < 65536) × (length (o .value) < 65536)) l
+options-in : (l : List EdnsOption) → T (all option? l) → T (all small-option? l)
+    → All (λ o. (o .code < 65536) × (length (o .value) < 65536)) l
 unfolding option? small-option?
 options-in [] h k = tt
 options-in (o ∷ l) h k =
     let code = and-left (word? (o .code)) (all octet? (o .value)) (and-left (option? o) (all option? l) h) in
-    let small = leb→le (length (o .value)) 65535 (and-left (small-option? o) (all small-option? l) k) in
-    ((ltb→lt (o .code) 65536 code, omega arith), options-in l (and-right (option? o) (all option? l) h) (and-right (small-option? o) (all small-option? l) k))
+    let small = leb→le (length (o .value)) 65535 (and-left (small-option? o) (all small-option? l) k) in (
+      (ltb→lt (o .code) 65536 code, omega arith),
+      options-in l (and-right (option? o) (all option? l) h) (and-right (small-option? o) (all small-option? l) k),
+    )
 
 -- ---- the EDNS element
 -- the tests of an element, one by one
 edns-tests : (rcode : ℕ) (e : Edns) → T (edns? rcode e)
-    → (e .size < 65536) × (e .extended < 256) × (e .dnssecOk < 2) × T (key? (fullRcode rcode (e .extended)) rcodes) × T (all option? (e .options)) × T (rising? (e .options))
+    → (e .size < 65536) × (e .extended < 256) × (e .dnssecOk < 2) × T (key? (fullRcode rcode (e .extended)) rcodes)
+    × T (all option? (e .options)) × T (rising? (e .options))
 unfolding edns?
 edns-tests rcode e h =
     let t1 = word? (e .size) in
@@ -174,7 +193,8 @@ edns-tests rcode e h =
       and-right t5 (rising? (e .options)) h,
     )
 
-edns-passes : (rcode : ℕ) (e : Edns) → e .size < 65536 → e .extended < 256 → e .dnssecOk < 2 → T (key? (fullRcode rcode (e .extended)) rcodes)
+edns-passes : (rcode : ℕ) (e : Edns) → e .size < 65536 → e .extended < 256 → e .dnssecOk < 2
+    → T (key? (fullRcode rcode (e .extended)) rcodes)
     → T (all option? (e .options)) → T (rising? (e .options)) → T (edns? rcode e)
 unfolding edns?
 edns-passes rcode e size extended dnssecOk key options rising =
@@ -188,7 +208,8 @@ edns-passes rcode e size extended dnssecOk key options rising =
     ) tt
 
 -- the fields of a TTL made of an octet and a bit
-ttl-parts : (a b : ℕ) → b < 2 → ((a * 16777216 + b * 32768) / 16777216 ≡ a) × ((a * 16777216 + b * 32768) / 65536 % 256 ≡ 0)
+ttl-parts : (a b : ℕ) → b < 2
+    → ((a * 16777216 + b * 32768) / 16777216 ≡ a) × ((a * 16777216 + b * 32768) / 65536 % 256 ≡ 0)
     × ((a * 16777216 + b * 32768) % 65536 ≡ b * 32768) × (b * 32768 / 32768 ≡ b)
 ttl-parts a b h = (omega arith, omega arith, omega arith, omega arith)
 
@@ -207,9 +228,11 @@ pub record BecomesElement (rcode : ℕ) (r : Record) (options : List EdnsOption)
   pub rises : T (rising? options)
 
 abbrev pub elementOf : Record → List EdnsOption → Edns
-elementOf r options = record { size = r .class; extended = r .ttl / 16777216; dnssecOk = r .ttl % 65536 / 32768; options = options }
+elementOf r options =
+    record { size = r .class; extended = r .ttl / 16777216; dnssecOk = r .ttl % 65536 / 32768; options = options }
 
-pub edns-shown : {rcode : ℕ} {r : Record} {options : List EdnsOption} → BecomesElement rcode r options → ednsOf rcode r ≡ some (elementOf r options)
+pub edns-shown : {rcode : ℕ} {r : Record} {options : List EdnsOption} → BecomesElement rcode r options
+    → ednsOf rcode r ≡ some (elementOf r options)
 unfolding ednsOf
 edns-shown {rcode} {r} {options} s =
     rw (
@@ -226,11 +249,13 @@ cond-some : {A : Type 0} (b : Bool) (x a : A) → cond b (some x) none ≡ some 
 cond-some true x a e = (tt, Option·some-injective x a e)
 cond-some false x a e = absurd (Option·none-ne-some a e)
 
-pub edns-shows : (rcode : ℕ) (r : Record) (e : Edns) → ednsOf rcode r ≡ some e → (options : List EdnsOption) × BecomesElement rcode r options × (elementOf r options ≡ e)
+pub edns-shows : (rcode : ℕ) (r : Record) (e : Edns) → ednsOf rcode r ≡ some e
+    → (options : List EdnsOption) × BecomesElement rcode r options × (elementOf r options ≡ e)
 unfolding ednsOf
 edns-shows rcode r e = go (optionsOf (r .rdata)) refl
   where
-    go : (o : Option (List EdnsOption)) → optionsOf (r .rdata) ≡ o → ednsOf rcode r ≡ some e → (options : List EdnsOption) × BecomesElement rcode r options × (elementOf r options ≡ e)
+    go : (o : Option (List EdnsOption)) → optionsOf (r .rdata) ≡ o → ednsOf rcode r ≡ some e
+        → (options : List EdnsOption) × BecomesElement rcode r options × (elementOf r options ≡ e)
     go none p q = absurd (Option·none-ne-some e (rw (p, ednsOf) at q))
     go (some options) p q =
         let t1 = none? (r .name) in
@@ -256,7 +281,8 @@ edns-shows rcode r e = go (optionsOf (r .rdata)) refl
         )
 
 -- an element's record becomes that element
-pub edns-back : (rcode : ℕ) (e : Edns) → T (edns? rcode e) → T (all small-option? (e .options)) → ednsOf rcode (ednsRecord e) ≡ some e
+pub edns-back : (rcode : ℕ) (e : Edns) → T (edns? rcode e) → T (all small-option? (e .options))
+    → ednsOf rcode (ednsRecord e) ≡ some e
 unfolding ednsRecord
 edns-back rcode e h k =
     let (size, extended, bit, key, options, rising) = edns-tests rcode e h in
@@ -283,16 +309,21 @@ record-tests r h =
     let t5 = t4 && all octet? (r .rdata) in
     let h5 = and-left t5 (rdataFits? (r .type) (r .rdata)) h in
     let h4 = and-left t4 (all octet? (r .rdata)) h5 in
-    let h3 = and-left t3 (long? (r .ttl)) h4 in
-    (ltb→lt (r .class) 65536 (and-right t2 (word? (r .class)) h3), ltb→lt (r .ttl) 4294967296 (and-right t3 (long? (r .ttl)) h4), octets-in (r .rdata) (and-right t4 (all octet? (r .rdata)) h5))
+    let h3 = and-left t3 (long? (r .ttl)) h4 in (
+      ltb→lt (r .class) 65536 (and-right t2 (word? (r .class)) h3),
+      ltb→lt (r .ttl) 4294967296 (and-right t3 (long? (r .ttl)) h4),
+      octets-in (r .rdata) (and-right t4 (all octet? (r .rdata)) h5),
+    )
 
 -- a TTL with version 0 and flags 0 or 0x8000 is made of its octet and its bit
-ttl-whole : (n : ℕ) → n / 65536 % 256 ≡ 0 → T (eqb (n % 65536) 0 || eqb (n % 65536) 32768) → n / 16777216 * 16777216 + n % 65536 / 32768 * 32768 ≡ n
+ttl-whole : (n : ℕ) → n / 65536 % 256 ≡ 0 → T (eqb (n % 65536) 0 || eqb (n % 65536) 32768)
+    → n / 16777216 * 16777216 + n % 65536 / 32768 * 32768 ≡ n
 ttl-whole n v f =
     let same : n / 65536 / 256 ≡ n / 16777216 = omega arith in
     go same (eqb (n % 65536) 0) (eqb (n % 65536) 32768) refl refl f
   where
-    go : n / 65536 / 256 ≡ n / 16777216 → (a b : Bool) → eqb (n % 65536) 0 ≡ a → eqb (n % 65536) 32768 ≡ b → T (a || b) → n / 16777216 * 16777216 + n % 65536 / 32768 * 32768 ≡ n
+    go : n / 65536 / 256 ≡ n / 16777216 → (a b : Bool) → eqb (n % 65536) 0 ≡ a → eqb (n % 65536) 32768 ≡ b → T (a || b)
+        → n / 16777216 * 16777216 + n % 65536 / 32768 * 32768 ≡ n
     go w true b p q t = let z = eqb-true (n % 65536) 0 p in omega arith
     go w false true p q t = let z = eqb-true (n % 65536) 32768 q in omega arith
     go w false false p q t = absurd t
@@ -307,16 +338,20 @@ pub edns-record : (rcode : ℕ) (r : Record) (e : Edns) → T (record? r) → r 
 unfolding ednsRecord
 edns-record rcode r e h k q = go (edns-shows rcode r e q)
   where
-    go : (options : List EdnsOption) × BecomesElement rcode r options × (elementOf r options ≡ e) → (ednsRecord e ≡ r) × T (edns? rcode e) × T (all small-option? (e .options))
+    go : (options : List EdnsOption) × BecomesElement rcode r options × (elementOf r options ≡ e)
+        → (ednsRecord e ≡ r) × T (edns? rcode e) × T (all small-option? (e .options))
     go (options, s, d) =
         let (class, ttl, octets) = record-tests r h in
         let (rdata, range, small) = options-form (r .rdata) options octets (s .split) in
         let name = root-name (r .name) (s .root) in
         let whole = ttl-whole (r .ttl) (s .version) (s .flags) in
         let type = sym k in
-        let a : ednsRecord (elementOf r options) ≡ r = λ i. record { name = name i; type = type i; class = r .class; ttl = whole i; rdata = rdata i } in
-        let b : T (edns? rcode (elementOf r options)) = edns-passes rcode (elementOf r options) class (omega arith) (omega arith) (s .key) range (s .rises) in
-        subst (λ (e : Edns). (ednsRecord e ≡ r) × T (edns? rcode e) × T (all small-option? (e .options))) d (a, b, small)
+        let a : ednsRecord (elementOf r options) ≡ r =
+        λ i. record { name = name i; type = type i; class = r .class; ttl = whole i; rdata = rdata i } in
+        let b : T (edns? rcode (elementOf r options)) =
+        edns-passes rcode (elementOf r options) class (omega arith) (omega arith) (s .key) range (s .rises) in
+        subst (λ (e : Edns). (ednsRecord e ≡ r) × T (edns? rcode e) × T (all small-option? (e .options))) d
+        (a, b, small)
 
 -- ---- records and entries of the additional section
 -- everything fits TYPE 41, which is not in the table of layouts
@@ -333,9 +368,12 @@ options-octets : (l : List EdnsOption) → T (all option? l) → Octets (each op
 unfolding each option? optionForm
 options-octets [] h = tt
 options-octets (o ∷ l) h =
-    let value = octets-in (o .value) (and-right (word? (o .code)) (all octet? (o .value)) (and-left (option? o) (all option? l) h)) in
-    let fixed = All-append (λ x. x < 256) (two (o .code)) (two (length (o .value))) (two-octets (o .code)) (two-octets (length (o .value))) in
-    All-append (λ x. x < 256) (optionForm o) (each optionForm l) (All-append (λ x. x < 256) (two (o .code) ++ two (length (o .value))) (o .value) fixed value)
+    let value = octets-in (o .value)
+    (and-right (word? (o .code)) (all octet? (o .value)) (and-left (option? o) (all option? l) h)) in
+    let fixed = All-append (λ x. x < 256) (two (o .code)) (two (length (o .value))) (two-octets (o .code))
+    (two-octets (length (o .value))) in
+    All-append (λ x. x < 256) (optionForm o) (each optionForm l)
+    (All-append (λ x. x < 256) (two (o .code) ++ two (length (o .value))) (o .value) fixed value)
     (options-octets l (and-right (option? o) (all option? l) h))
 
 -- the record of an element in range is valid
@@ -345,4 +383,9 @@ edns-valid rcode e h =
     let (size, extended, bit, key, options, rising) = edns-tests rcode e h in
     let r = ednsRecord e in
     let octets = octets-test (r .rdata) (options-octets (e .options) options) in
-    rw (lt-ltb (e .size) 65536 size, lt-ltb (r .ttl) 4294967296 (omega arith), is-true (all octet? (r .rdata)) octets, is-true (rdataFits? 41 (r .rdata)) (opt-fits (r .rdata))) tt
+    rw (
+      lt-ltb (e .size) 65536 size,
+      lt-ltb (r .ttl) 4294967296 (omega arith),
+      is-true (all octet? (r .rdata)) octets,
+      is-true (rdataFits? 41 (r .rdata)) (opt-fits (r .rdata)),
+    ) tt

@@ -1,4 +1,5 @@
--- What the code promises of a TYPE 41 record: whether it is an EDNS element, and the element's text, by the fields that decide them.
+-- What the code promises of a TYPE 41 record: whether it is an EDNS element, and the element's text, by the fields that
+-- decide them.
 -- Both are what ednsOf says of the record.
 use mathlib.Core.Path.{_≡_, refl, sym, _∙_, ap}
 use mathlib.Core.Bool.{Bool, true, false, _&&_, _||_, cond, and-false}
@@ -50,12 +51,14 @@ showsEdns root ttl rcode rdata = ednsFields root ttl rcode && optionsRise rdata
 -- the element's text: CLASS, TTL, the header's RCODE, RDATA
 unfoldable pub elementText : ℕ → ℕ → ℕ → List ℕ → List ℕ
 elementText class ttl rcode rdata =
-    ednsText (ednsItem rcode (record { size = class; extended = ttl / 16777216; dnssecOk = ttl % 65536 / 32768; options = optionsIn rdata }))
+    ednsText (ednsItem rcode
+    (record { size = class; extended = ttl / 16777216; dnssecOk = ttl % 65536 / 32768; options = optionsIn rdata }))
 
 -- its text up to RCODE, by the DO bit and RCODE
 unfoldable pub ednsHeadText : ℕ → ℕ → List ℕ
 ednsHeadText bit rcode =
-    ascii "{\"EDNS\":{\"Version\":" ++ decimal 0 ++ ascii ",\"FLAGS\":" ++ rowText bit flags ++ ascii ",\"RCODE\":\"" ++ rowText rcode rcodes
+    ascii "{\"EDNS\":{\"Version\":" ++ decimal 0 ++ ascii ",\"FLAGS\":" ++ rowText bit flags ++ ascii ",\"RCODE\":\""
+    ++ rowText rcode rcodes
 
 -- ---- what ednsOf says
 present-cond : {A : Type 0} (b : Bool) (a : A) → present? (cond b (some a) none) ≡ b
@@ -63,7 +66,8 @@ present-cond true a = refl
 present-cond false a = refl
 
 -- a record is an element exactly if ednsOf has one
-pub shows-edns : (rcode : ℕ) (r : Record) → showsEdns (none? (r .name)) (r .ttl) rcode (r .rdata) ≡ present? (ednsOf rcode r)
+pub shows-edns : (rcode : ℕ) (r : Record)
+    → showsEdns (none? (r .name)) (r .ttl) rcode (r .rdata) ≡ present? (ednsOf rcode r)
 unfolding showsEdns optionsRise ednsOf
 shows-edns rcode r = go (optionsOf (r .rdata)) refl
   where
@@ -76,8 +80,10 @@ shows-edns rcode r = go (optionsOf (r .rdata)) refl
     go (some options) p = rw (p, ednsOf) (sym (present-cond (tests && rising? options) (elementOf r options)))
 
 -- the text is that of the element
-pub element-text : (rcode : ℕ) (r : Record) (e : Edns) → ednsOf rcode r ≡ some e → elementText (r .class) (r .ttl) rcode (r .rdata) ≡ ednsText (ednsItem rcode e)
+pub element-text : (rcode : ℕ) (r : Record) (e : Edns) → ednsOf rcode r ≡ some e
+    → elementText (r .class) (r .ttl) rcode (r .rdata) ≡ ednsText (ednsItem rcode e)
 unfolding elementText optionsIn
 element-text rcode r e q =
     let (options, s, d) = edns-shows rcode r e q in
-    ap (λ o. ednsText (ednsItem rcode (elementOf r (listOf o)))) (s .split) ∙ ap (λ (e : Edns). ednsText (ednsItem rcode e)) d
+    ap (λ o. ednsText (ednsItem rcode (elementOf r (listOf o)))) (s .split)
+    ∙ ap (λ (e : Edns). ednsText (ednsItem rcode e)) d

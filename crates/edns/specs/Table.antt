@@ -42,7 +42,8 @@ parts t key text rest at e =
     record {
       first = getD-here t _ key at e;
       size = getD-here t _ (length text) (at + 1) second;
-      name = ap (take (length text)) (drop-past t (key ∷ length text ∷ []) (text ++ rest) at e) ∙ take-append-seam text rest;
+      name = ap (take (length text)) (drop-past t (key ∷ length text ∷ []) (text ++ rest) at e)
+          ∙ take-append-seam text rest;
       after = ap (λ k. drop (at + k) t) (sym long) ∙ drop-past t row rest at e;
       room = omega (arith, room-here t row rest at e (omega arith));
     }
@@ -130,14 +131,17 @@ row-key n (row ∷ rows) = go (eqb (row .0) n) (ltb (rowAt n rows) (length (tabl
     sum = length-append (rowOctets row) (tableOctets rows)
 
     go : (a b : Bool) → ltb (rowAt n rows) (length (tableOctets rows)) ≡ b → b ≡ key? n rows
-        → ltb (cond a 0 (length (rowOctets row) + rowAt n rows)) (length (rowOctets row ++ tableOctets rows)) ≡ cond a true (key? n rows)
+        → ltb (cond a 0 (length (rowOctets row) + rowAt n rows))
+        (length (rowOctets row ++ tableOctets rows)) ≡ cond a true (key? n rows)
     go true b p q = lt-ltb 0 (length (rowOctets row ++ tableOctets rows)) (omega arith)
     go false true p q =
         let h = ltb-true (rowAt n rows) (length (tableOctets rows)) p in
-        lt-ltb (length (rowOctets row) + rowAt n rows) (length (rowOctets row ++ tableOctets rows)) (omega (arith, sum)) ∙ q
+        lt-ltb (length (rowOctets row) + rowAt n rows) (length (rowOctets row ++ tableOctets rows)) (omega (arith, sum))
+        ∙ q
     go false false p q =
         let h = ltb-false (rowAt n rows) (length (tableOctets rows)) p in
-        le-ltb (length (rowOctets row) + rowAt n rows) (length (rowOctets row ++ tableOctets rows)) (omega (arith, sum)) ∙ q
+        le-ltb (length (rowOctets row) + rowAt n rows) (length (rowOctets row ++ tableOctets rows)) (omega (arith, sum))
+        ∙ q
 
 pub row-listed : (n : ℕ) (rows : List (ℕ × String)) {at : ℕ} → at ≡ rowAt n rows
     → ltb at (length (tableOctets rows)) ≡ key? n rows
@@ -185,18 +189,21 @@ no-text n (row ∷ rows) e = go (no-text n rows) (eqb (row .0) n) e
     go f false e = f e
 
 -- how long a text can be
-pub text-short : (k n : ℕ) (rows : List (ℕ × String)) → T (all (λ (row : ℕ × String). leb (length (ascii (row .1))) k) rows)
+pub text-short : (k n : ℕ) (rows : List (ℕ × String))
+    → T (all (λ (row : ℕ × String). leb (length (ascii (row .1))) k) rows)
     → length (rowText n rows) ≤ k
 unfolding rowText
 text-short k n [] t = omega arith
-text-short k n (row ∷ rows) t = go (eqb (row .0) n) (text-short k n rows (and-right (leb (length (ascii (row .1))) k) _ t))
+text-short k n (row ∷ rows) t =
+    go (eqb (row .0) n) (text-short k n rows (and-right (leb (length (ascii (row .1))) k) _ t))
   where
     go : (a : Bool) → length (rowText n rows) ≤ k → length (cond a (ascii (row .1)) (rowText n rows)) ≤ k
     go true h = leb→le (length (ascii (row .1))) k (and-left (leb (length (ascii (row .1))) k) _ t)
     go false h = h
 
 -- by the code's place of the row
-module _ (n : ℕ) (rows : List (ℕ × String)) {t : List ℕ} (e : t ≡ tableOctets rows) {at : ℕ} (d : at ≡ rowAt n rows) where
+module _ (n : ℕ) (rows : List (ℕ × String)) {t : List ℕ} (e : t ≡ tableOctets rows) {at : ℕ}
+    (d : at ≡ rowAt n rows) where
   whole : length t ≡ length (tableOctets rows)
   whole = ap length e
 

@@ -73,7 +73,8 @@ fn known_flags(n: u32) -> bool
     n == 32768
 }
 
-// Whether RDATA divides exactly into options with codes strictly rising. `least` is the lowest code that the next one may have.
+// Whether RDATA divides exactly into options with codes strictly rising. `least` is the lowest code that the next one
+// may have.
 fn options_rise(s: &[u8], hex: bool) -> bool
     requires { ⌜ Spelled hex (now s) ⌝ }
     ensures { λ r. ⌜ r ≡ optionsRise (octetsIn hex (now (s .entry))) ⌝ }
@@ -100,7 +101,8 @@ fn options_rise(s: &[u8], hex: bool) -> bool
     true
 }
 
-// Whether a TYPE 41 record passes the tests without its RDATA: its owner is the root or not, its TTL, the header's RCODE.
+// Whether a TYPE 41 record passes the tests without its RDATA: its owner is the root or not, its TTL, the header's
+// RCODE.
 fn has_edns_fields(root: bool, ttl: u32, rcode: u32) -> bool
     requires { ⌜ rcode < 16 ⌝ }
     ensures { λ r. ⌜ r ≡ ednsFields root ttl rcode ⌝ }

@@ -60,7 +60,8 @@ Digit c = (48 ≤ c) × (c ≤ 70)
 digits-in : (l : List ℕ) → Octets l → All Digit (each hexOctet l)
 unfolding each
 digits-in [] h = tt
-digits-in (x ∷ l) h = (hexDigit-in (x / 16) (omega (arith, h .0)), (hexDigit-in (x % 16) (omega arith), digits-in l (h .1)))
+digits-in (x ∷ l) h =
+    (hexDigit-in (x / 16) (omega (arith, h .0)), (hexDigit-in (x % 16) (omega arith), digits-in l (h .1)))
 
 all-at : (l : List ℕ) → All Digit l → (j : ℕ) → j < length l → Digit (getD l j 0)
 all-at [] h j k = absurd (omega arith)
@@ -71,7 +72,8 @@ pub digit-at : {h : List ℕ} → Hexes h → (j : ℕ) → j < length h → (48
 digit-at {h} x j k = all-at h (subst (All Digit) (sym (x .spelled)) (digits-in (paired h) (x .range))) j k
 
 -- its two digits
-paired-at : (h : List ℕ) (i : ℕ) → 2 * i + 2 ≤ length h → digitValue (getD h (2 * i) 0) * 16 + digitValue (getD h (2 * i + 1) 0) ≡ getD (paired h) i 0
+paired-at : (h : List ℕ) (i : ℕ) → 2 * i + 2 ≤ length h
+    → digitValue (getD h (2 * i) 0) * 16 + digitValue (getD h (2 * i + 1) 0) ≡ getD (paired h) i 0
 paired-at [] i k = absurd (omega arith)
 paired-at (x ∷ []) i k = absurd (omega arith)
 paired-at (x ∷ y ∷ l) zero k = refl
@@ -80,5 +82,6 @@ paired-at (x ∷ y ∷ l) (suc i) k =
     let f : 2 * suc i + 1 ≡ suc (suc (2 * i + 1)) = omega arith in
     rw (f, e) (paired-at l i (omega arith))
 
-pub octet-is : (h : List ℕ) (i : ℕ) {a b : ℕ} → 2 * i + 2 ≤ length h → a ≡ digitValue (getD h (2 * i) 0) → b ≡ digitValue (getD h (2 * i + 1) 0) → a * 16 + b ≡ getD (paired h) i 0
+pub octet-is : (h : List ℕ) (i : ℕ) {a b : ℕ} → 2 * i + 2 ≤ length h → a ≡ digitValue (getD h (2 * i) 0)
+    → b ≡ digitValue (getD h (2 * i + 1) 0) → a * 16 + b ≡ getD (paired h) i 0
 octet-is h i k p q = ap₂ (λ (a b : ℕ). a * 16 + b) p q ∙ paired-at h i k

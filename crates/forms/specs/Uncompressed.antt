@@ -16,11 +16,13 @@ use Rattle.names.specs.Name.{Fault, refusalNumber}
 use Rattle.names.specs.Answer.{faultOf, faultNumber, number-same}
 use Rattle.names.specs.declared.Fault.{Fault as FaultRead}
 use Rattle.records.specs.Message.{questionForm, recordForm, headerForm, form, opt?}
-use Rattle.records.specs.Read.{Entry, entry, bad, questionAt, recordAt, Reached, reached, stopped, sectionAt, sectionFrom}
+use Rattle.records.specs.Read.{Entry, entry, bad, questionAt, recordAt, Reached, reached, stopped, sectionAt}
+use Rattle.records.specs.Read.{sectionFrom}
 use Rattle.records.specs.Decode.{headerOf, zOf, sectionsOf, messageRead, Decoded, accepted, refused, decode}
 use Rattle.records.proofs.MessageLaws.{section-step, section-stop}
 use Rattle.records.proofs.Kept.{header-same}
-use Rattle.forms.specs.Putting.{Part, mapped, questionPart, recordPart, partAt, Run, ran, halted, partThen, turned, sectionRun, Runs, runs, halts, octetsThen, chained, messageRun}
+use Rattle.forms.specs.Putting.{Part, mapped, questionPart, recordPart, partAt, Run, ran, halted, partThen}
+use Rattle.forms.specs.Putting.{turned, sectionRun, Runs, runs, halts, octetsThen, chained, messageRun}
 use Rattle.forms.specs.declared.Came.{Came}
 use Rattle.forms.specs.declared.Came.the-variants as came
 use Rattle.octets.specs.declared.Outcome.the-variants as outcome
@@ -48,24 +50,32 @@ runOf f l (reached at) = ran (each (λ a. f a .form) l) at (count (λ a. eqb (f 
 runOf f l (stopped at fault) = halted at fault
 
 -- one entry more
-run-more : {A : Type 0} (f : A → Part) (a : A) (l : List A) (w : Reached) → partThen (f a) (runOf f l w) ≡ runOf f (a ∷ l) w
+run-more : {A : Type 0} (f : A → Part) (a : A) (l : List A) (w : Reached)
+    → partThen (f a) (runOf f l w) ≡ runOf f (a ∷ l) w
 unfolding each
-run-more f a l (reached at) = ap (ran (f a .form ++ each (λ b. f b .form) l) at) (go (eqb (f a .type) 41) (count (λ b. eqb (f b .type) 41) l))
+run-more f a l (reached at) =
+    ap (ran (f a .form ++ each (λ b. f b .form) l) at) (go (eqb (f a .type) 41) (count (λ b. eqb (f b .type) 41) l))
   where
     go : (b : Bool) (n : ℕ) → cond b 1 0 + n ≡ cond b (1 + n) n
     go true n = refl
     go false n = omega arith
 run-more f a l (stopped at fault) = refl
 
-module _ {A : Type 0} (read : List ℕ → ℕ → Entry A) (f : A → Part) (records : Bool) (s : List ℕ) (same : (at : ℕ) → partAt records s at ≡ mapped f (read s at)) where
-  section-run : (n at : ℕ) → sectionRun records s n at ≡ runOf f (sectionAt read s n at .entries) (sectionAt read s n at .end)
+module _ {A : Type 0} (read : List ℕ → ℕ → Entry A) (f : A → Part) (records : Bool) (s : List ℕ) (same : (at : ℕ)
+    → partAt records s at ≡ mapped f (read s at)) where
+  section-run : (n at : ℕ)
+      → sectionRun records s n at ≡ runOf f (sectionAt read s n at .entries) (sectionAt read s n at .end)
   unfolding sectionRun sectionAt each
   section-run zero at = refl
   section-run (suc n) at = go (read s at) refl (section-run n)
     where
-      go : (w : Entry A) → read s at ≡ w → ((i : ℕ) → sectionRun records s n i ≡ runOf f (sectionAt read s n i .entries) (sectionAt read s n i .end))
-          → turned (λ i. sectionRun records s n i) at (partAt records s at) ≡ runOf f (sectionAt read s (suc n) at .entries) (sectionAt read s (suc n) at .end)
-      go (entry a next) p g = rw (same at, p, section-step read s n at a next p, g next) (run-more f a (sectionAt read s n next .entries) (sectionAt read s n next .end))
+      go : (w : Entry A) → read s at ≡ w
+          → ((i : ℕ) → sectionRun records s n i ≡ runOf f (sectionAt read s n i .entries) (sectionAt read s n i .end))
+          → turned (λ i. sectionRun records s n i) at (partAt records s at) ≡ runOf f
+          (sectionAt read s (suc n) at .entries) (sectionAt read s (suc n) at .end)
+      go (entry a next) p g =
+          rw (same at, p, section-step read s n at a next p, g next)
+          (run-more f a (sectionAt read s n next .entries) (sectionAt read s n next .end))
       go (bad fault) p g = rw (same at, p, section-stop read s n at fault p)
 
 -- from where the section before came to
@@ -73,7 +83,8 @@ abbrev onto : Reached → (ℕ → Run) → Run
 onto (reached at) f = f at
 onto (stopped at fault) f = halted at fault
 
-chained-run : {A : Type 0} (f : A → Part) (l : List A) (w : Reached) (g : ℕ → Run) → chained (runOf f l w) g ≡ octetsThen (each (λ a. f a .form) l) (onto w g)
+chained-run : {A : Type 0} (f : A → Part) (l : List A) (w : Reached) (g : ℕ → Run)
+    → chained (runOf f l w) g ≡ octetsThen (each (λ a. f a .form) l) (onto w g)
 chained-run f l (reached at) g = refl
 chained-run f l (stopped at fault) g = refl
 
@@ -90,7 +101,9 @@ module _ (s : List ℕ) where
   unfolding partAt
   records-same at = refl
 
-  from-run : (n : ℕ) (w : Reached) → onto w (λ a. sectionRun true s n a) ≡ runOf recordPart (sectionFrom recordAt s n w .entries) (sectionFrom recordAt s n w .end)
+  from-run : (n : ℕ) (w : Reached)
+      → onto w (λ a. sectionRun true s n a) ≡ runOf recordPart (sectionFrom recordAt s n w .entries)
+      (sectionFrom recordAt s n w .end)
   unfolding sectionFrom
   from-run n (reached at) = section-run recordAt recordPart true s records-same n at
   from-run n (stopped at fault) = refl
@@ -103,8 +116,11 @@ module _ (s : List ℕ) where
       ∙ chained-run recordPart (sectionFrom recordAt s n w .entries) (sectionFrom recordAt s n w .end) g
 
   -- the run over the message, by its sections
-  message-run : messageRun s ≡ octetsThen (take 12 s) (octetsThen (each questionForm (sectionsOf s .questions .entries)) (octetsThen (each recordForm (sectionsOf s .answers .entries))
-      (octetsThen (each recordForm (sectionsOf s .authority .entries)) (runOf recordPart (sectionsOf s .additional .entries) (sectionsOf s .additional .end)))))
+  message-run : messageRun s ≡ octetsThen (take 12 s)
+      (octetsThen (each questionForm (sectionsOf s .questions .entries))
+      (octetsThen (each recordForm (sectionsOf s .answers .entries))
+      (octetsThen (each recordForm (sectionsOf s .authority .entries))
+      (runOf recordPart (sectionsOf s .additional .entries) (sectionsOf s .additional .end)))))
   unfolding messageRun sectionsOf
   message-run =
       let q = sectionAt questionAt s (twoAt s 4) 12 in
@@ -149,38 +165,47 @@ halted≢ran e = subst Ran (sym e) tt
 
 module _ (s : List ℕ) (small : length s ≤ 65535) (room : 12 ≤ length s) (clear : zOf s ≡ 1 → ⊥) where
   decode-reached : (i : ℕ) → sectionsOf s .additional .end ≡ reached i
-      → decode s ≡ cond (ltb i (length s)) (refused 8 i) (cond (ltb 65535 (length (form (messageRead s)))) (refused 9 0) (accepted (messageRead s)))
+      → decode s ≡ cond (ltb i (length s)) (refused 8 i)
+      (cond (ltb 65535 (length (form (messageRead s)))) (refused 9 0) (accepted (messageRead s)))
   unfolding decode
   decode-reached i e = rw (le-ltb 65535 (length s) small, le-ltb (length s) 12 room, ne-eqb (zOf s) 1 clear, e, decode)
 
-  decode-stopped : (i : ℕ) (fault : Fault) → sectionsOf s .additional .end ≡ stopped i fault → decode s ≡ refused (refusalNumber (fault .kind)) i
+  decode-stopped : (i : ℕ) (fault : Fault) → sectionsOf s .additional .end ≡ stopped i fault
+      → decode s ≡ refused (refusalNumber (fault .kind)) i
   unfolding decode
-  decode-stopped i fault e = rw (le-ltb 65535 (length s) small, le-ltb (length s) 12 room, ne-eqb (zOf s) 1 clear, e, decode)
+  decode-stopped i fault e =
+      rw (le-ltb 65535 (length s) small, le-ltb (length s) 12 room, ne-eqb (zOf s) 1 clear, e, decode)
 
   -- the run where reading met a fault, and where it met none
-  run-stopped : (j : ℕ) (fault : Fault) → sectionsOf s .additional .end ≡ stopped j fault → messageRun s ≡ halted j fault
+  run-stopped : (j : ℕ) (fault : Fault) → sectionsOf s .additional .end ≡ stopped j fault
+      → messageRun s ≡ halted j fault
   run-stopped j fault q = message-run s ∙ rw q
 
   run-reached : (j : ℕ) → sectionsOf s .additional .end ≡ reached j
-      → messageRun s ≡ ran (take 12 s ++ (each questionForm (sectionsOf s .questions .entries) ++ (each recordForm (sectionsOf s .answers .entries)
-      ++ (each recordForm (sectionsOf s .authority .entries) ++ each recordForm (sectionsOf s .additional .entries))))) j (count opt? (sectionsOf s .additional .entries))
+      → messageRun s ≡ ran (take 12 s
+      ++ (each questionForm (sectionsOf s .questions .entries) ++ (each recordForm (sectionsOf s .answers .entries)
+      ++ (each recordForm (sectionsOf s .authority .entries) ++ each recordForm (sectionsOf s .additional .entries)))))
+      j (count opt? (sectionsOf s .additional .entries))
   run-reached j q = message-run s ∙ rw q
 
   -- reading met a fault
-  decode-halted : (i : ℕ) (fault : Fault) → messageRun s ≡ halted i fault → decode s ≡ refused (refusalNumber (fault .kind)) i
+  decode-halted : (i : ℕ) (fault : Fault) → messageRun s ≡ halted i fault
+      → decode s ≡ refused (refusalNumber (fault .kind)) i
   decode-halted i fault e = go (sectionsOf s .additional .end) refl
     where
       go : (w : Reached) → sectionsOf s .additional .end ≡ w → decode s ≡ refused (refusalNumber (fault .kind)) i
       go (reached j) q = absurd (halted≢ran (sym e ∙ run-reached j q))
       go (stopped j other) q =
           let same : halted i fault ≡ halted j other = sym e ∙ run-stopped j other q in
-          decode-stopped j other q ∙ ap₂ (λ (f : Fault) (k : ℕ). refused (refusalNumber (f .kind)) k) (sym (ap (faultIn fault) same)) (sym (ap offsetOf same))
+          decode-stopped j other q ∙ ap₂ (λ (f : Fault) (k : ℕ). refused (refusalNumber (f .kind)) k)
+          (sym (ap (faultIn fault) same)) (sym (ap offsetOf same))
 
   -- all entries were read
   pub record Whole (l : List ℕ) (i n : ℕ) : Type 0 where
     pub same : form (messageRead s) ≡ l
     pub opts : count opt? (messageRead s .additional) ≡ n
-    pub gives : decode s ≡ cond (ltb i (length s)) (refused 8 i) (cond (ltb 65535 (length l)) (refused 9 0) (accepted (messageRead s)))
+    pub gives : decode s ≡ cond (ltb i (length s)) (refused 8 i)
+        (cond (ltb 65535 (length l)) (refused 9 0) (accepted (messageRead s)))
 
   decode-ran : ((j : ℕ) → getD s j 0 < 256) → (l : List ℕ) (i n : ℕ) → messageRun s ≡ ran l i n → Whole l i n
   unfolding form messageRead
@@ -194,20 +219,26 @@ module _ (s : List ℕ) (small : length s ≤ 65535) (room : 12 ≤ length s) (c
           let b = each recordForm (sectionsOf s .answers .entries) in
           let c = each recordForm (sectionsOf s .authority .entries) in
           let d = each recordForm (sectionsOf s .additional .entries) in
-          let run : ran l i n ≡ ran (h ++ (a ++ (b ++ (c ++ d)))) j (count opt? (sectionsOf s .additional .entries)) = sym e ∙ run-reached j q in
+          let run : ran l i n ≡ ran (h ++ (a ++ (b ++ (c ++ d)))) j (count opt? (sectionsOf s .additional .entries)) =
+          sym e ∙ run-reached j q in
           let text : form (messageRead s) ≡ l =
           ap (λ (x : List ℕ). x ++ a ++ b ++ c ++ d) (header-same s j o room clear q)
-          ∙ append-assoc (h ++ a ++ b) c d ∙ append-assoc (h ++ a) b (c ++ d) ∙ append-assoc h a (b ++ (c ++ d)) ∙ sym (ap textOf run) in
+          ∙ append-assoc (h ++ a ++ b) c d ∙ append-assoc (h ++ a) b (c ++ d) ∙ append-assoc h a (b ++ (c ++ d))
+          ∙ sym (ap textOf run) in
           record {
             same = text;
             opts = sym (ap countOf run);
-            gives = decode-reached j q ∙ ap₂ (λ (k : ℕ) (x : List ℕ). cond (ltb k (length s)) (refused 8 k) (cond (ltb 65535 (length x)) (refused 9 0) (accepted (messageRead s)))) (sym (ap offsetOf run)) text;
+            gives = decode-reached j q
+                ∙ ap₂ (λ (k : ℕ) (x : List ℕ). cond (ltb k (length s)) (refused 8 k)
+                (cond (ltb 65535 (length x)) (refused 9 0) (accepted (messageRead s)))) (sym (ap offsetOf run)) text;
           }
 
 -- ---- the call's ways
 -- a refusal
-refusing : {s b b′ : List ℕ} {r : Scan} (k place : ℕ) → decode s ≡ refused k place → r ≡ scanOf (refused k place) → b′ ≡ b → Uncompressed s b r b′
-refusing {b = b} k place d p q = record { answers = p ∙ ap scanOf (sym d); leaves = q ∙ ap (λ (x : Decoded). leftOf x b) (sym d) }
+refusing : {s b b′ : List ℕ} {r : Scan} (k place : ℕ) → decode s ≡ refused k place → r ≡ scanOf (refused k place)
+    → b′ ≡ b → Uncompressed s b r b′
+refusing {b = b} k place d p q =
+    record { answers = p ∙ ap scanOf (sym d); leaves = q ∙ ap (λ (x : Decoded). leftOf x b) (sym d) }
 
 module _ (s b : List ℕ) {r : Scan} where
   -- over 65,535 octets
@@ -226,29 +257,36 @@ module _ (s b : List ℕ) {r : Scan} where
   z-set h k z p = refusing 3 0 (rw (le-ltb 65535 (length s) h, le-ltb (length s) 12 k, z)) p refl
 
 -- what the answer of a run says
-told-ran : {u : Run} {b b′ : List ℕ} {to at size m : ℕ} → Runs 0 u b to b′ (came.To at size m) → (l : List ℕ) × (n : ℕ) × (u ≡ ran l at n) × (m ≡ 0 + n) × Wrote b to l b′ size
+told-ran : {u : Run} {b b′ : List ℕ} {to at size m : ℕ} → Runs 0 u b to b′ (came.To at size m)
+    → (l : List ℕ) × (n : ℕ) × (u ≡ ran l at n) × (m ≡ 0 + n) × Wrote b to l b′ size
 told-ran (runs {l = l} {n = n} q v) = (l, n, refl, q, v)
 
-told-halted : {u : Run} {b b′ : List ℕ} {to at : ℕ} {g : FaultRead} → Runs 0 u b to b′ (came.Stopped at g) → (fault : Fault) × (u ≡ halted at fault) × (g ≡ faultOf fault)
+told-halted : {u : Run} {b b′ : List ℕ} {to at : ℕ} {g : FaultRead} → Runs 0 u b to b′ (came.Stopped at g)
+    → (fault : Fault) × (u ≡ halted at fault) × (g ≡ faultOf fault)
 told-halted (halts {fault = fault}) = (fault, refl, refl)
 
 -- a second run that is known to meet no fault
-told-again : {u : Run} {b b′ : List ℕ} {to : ℕ} {y : Came} (l : List ℕ) (at n : ℕ) → Runs 0 u b to b′ y → u ≡ ran l at n → (r : ℕ) × Wrote b to l b′ r
-told-again {b = b} {b′ = b′} {to = to} l at n (runs {r = r} q v) e = (r, subst (λ (x : List ℕ). Wrote b to x b′ r) (ap textOf e) v)
+told-again : {u : Run} {b b′ : List ℕ} {to : ℕ} {y : Came} (l : List ℕ) (at n : ℕ) → Runs 0 u b to b′ y → u ≡ ran l at n
+    → (r : ℕ) × Wrote b to l b′ r
+told-again {b = b} {b′ = b′} {to = to} l at n (runs {r = r} q v) e =
+    (r, subst (λ (x : List ℕ). Wrote b to x b′ r) (ap textOf e) v)
 told-again l at n halts e = absurd (halted≢ran e)
 
 -- e is what the first run leaves of the empty part
-module _ (s b e : List ℕ) (o : (j : ℕ) → getD s j 0 < 256) (small : length s ≤ 65535) (room : 12 ≤ length s) (clear : zOf s ≡ 1 → ⊥) (z : length e ≡ 0)
+module _ (s b e : List ℕ) (o : (j : ℕ) → getD s j 0 < 256) (small : length s ≤ 65535) (room : 12 ≤ length s)
+    (clear : zOf s ≡ 1 → ⊥) (z : length e ≡ 0)
     {x : Came} (d : Runs 0 (messageRun s) [] 0 e x) where
   same-buffer : e ++ b ≡ b
   same-buffer = ap (λ (y : List ℕ). y ++ b) (empty e z)
 
   -- an entry has a fault
-  pub at-fault : {at k : ℕ} {g : FaultRead} {r : Scan} → x ≡ came.Stopped at g → k ≡ faultNumber g → r ≡ scanOf (refused k at) → Uncompressed s b r (e ++ b)
+  pub at-fault : {at k : ℕ} {g : FaultRead} {r : Scan} → x ≡ came.Stopped at g → k ≡ faultNumber g
+      → r ≡ scanOf (refused k at) → Uncompressed s b r (e ++ b)
   at-fault {at} {k} q i p =
       let (fault, u, v) = told-halted (rw q at d) in
       refusing (refusalNumber (fault .kind)) at (decode-halted s small room clear at fault u)
-      (p ∙ ap (λ (n : ℕ). scanOf (refused n at)) (i ∙ ap faultNumber v ∙ number-same (fault .kind) (fault .octet))) same-buffer
+      (p ∙ ap (λ (n : ℕ). scanOf (refused n at)) (i ∙ ap faultNumber v ∙ number-same (fault .kind) (fault .octet)))
+      same-buffer
 
   module _ {at size m : ℕ} (q : x ≡ came.To at size m) where
     -- octets after the last record
@@ -263,29 +301,36 @@ module _ (s b e : List ℕ) (o : (j : ℕ) → getD s j 0 < 256) (small : length
       form-long k p =
           let (l, n, u, v, w) = told-ran (rw q at d) in
           let i : 65535 < length l = omega (arith, w .place) in
-          refusing 9 0 (decode-ran s small room clear o l at n u .gives ∙ rw (le-ltb at (length s) h, lt-ltb 65535 (length l) i)) p same-buffer
+          refusing 9 0 (decode-ran s small room clear o l at n u .gives
+          ∙ rw (le-ltb at (length s) h, lt-ltb 65535 (length l) i)) p same-buffer
 
       module _ (k : size ≤ 65535) where
         -- the message is accepted
         accepts : (l : List ℕ) (n : ℕ) → messageRun s ≡ ran l at n → m ≡ 0 + n → size ≡ 0 + length l → (b′ : List ℕ)
-            → b′ ≡ cond (leb (length l) (length b)) (overwritten l b) b → Uncompressed s b (record { outcome = outcome.Length size; opts = m }) b′
+            → b′ ≡ cond (leb (length l) (length b)) (overwritten l b) b
+            → Uncompressed s b (record { outcome = outcome.Length size; opts = m }) b′
         accepts l n u v w b′ f =
             let y = decode-ran s small room clear o l at n u in
             let i : length l ≤ 65535 = omega arith in
             let c : m ≡ n = omega arith in
             let j : size ≡ length l = omega arith in
-            let g : decode s ≡ accepted (messageRead s) = y .gives ∙ rw (le-ltb at (length s) h, le-ltb 65535 (length l) i) in
+            let g : decode s ≡ accepted (messageRead s) =
+            y .gives ∙ rw (le-ltb at (length s) h, le-ltb 65535 (length l) i) in
             record {
-              answers = ap₂ (λ (a c : ℕ). record { outcome = outcome.Length a; opts = c }) (j ∙ ap length (sym (y .same))) (c ∙ sym (y .opts)) ∙ ap scanOf (sym g);
-              leaves = f ∙ ap (λ (t : List ℕ). cond (leb (length t) (length b)) (overwritten t b) b) (sym (y .same)) ∙ ap (λ (t : Decoded). leftOf t b) (sym g);
+              answers = ap₂ (λ (a c : ℕ). record { outcome = outcome.Length a; opts = c })
+                  (j ∙ ap length (sym (y .same))) (c ∙ sym (y .opts)) ∙ ap scanOf (sym g);
+              leaves = f ∙ ap (λ (t : List ℕ). cond (leb (length t) (length b)) (overwritten t b) b) (sym (y .same))
+                  ∙ ap (λ (t : Decoded). leftOf t b) (sym g);
             }
 
         -- it does not fit the buffer
-        pub no-room : length (e ++ b) < size → Uncompressed s b (record { outcome = outcome.Length size; opts = m }) (e ++ b)
+        pub no-room : length (e ++ b) < size
+            → Uncompressed s b (record { outcome = outcome.Length size; opts = m }) (e ++ b)
         no-room i =
             let (l, n, u, v, w) = told-ran (rw q at d) in
             let j : length (e ++ b) ≡ length b = ap length same-buffer in
-            accepts l n u v (w .place) (e ++ b) (same-buffer ∙ rw (lt-leb (length l) (length b) (omega (arith, w .place))))
+            accepts l n u v (w .place) (e ++ b) (same-buffer
+            ∙ rw (lt-leb (length l) (length b) (omega (arith, w .place))))
 
         -- it fits, and is written by the second run
         pub with-room : {b′ : List ℕ} {y : Came} → size ≤ length (e ++ b) → Runs 0 (messageRun s) (e ++ b) 0 b′ y

@@ -1,5 +1,5 @@
-// The uncompressed form of a message: each name is written without pointers, and RDLENGTH is adjusted. It is defined in the
-// specs/ of `records`; what its writers do is defined here.
+// The uncompressed form of a message: each name is written without pointers, and RDLENGTH is adjusted. It is defined in
+// the specs/ of `records`; what its writers do is defined here.
 use names::Fault;
 use octets::Outcome;
 use octets::put_all;
@@ -22,7 +22,8 @@ ghost use Rattle.octets.specs.Overlay.{Wrote};
 ghost use Rattle.names.specs.Answer.{faultNumber};
 ghost use Rattle.records.specs.Layout.{rdataAt};
 ghost use Rattle.records.specs.Decode.{refused};
-ghost use Rattle.forms.specs.Putting.{Lays, Laying, partAt, Puts, Goes, optCount, sectionRun, Runs, Comes, messageRun};
+ghost use Rattle.forms.specs.Putting.{Lays, Laying, partAt, Puts, Goes, optCount, sectionRun, Runs, Comes};
+ghost use Rattle.forms.specs.Putting.{messageRun};
 ghost use Rattle.forms.specs.Uncompressed.{scanOf, Uncompressed};
 
 // The next place of the form, or RDATA's fault.
@@ -37,8 +38,8 @@ enum Gone {
     Faulty(Fault),
 }
 
-// The offset after a section, the next place of the form and the number of entries of TYPE 41, or the faulty entry's offset
-// with its fault.
+// The offset after a section, the next place of the form and the number of entries of TYPE 41, or the faulty entry's
+// offset with its fault.
 enum Came {
     To(usize, usize, usize),
     Stopped(usize, Fault),
@@ -235,8 +236,9 @@ fn number_of(fault: Fault) -> u32
     }
 }
 
-// The uncompressed form of the message. A first run, over no octets, finds a refusal and the form's length. A second one writes
-// the form if the buffer has room for it: `json::convert` lends none and only measures, a caller that wants the form lends it.
+// The uncompressed form of the message. A first run, over no octets, finds a refusal and the form's length. A second
+// one writes the form if the buffer has room for it: `json::convert` lends none and only measures, a caller that wants
+// the form lends it.
 pub fn uncompress(s: &[u8], out: &mut [u8]) -> Scan
     ensures { λ r. ⌜ Uncompressed (now (s .entry)) (now (out .entry)) r (now (out .exit)) ⌝ }
 {

@@ -13,7 +13,8 @@ use lib.Seq.{drop-cons, take-append-seam}
 use Rattle.octets.specs.Lists.{present?}
 use Rattle.octets.specs.Lists as lists
 use Rattle.octets.specs.Overlay.{overlay, Wrote, then, nothing, overlay-first}
-use Rattle.hex_lines.specs.Hex.{hexValue, octetThen, unhexed, hexAnswer, hexLeft, Unhexed, OctetsWithin, valueOr16, hex?}
+use Rattle.hex_lines.specs.Hex.{hexValue, octetThen, unhexed, hexAnswer, hexLeft, Unhexed, OctetsWithin}
+use Rattle.hex_lines.specs.Hex.{valueOr16, hex?}
 use Rattle.hex_lines.specs.Hex.{octetsFound}
 use Rattle.hex_lines.proofs.Digits.{Digit, digit, other, hexValue-digit, is-digit, no-digit}
 use Rattle.hex_lines.specs.declared.Hex.{Hex}

@@ -19,7 +19,8 @@ below16? c = leb 97 c && ltb c 103
 
 -- the value of a digit in either letter case
 unfoldable pub hexValue : ℕ → Option ℕ
-hexValue c = cond (digit? c) (some (c - 48)) (cond (capital? c) (some (c - 55)) (cond (below16? c) (some (c - 87)) none))
+hexValue c = cond (digit? c) (some (c - 48))
+    (cond (capital? c) (some (c - 55)) (cond (below16? c) (some (c - 87)) none))
 
 -- the octet of two digits, before the octets of the others
 abbrev pub octetThen : Option ℕ → Option ℕ → Option (List ℕ) → Option (List ℕ)

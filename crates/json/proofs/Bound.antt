@@ -18,15 +18,20 @@ use Rattle.octets.proofs.Writing.{decimal-short, each-hex-length}
 use Rattle.octets.specs.Overlay.{each-ended}
 use Rattle.names.specs.Name.{Name, nameForm}
 use Rattle.names.specs.NameLaws.{form-long}
-use Rattle.records.specs.Message.{Question, Record, Message, questionForm, recordForm, form, question?, record?, section?, valid?, bit?}
+use Rattle.records.specs.Message.{Question, Record, Message, questionForm, recordForm, form, question?, record?}
+use Rattle.records.specs.Message.{section?, valid?, bit?}
 use Rattle.records.proofs.MessageLaws.{Bounds, valid-parts}
 use Rattle.records.proofs.MessageLaws as message
 use Rattle.records.specs.RecordLaws.{question-parts, record-parts, record-long}
-use Rattle.spelling.specs.Spelling.{spelled, labelText, nameText, plus, minus, signed, signedText, printable?, stringOctet, stringText}
+use Rattle.spelling.specs.Spelling.{spelled, labelText, nameText, plus, minus, signed, signedText, printable?}
+use Rattle.spelling.specs.Spelling.{stringOctet, stringText}
 use Rattle.spelling.specs.Width.{spelled-width, width-range}
-use Rattle.options.specs.Options.{rows, members, Form, hexObject, octetList, expiry, hexList, word, padding, wordList, extendedError, unlisted, formOf, Value}
-use Rattle.options.specs.Options.{zero?, words, present, shape, errorTail, valueText, EdnsOption, chosen, memberOf, memberText}
-use Rattle.edns.specs.Edns.{rcodes, Edns, ednsItem, ednsRecord, edns?, option?, optionForm, fullRcode, rising?, flags, ednsText}
+use Rattle.options.specs.Options.{rows, members, Form, hexObject, octetList, expiry, hexList, word, padding, wordList}
+use Rattle.options.specs.Options.{extendedError, unlisted, formOf, Value}
+use Rattle.options.specs.Options.{zero?, words, present, shape, errorTail, valueText, EdnsOption, chosen, memberOf}
+use Rattle.options.specs.Options.{memberText}
+use Rattle.edns.specs.Edns.{rcodes, Edns, ednsItem, ednsRecord, edns?, option?, optionForm, fullRcode, rising?, flags}
+use Rattle.edns.specs.Edns.{ednsText}
 use Rattle.edns.specs.EdnsLaws.{option-long}
 use Rattle.json.specs.View.{Additional, View, viewOf, recordOf, messageOf, additional?, additionals?, view?}
 use Rattle.json.specs.View as view
@@ -50,7 +55,8 @@ quote l = record { short = omega arith }
 
 -- the texts of a list, beside its forms
 module _ {A : Type 0} (f g : A → List ℕ) where
-  ended-short : (stop : ℕ) (l : List A) → All (λ a. length (f a) ≤ 10 * length (g a)) l → Short (ended f stop l) (10 * length (each g l) + 1)
+  ended-short : (stop : ℕ) (l : List A) → All (λ a. length (f a) ≤ 10 * length (g a)) l
+      → Short (ended f stop l) (10 * length (each g l) + 1)
   unfolding each
   ended-short stop [] h = record { short = omega arith }
   ended-short stop (a ∷ l) h =
@@ -58,12 +64,21 @@ module _ {A : Type 0} (f g : A → List ℕ) where
       record { short = omega (arith, k, h .0, length-append (f a) (ended f stop l), length-append (g a) (each g l)) }
 
 module _ {A : Type 0} (f g : A → List ℕ) where
-  listed-short : (l : List A) → All (λ a. length (f a) + 1 ≤ 10 * length (g a)) l → Short (listed f l) (10 * length (each g l) + 2)
+  listed-short : (l : List A) → All (λ a. length (f a) + 1 ≤ 10 * length (g a)) l
+      → Short (listed f l) (10 * length (each g l) + 2)
   unfolding each
   listed-short [] h = record { short = omega arith }
   listed-short (a ∷ l) h =
       let k = ended-short (λ b. 44 ∷ f b) g 93 l (All-map (λ b p. omega (arith, p)) l (h .1)) .short in
-      record { short = omega (arith, k, h .0, length-append (f a) (ended (λ b. 44 ∷ f b) 93 l), length-append (g a) (each g l)) }
+      record {
+        short = omega (
+          arith,
+          k,
+          h .0,
+          length-append (f a) (ended (λ b. 44 ∷ f b) 93 l),
+          length-append (g a) (each g l),
+        );
+      }
 
 -- the texts of octets
 every : {A : Type 0} {P : A → Type 0} → ((a : A) → P a) → (l : List A) → All P l
@@ -75,16 +90,19 @@ unfolding each
 each-one [] = refl
 each-one (x ∷ l) = ap suc (each-one l)
 
-octets-short : (f : ℕ → List ℕ) (stop : ℕ) → ((x : ℕ) → length (f x) ≤ 5) → (l : List ℕ) → Short (ended f stop l) (10 * length l + 1)
+octets-short : (f : ℕ → List ℕ) (stop : ℕ) → ((x : ℕ) → length (f x) ≤ 5) → (l : List ℕ)
+    → Short (ended f stop l) (10 * length l + 1)
 octets-short f stop p l =
     let k = ended-short f (λ x. x ∷ []) stop l (every (λ x. omega (arith, p x)) l) .short in
     record { short = omega (arith, k, each-one l) }
 
 -- the texts of a table
-textOf-short : (table : List (ℕ × String)) → T (all (λ row. leb (length (ascii (row .1))) 9) table) → (n : ℕ) → Short (rowText n table) 9
+textOf-short : (table : List (ℕ × String)) → T (all (λ row. leb (length (ascii (row .1))) 9) table) → (n : ℕ)
+    → Short (rowText n table) 9
 unfolding rowText
 textOf-short [] h n = record { short = omega arith }
-textOf-short (row ∷ table) h n = go (eqb (row .0) n) (textOf-short table (and-right (leb (length (ascii (row .1))) 9) _ h) n)
+textOf-short (row ∷ table) h n =
+    go (eqb (row .0) n) (textOf-short table (and-right (leb (length (ascii (row .1))) 9) _ h) n)
   where
     go : (b : Bool) → Short (rowText n table) 9 → Short (cond b (ascii (row .1)) (rowText n table)) 9
     go true k = record { short = leb→le (length (ascii (row .1))) 9 (and-left (leb (length (ascii (row .1))) 9) _ h) }
@@ -106,7 +124,8 @@ decimal-any n = record { short = omega (arith, decimal-short n n (below-power n)
 
 hex-short : (l : List ℕ) → Short (hexText l) (2 * length l + 1)
 unfolding hexText
-hex-short l = rw (each-ended hexOctet 34 l) (record { short = omega (arith, length-append (each hexOctet l) (34 ∷ []), each-hex-length l) })
+hex-short l = rw (each-ended hexOctet 34 l)
+    (record { short = omega (arith, length-append (each hexOctet l) (34 ∷ []), each-hex-length l) })
 
 signed-short : (n : ℕ) → n < 4294967296 → Short (signedText (signed n)) 11
 unfolding signedText signed
@@ -126,7 +145,16 @@ label-short l = octets-short spelled 46 spelled-five l
 labels-short : (n : Name) → Short (ended labelText 34 n) (10 * length (nameForm n))
 unfolding nameForm
 labels-short [] = record { short = omega arith }
-labels-short (l ∷ n) = record { short = omega (arith, label-short l .short, labels-short n .short, form-long l n, length-append (labelText l) (ended labelText 34 n)) }
+labels-short (l ∷ n) =
+    record {
+      short = omega (
+        arith,
+        label-short l .short,
+        labels-short n .short,
+        form-long l n,
+        length-append (labelText l) (ended labelText 34 n),
+      );
+    }
 
 name-short : (n : Name) → Short (nameText n) (10 * length (nameForm n))
 unfolding nameText nameForm
@@ -149,7 +177,8 @@ string-short l = octets-short stringOctet 34 octet l
 -- a list of octets as numbers, and of numbers of two octets
 numbers-short : (l : List ℕ) → Octets l → Short (listed decimal l) (10 * length l + 2)
 numbers-short l h =
-    let k = listed-short decimal (λ x. x ∷ []) l (All-map (λ x p. omega (arith, decimal-five x (omega (arith, p)) .short)) l h) .short in
+    let k = listed-short decimal (λ x. x ∷ []) l
+    (All-map (λ x p. omega (arith, decimal-five x (omega (arith, p)) .short)) l h) .short in
     record { short = omega (arith, k, each-one l) }
 
 words-long : (l : List ℕ) → 2 * length (words l) ≤ length l
@@ -166,7 +195,8 @@ words-in (x ∷ y ∷ l) h = (omega (arith, h .0, h .1 .0), words-in l (h .1 .1)
 
 words-short : (l : List ℕ) → Octets l → Short (listed decimal (words l)) (10 * length l + 2)
 words-short l h =
-    let k = listed-short decimal (λ x. x ∷ []) (words l) (All-map (λ x p. omega (arith, decimal-five x (omega (arith, p)) .short)) (words l) (words-in l h)) .short in
+    let k = listed-short decimal (λ x. x ∷ []) (words l)
+    (All-map (λ x p. omega (arith, decimal-five x (omega (arith, p)) .short)) (words l) (words-in l h)) .short in
     record { short = omega (arith, k, each-one (words l), words-long l) }
 
 error-short : (l : List ℕ) → Short (errorTail (present l)) (10 * length l + 11)
@@ -193,11 +223,20 @@ shape-short expiry l h = go (eqb (length l) 0) (eqb (length l) 4)
     go false false = tt
 shape-short hexList l h = go (eqb (length l) 8) (leb 16 (length l) && leb (length l) 40)
   where
-    go : (a b : Bool) → Holds hexList (cond a (some (l ∷ [])) (cond b (some (take 8 l ∷ drop 8 l ∷ [])) none)) (10 * length l + 27)
+    go : (a b : Bool) → Holds hexList (cond a (some (l ∷ [])) (cond b (some (take 8 l ∷ drop 8 l ∷ [])) none))
+        (10 * length l + 27)
     go true b = record { short = omega (arith, hex-short l .short, length-append (hexText l) (93 ∷ [])) }
     go false true =
         record {
-          short = omega (arith, hex-short (take 8 l) .short, hex-short (drop 8 l) .short, length-take 8 l, length-drop 8 l, length-append (hexText (take 8 l)) (44 ∷ 34 ∷ (hexText (drop 8 l) ++ (93 ∷ []))), length-append (hexText (drop 8 l)) (93 ∷ []));
+          short = omega (
+            arith,
+            hex-short (take 8 l) .short,
+            hex-short (drop 8 l) .short,
+            length-take 8 l,
+            length-drop 8 l,
+            length-append (hexText (take 8 l)) (44 ∷ 34 ∷ (hexText (drop 8 l) ++ (93 ∷ []))),
+            length-append (hexText (drop 8 l)) (93 ∷ []),
+          );
         }
     go false false = tt
 shape-short word l h = go (eqb (length l) 2)
@@ -209,7 +248,8 @@ shape-short padding l h = go (all zero? l)
   where
     go : (a : Bool) → Holds padding (some (length l, cond a none (some l))) (10 * length l + 27)
     go true = within _ (omega arith) (quote "{\"LENGTH\":" ⊕ decimal-any (length l) ⊕ quote "}")
-    go false = within _ (omega arith) (quote "{\"LENGTH\":" ⊕ decimal-any (length l) ⊕ (quote ",\"HEX\":\"" ⊕ hex-short l ⊕ quote "}"))
+    go false = within _ (omega arith)
+        (quote "{\"LENGTH\":" ⊕ decimal-any (length l) ⊕ (quote ",\"HEX\":\"" ⊕ hex-short l ⊕ quote "}"))
 shape-short wordList l h = go (eqb (length l % 2) 0)
   where
     go : (a : Bool) → Holds wordList (cond a (some (words l)) none) (10 * length l + 27)
@@ -229,9 +269,11 @@ members-short : (n : ℕ) → Short (rowText n members) 9
 unfolding members rows
 members-short n = textOf-short members tt n
 
-chosen-short : (code : ℕ) (l : List ℕ) → code < 65536 → (x : Option (Value (formOf code))) → Holds (formOf code) x (10 * length l + 27) → Short (memberText (chosen code l x)) (10 * length l + 39)
+chosen-short : (code : ℕ) (l : List ℕ) → code < 65536 → (x : Option (Value (formOf code)))
+    → Holds (formOf code) x (10 * length l + 27) → Short (memberText (chosen code l x)) (10 * length l + 39)
 unfolding memberText
-chosen-short code l h none k = within _ (omega arith) (quote "\"OPT" ⊕ decimal-five code h ⊕ quote "\":\"" ⊕ hex-short l)
+chosen-short code l h none k =
+    within _ (omega arith) (quote "\"OPT" ⊕ decimal-five code h ⊕ quote "\":\"" ⊕ hex-short l)
 chosen-short code l h (some v) k = within _ (omega arith) (quote "\"" ⊕ members-short code ⊕ quote "\":" ⊕ k)
 
 member-short : (o : EdnsOption) → T (option? o) → length (44 ∷ memberText (memberOf o)) ≤ 10 * length (optionForm o)
@@ -239,7 +281,8 @@ unfolding memberOf option?
 member-short o h =
     let code = ltb→lt (o .code) 65536 (and-left (word? (o .code)) _ h) in
     let octets = octets-in (o .value) (and-right (word? (o .code)) _ h) in
-    let k = chosen-short (o .code) (o .value) code (shape (formOf (o .code)) (o .value)) (shape-short (formOf (o .code)) (o .value) octets) in
+    let k = chosen-short (o .code) (o .value) code (shape (formOf (o .code)) (o .value))
+    (shape-short (formOf (o .code)) (o .value) octets) in
     omega (arith, k .short, option-long o)
 
 -- ---- lists of what is made of the elements of a list
@@ -266,7 +309,12 @@ question-short q h =
     ⊕ quote ",\"TYPE\":" ⊕ decimal-five (q .type) t
     ⊕ quote ",\"CLASS\":" ⊕ decimal-five (q .class) c
     ⊕ quote "}" in
-    omega (arith, k .short, length-append (nameForm (q .name)) (two (q .type)), length-append (nameForm (q .name) ++ two (q .type)) (two (q .class)))
+    omega (
+      arith,
+      k .short,
+      length-append (nameForm (q .name)) (two (q .type)),
+      length-append (nameForm (q .name) ++ two (q .type)) (two (q .class)),
+    )
 
 record-short : (r : Record) → T (record? r) → length (recordText (recordItem r)) + 1 ≤ 10 * length (recordForm r)
 unfolding recordText recordItem
@@ -302,10 +350,13 @@ rcodes-short : (n : ℕ) → Short (rowText n rcodes) 9
 unfolding rcodes
 rcodes-short n = textOf-short rcodes tt n
 
-options-short : (l : List EdnsOption) → T (all option? l) → Short (ended (λ m. 44 ∷ memberText m) 125 (map memberOf l)) (10 * length (each optionForm l) + 1)
-options-short l h = rw (ended-map memberOf (λ m. 44 ∷ memberText m) 125 l) (ended-short (λ o. 44 ∷ memberText (memberOf o)) optionForm 125 l (All-map member-short l (all→All option? l h)))
+options-short : (l : List EdnsOption) → T (all option? l)
+    → Short (ended (λ m. 44 ∷ memberText m) 125 (map memberOf l)) (10 * length (each optionForm l) + 1)
+options-short l h = rw (ended-map memberOf (λ m. 44 ∷ memberText m) 125 l)
+    (ended-short (λ o. 44 ∷ memberText (memberOf o)) optionForm 125 l (All-map member-short l (all→All option? l h)))
 
-edns-short : (rcode : ℕ) (e : Edns) → T (edns? rcode e) → length (ednsText (ednsItem rcode e)) + 1 ≤ 10 * length (recordForm (ednsRecord e))
+edns-short : (rcode : ℕ) (e : Edns) → T (edns? rcode e)
+    → length (ednsText (ednsItem rcode e)) + 1 ≤ 10 * length (recordForm (ednsRecord e))
 unfolding ednsText ednsItem ednsRecord nameForm
 edns-short rcode e h =
     let (s, o) = edns-parts rcode e h in
@@ -317,13 +368,15 @@ edns-short rcode e h =
     ⊕ quote "}" in
     omega (arith, k .short, record-long (ednsRecord e))
 
-item-short : (rcode : ℕ) (a : Additional) → T (additional? rcode a) → length (itemText (item rcode a)) + 1 ≤ 10 * length (recordForm (recordOf a))
+item-short : (rcode : ℕ) (a : Additional) → T (additional? rcode a)
+    → length (itemText (item rcode a)) + 1 ≤ 10 * length (recordForm (recordOf a))
 unfolding additional? itemText item recordOf
 item-short rcode (view.ordinary r) h = record-short r h
 item-short rcode (view.edns e) h = edns-short rcode e h
 
 -- ---- the document
-head-short : (v : View) → Bounds (v .header) → length (v .questions) < 65536 → length (v .answers) < 65536 → length (v .authority) < 65536 → length (v .additional) < 65536
+head-short : (v : View) → Bounds (v .header) → length (v .questions) < 65536 → length (v .answers) < 65536
+    → length (v .authority) < 65536 → length (v .additional) < 65536
     → Short (headText (documentOf v)) 280
 unfolding headText documentOf
 head-short v h q a n r =
@@ -343,16 +396,21 @@ head-short v h q a n r =
     ⊕ quote ",\"NSCOUNT\":" ⊕ decimal-five (length (v .authority)) (omega (arith, n))
     ⊕ quote ",\"ARCOUNT\":" ⊕ decimal-five (length (v .additional)) (omega (arith, r)))
 
-questions-short : (l : List Question) → T (all question? l) → Short (listed questionText l) (10 * length (each questionForm l) + 2)
+questions-short : (l : List Question) → T (all question? l)
+    → Short (listed questionText l) (10 * length (each questionForm l) + 2)
 questions-short l h = listed-short questionText questionForm l (All-map question-short l (all→All question? l h))
 
-records-short : (l : List Record) → T (all record? l) → Short (listed recordText (map recordItem l)) (10 * length (each recordForm l) + 2)
-records-short l h = rw (listed-map recordItem recordText l) (listed-short (λ r. recordText (recordItem r)) recordForm l (All-map record-short l (all→All record? l h)))
+records-short : (l : List Record) → T (all record? l)
+    → Short (listed recordText (map recordItem l)) (10 * length (each recordForm l) + 2)
+records-short l h = rw (listed-map recordItem recordText l)
+    (listed-short (λ r. recordText (recordItem r)) recordForm l (All-map record-short l (all→All record? l h)))
 
-items-short : (rcode : ℕ) (l : List Additional) → T (all (additional? rcode) l) → Short (listed itemText (map (item rcode) l)) (10 * length (each recordForm (map recordOf l)) + 2)
+items-short : (rcode : ℕ) (l : List Additional) → T (all (additional? rcode) l)
+    → Short (listed itemText (map (item rcode) l)) (10 * length (each recordForm (map recordOf l)) + 2)
 items-short rcode l h =
     rw (listed-map (item rcode) itemText l, each-map recordOf recordForm l)
-    (listed-short (λ a. itemText (item rcode a)) (λ a. recordForm (recordOf a)) l (All-map (item-short rcode) l (all→All (additional? rcode) l h)))
+    (listed-short (λ a. itemText (item rcode a)) (λ a. recordForm (recordOf a)) l
+    (All-map (item-short rcode) l (all→All (additional? rcode) l h)))
 
 additional-valid : (v : View) → T (view? v) → T (all (additional? (v .header .rcode)) (v .additional))
 unfolding additionals?

@@ -28,7 +28,8 @@ elements (refused number place) = []
 
 -- a header with this RCODE, answers and additional records
 abbrev pub extended : ℕ → ℕ → ℕ → List ℕ
-extended rcode count additional = hexed "0000" ++ two rcode ++ hexed "0000" ++ two count ++ hexed "0000" ++ two additional
+extended rcode count additional = hexed "0000" ++ two rcode ++ hexed "0000" ++ two count ++ hexed "0000"
+    ++ two additional
 
 -- a TYPE 41 record: owner, TTL, options
 abbrev pub opt : String → String → String → List ℕ
@@ -61,10 +62,14 @@ conditions =
     ∷ record { message = extended 7 0 1 ++ opt "00" "01000000" ""; shows = true ∷ [] }
     ∷ record { message = extended 8 0 1 ++ opt "00" "01000000" ""; shows = false ∷ [] }
     -- two in the additional section; one there and one among the answers
-    ∷ record { message = extended 0 0 2 ++ opt "00" "00000000" "" ++ opt "00" "00010000" ""; shows = false ∷ false ∷ [] }
+    ∷ record {
+      message = extended 0 0 2 ++ opt "00" "00000000" "" ++ opt "00" "00010000" "";
+      shows = false ∷ false ∷ [];
+    }
     ∷ record { message = extended 0 1 1 ++ opt "00" "00000000" "" ++ opt "00" "00000000" ""; shows = true ∷ [] }
     ∷ []
 
-pub conditions-hold : map (λ (c : Condition). elements (decode (c .message))) conditions ≡ map (λ (c : Condition). c .shows) conditions
+pub conditions-hold : map (λ (c : Condition). elements (decode (c .message))) conditions ≡ map
+    (λ (c : Condition). c .shows) conditions
 unfolding conditions lookup key? nameForm walk nameFrom layouts layoutOf pieces rdataAt questionForm recordForm each headerForm form firstCut questionAt recordAt sectionAt sectionFrom headerOf sectionsOf messageRead decode rising? divided optionsOf rcodes ednsOf additionalOf viewOf
 conditions-hold = refl

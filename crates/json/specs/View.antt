@@ -1,5 +1,6 @@
--- A message as the text shows it: its EDNS record recognised, with its options as a list. A view has no limit on the size of RDATA, of an
--- option's value or of the message; the record of an EDNS element is recognised again where each value is within its 65,535 octets.
+-- A message as the text shows it: its EDNS record recognised, with its options as a list. A view has no limit on the
+-- size of RDATA, of an option's value or of the message; the record of an EDNS element is recognised again where each
+-- value is within its 65,535 octets.
 use mathlib.Core.Bool.{Bool, true, not, _&&_, cond}
 use mathlib.Core.Option.{Option, none, some}
 use mathlib.Core.List.{List, map}
@@ -67,7 +68,8 @@ unfoldable pub opt-entry? : Additional → Bool
 opt-entry? (ordinary r) = opt? r
 opt-entry? (edns e) = true
 
--- in a section with n entries of TYPE 41: an EDNS element is the only one, and no record that could be one is written as an ordinary record
+-- in a section with n entries of TYPE 41: an EDNS element is the only one, and no record that could be one is written
+-- as an ordinary record
 unfoldable pub settled? : ℕ → ℕ → Additional → Bool
 settled? rcode n (ordinary r) = not (opt? r && eqb n 1 && present? (ednsOf rcode r))
 settled? rcode n (edns e) = eqb n 1

@@ -24,7 +24,8 @@ module _ (spelled : List ℕ → List ℕ) where
   told noRoom (output l) b = go (leb (length l) (length b)) refl
     where
       left : Bool → Result
-      left t = cond t (record { answer = success (length l); buffer = overwritten l b }) (record { answer = refusal noRoom 0; buffer = b })
+      left t = cond t (record { answer = success (length l); buffer = overwritten l b })
+          (record { answer = refusal noRoom 0; buffer = b })
 
       go : (t : Bool) → leb (length l) (length b) ≡ t
           → Told (left t .answer) (cond t (spelled l) (refusalLine noRoom 0)) b (left t .buffer)

@@ -36,7 +36,8 @@ abbrev Inside : ℕ → Reached → Type 0
 Inside size (reached at) = at ≤ size
 Inside size (stopped at fault) = at ≤ size
 
-module _ {A : Type 0} (read : List ℕ → ℕ → Entry A) (s : List ℕ) (inside : (at : ℕ) (a : A) (next : ℕ) → read s at ≡ entry a next → next ≤ length s) where
+module _ {A : Type 0} (read : List ℕ → ℕ → Entry A) (s : List ℕ) (inside : (at : ℕ) (a : A) (next : ℕ)
+    → read s at ≡ entry a next → next ≤ length s) where
   section-inside : (n at : ℕ) → at ≤ length s → Inside (length s) (sectionAt read s n at .end)
   unfolding sectionAt
   section-inside zero at h = h
@@ -56,7 +57,10 @@ sections-inside : (s : List ℕ) → Octets s → 12 ≤ length s → Inside (le
 unfolding sectionsOf
 sections-inside s o h =
     let records = from-inside recordAt s (λ at a next e. record-read s at a next o e .2) in
-    records (twoAt s 10) _ (records (twoAt s 8) _ (records (twoAt s 6) _ (section-inside questionAt s (λ at a next e. question-read s at a next o e .2) (twoAt s 4) 12 h)))
+    records (twoAt s 10) _
+    (records (twoAt s 8) _
+    (records (twoAt s 6) _ (section-inside questionAt s (λ at a next e. question-read s at a next o e .2)
+    (twoAt s 4) 12 h)))
 
 -- a refusal's place is within `size` octets
 abbrev Placed : ℕ → Decoded → Type 0
@@ -124,7 +128,8 @@ unfolding delivered
 delivered-at noRoom size (output l) b h = go (leb (length l) (length b))
   where
     left : Bool → Result
-    left t = cond t (record { answer = success (length l); buffer = overwritten l b }) (record { answer = refusal noRoom 0; buffer = b })
+    left t = cond t (record { answer = success (length l); buffer = overwritten l b })
+        (record { answer = refusal noRoom 0; buffer = b })
 
     go : (t : Bool) → PlacedAt size (left t .answer)
     go true = tt

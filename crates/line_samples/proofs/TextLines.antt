@@ -67,6 +67,7 @@ pub three-lines : linesOf (48 ∷ 13 ∷ 10 ∷ 10 ∷ 49 ∷ []) ≡ (48 ∷ 13
 unfolding linesFrom
 three-lines = refl
 
-pub three-answers : programOutput textLine (48 ∷ 13 ∷ 10 ∷ 10 ∷ 49 ∷ []) ≡ ascii "refused 30 at 0" ++ (10 ∷ []) ++ ascii "refused 1 at 0" ++ (10 ∷ []) ++ ascii "refused 30 at 0" ++ (10 ∷ [])
+pub three-answers : programOutput textLine (48 ∷ 13 ∷ 10 ∷ 10 ∷ 49 ∷ []) ≡ ascii "refused 30 at 0" ++ (10 ∷ [])
+    ++ ascii "refused 1 at 0" ++ (10 ∷ []) ++ ascii "refused 30 at 0" ++ (10 ∷ [])
 unfolding hexValue unhexed refusalLine answerText withinLine textLine linesFrom printed programOutput each decimal decode converted
 three-answers = refl

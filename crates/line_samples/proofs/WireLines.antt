@@ -19,7 +19,8 @@ use Rattle.json.specs.Sample.{textWith}
 use Rattle.json.specs.View.{view?, additionals?, additional?, settled?, opt-entry?, messageOf, recordOf}
 use Rattle.json.specs.Limits.{within?, small-rdata?, small-options?}
 use Rattle.strict.specs.Members.{value?, member?, optionOf, octetsOf}
-use Rattle.strict.specs.Parser.{parse, document, head, questionCodec, recordCodec, itemCodec, ednsElement, optionMembers, member}
+use Rattle.strict.specs.Parser.{parse, document, head, questionCodec, recordCodec, itemCodec, ednsElement}
+use Rattle.strict.specs.Parser.{optionMembers, member}
 use Rattle.strict.specs.Parser.{knownMember, otherMember, value, expiryNumber}
 use Rattle.strict.specs.Spelt.{name, label, spelledOctet, spelledAt, escape, ddd, leads?, coded-from?, coded?}
 use Rattle.strict.specs.Spelt.{signedNumber, string, stringChar, stringAt, bare?, quoted}
@@ -46,11 +47,13 @@ samples =
     ∷ record { line = replicate 65537 32; answer = ascii "refused 31 at 0" }
     -- messages of 4,096 and 4,097 octets
     ∷ record {
-      line = textWith "0" "0" "0" "1" "" "" "{\"EDNS\":{\"Version\":0,\"FLAGS\":[],\"RCODE\":\"NoError\",\"UDPSIZE\":1232,\"PADDING\":{\"LENGTH\":4069}}}";
+      line = textWith "0" "0" "0" "1" "" ""
+          "{\"EDNS\":{\"Version\":0,\"FLAGS\":[],\"RCODE\":\"NoError\",\"UDPSIZE\":1232,\"PADDING\":{\"LENGTH\":4069}}}";
       answer = ascii "00000000000000000000000100002904D0000000000FE9000C0FE5" ++ replicate 8138 48;
     }
     ∷ record {
-      line = textWith "0" "0" "0" "1" "" "" "{\"EDNS\":{\"Version\":0,\"FLAGS\":[],\"RCODE\":\"NoError\",\"UDPSIZE\":1232,\"PADDING\":{\"LENGTH\":4070}}}";
+      line = textWith "0" "0" "0" "1" "" ""
+          "{\"EDNS\":{\"Version\":0,\"FLAGS\":[],\"RCODE\":\"NoError\",\"UDPSIZE\":1232,\"PADDING\":{\"LENGTH\":4070}}}";
       answer = ascii "refused 23 at 0";
     }
     ∷ []

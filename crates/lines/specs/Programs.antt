@@ -11,7 +11,8 @@ use lib.Seq.{take-all, length-take-le}
 use Rattle.octets.specs.Overlay.{Wrote}
 use Rattle.strict.specs.Reading.{reading}
 use Rattle.hex_lines.specs.Hex.{unhexed}
-use Rattle.line_answers.specs.Answers.{refusalLine, asHex, answerText, withinLine, messageLine, textLine, textLeft, wireLine}
+use Rattle.line_answers.specs.Answers.{refusalLine, asHex, answerText, withinLine, messageLine, textLine, textLeft}
+use Rattle.line_answers.specs.Answers.{wireLine}
 use Rattle.line_answers.specs.Answers.{wireLeft, printed}
 use Rattle.lines.specs.Lines.{programOutput}
 use Rattle.lines.specs.Reading.{keptOutput, kept-output}
@@ -51,7 +52,8 @@ limited-kept most answer s = go (leb (length s) (most + 1)) refl
     over : (l : List ℕ) → most < length l → withinLine most answer l ≡ refusalLine 31 0
     over l h = rw (lt-ltb most (length l) h)
 
-    go : (b : Bool) → leb (length s) (most + 1) ≡ b → withinLine most answer (take (most + 1) s) ≡ withinLine most answer s
+    go : (b : Bool) → leb (length s) (most + 1) ≡ b
+        → withinLine most answer (take (most + 1) s) ≡ withinLine most answer s
     go true e = rw (take-all (most + 1) s (leb-true _ _ e))
     go false e =
         let h : most + 1 < length s = leb-false (length s) (most + 1) e in

@@ -49,7 +49,8 @@ module _ (answer : List ℕ → List ℕ) where
           → each (printed answer) (linesFrom (line ++ (c ∷ [])) s)
           ≡ printedOver answer (line ++ (c ∷ [])) s ++ printedLast answer (soFar (line ++ (c ∷ [])) s)
           → each (printed answer) (cond b (line ∷ linesFrom [] s) (linesFrom (line ++ (c ∷ [])) s))
-          ≡ cond b (printed answer line) [] ++ printedOver answer (cond b [] (line ++ (c ∷ []))) s ++ printedLast answer (soFar (cond b [] (line ++ (c ∷ []))) s)
+          ≡ cond b (printed answer line) [] ++ printedOver answer (cond b [] (line ++ (c ∷ []))) s
+          ++ printedLast answer (soFar (cond b [] (line ++ (c ∷ []))) s)
       go true p q = rw (p, append-assoc)
       go false p q = q
 
@@ -80,7 +81,8 @@ module _ (cap : ℕ) where
       go false e =
           let h : cap < length l = leb-false (length l) cap e in
           let n : length (take cap l) ≡ cap = length-take-le cap l (omega arith) in
-          take-append-le cap (take cap l) m (omega arith) ∙ take-take cap cap l (omega arith) ∙ sym (take-append-le cap l m (omega arith))
+          take-append-le cap (take cap l) m (omega arith) ∙ take-take cap cap l (omega arith)
+          ∙ sym (take-append-le cap l m (omega arith))
 
   pub kept-after : (line : List ℕ) (c : ℕ) → take cap (lineAfter (take cap line) c) ≡ take cap (lineAfter line c)
   unfolding lineAfter
@@ -102,7 +104,8 @@ keptOutput cap answer line [] = printedLast answer line
 keptOutput cap answer line (c ∷ s) = printedAt answer line c ++ keptOutput cap answer (take cap (lineAfter line c)) s
 
 -- it is what is to be printed, if the answer to a line depends on no more than that
-module _ (cap : ℕ) (answer : List ℕ → List ℕ) (same : (line : List ℕ) → answer (take cap line) ≡ answer line) (some : 0 < cap) where
+module _ (cap : ℕ) (answer : List ℕ → List ℕ) (same : (line : List ℕ)
+    → answer (take cap line) ≡ answer line) (some : 0 < cap) where
   kept-last : (line : List ℕ) → printedLast answer (take cap line) ≡ printedLast answer line
   unfolding printedLast printed
   kept-last [] = rw (take-nil cap)

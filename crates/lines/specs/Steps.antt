@@ -74,7 +74,8 @@ first-octets {b} {b′} {xs} {r} w h =
 
 -- ---- what is kept is the line after the octet, up to the buffer's length
 module _ {line : List ℕ} {used c : ℕ} (h : used ≤ length line) {line′ : List ℕ} {used′ : ℕ} where
-  pub kept-line : LineKept line used c line′ used′ → take used′ line′ ≡ take (length line) (lineAfter (take used line) c)
+  pub kept-line : LineKept line used c line′ used′
+      → take used′ line′ ≡ take (length line) (lineAfter (take used line) c)
   unfolding usedAfter bufferAfter lineAfter
   kept-line k = rw (k .count, k .buffer) (go (eqb c 10) (ltb used (length line)) refl)
     where

@@ -36,8 +36,8 @@ pub struct StepResult {
     pub size: usize,
 }
 
-// Takes one octet of the input: a newline answers the line and empties it, any other octet joins the line while there is
-// room.
+// Takes one octet of the input: a newline answers the line and empties it, any other octet joins the line while there
+// is room.
 pub fn step(
     program: Program,
     line: &mut [u8],

@@ -36,9 +36,24 @@ nameBoundaries =
     ∷ record { octets = labelOf 64 ++ hexed "00"; limit = message; at = 12; gives = fault reserved 12 }
     ∷ record { octets = hexed "80"; limit = message; at = 12; gives = fault reserved 12 }
     -- names of 255 and 256 octets; past the end comes before past 255
-    ∷ record { octets = labelOf 63 ++ labelOf 63 ++ labelOf 63 ++ labelOf 61 ++ hexed "00"; limit = message; at = 12; gives = ends 267 }
-    ∷ record { octets = labelOf 63 ++ labelOf 63 ++ labelOf 63 ++ labelOf 62 ++ hexed "00"; limit = message; at = 12; gives = fault long 204 }
-    ∷ record { octets = labelOf 63 ++ labelOf 63 ++ labelOf 63 ++ hexed "3E6161"; limit = message; at = 12; gives = fault cut 204 }
+    ∷ record {
+      octets = labelOf 63 ++ labelOf 63 ++ labelOf 63 ++ labelOf 61 ++ hexed "00";
+      limit = message;
+      at = 12;
+      gives = ends 267;
+    }
+    ∷ record {
+      octets = labelOf 63 ++ labelOf 63 ++ labelOf 63 ++ labelOf 62 ++ hexed "00";
+      limit = message;
+      at = 12;
+      gives = fault long 204;
+    }
+    ∷ record {
+      octets = labelOf 63 ++ labelOf 63 ++ labelOf 63 ++ hexed "3E6161";
+      limit = message;
+      at = 12;
+      gives = fault cut 204;
+    }
     -- a pointer without its second octet; targets 11, 12 and the name's own start
     ∷ record { octets = hexed "00C0"; limit = message; at = 13; gives = fault cut 13 }
     ∷ record { octets = hexed "00C00B"; limit = message; at = 13; gives = fault target 13 }
@@ -54,6 +69,7 @@ nameBoundaries =
     ∷ []
 
 -- every row, computed
-pub boundaries-hold : map (λ (b : NameBoundary). nameVerdict (nameAt (replicate 12 0 ++ b .octets) (b .limit) (b .at))) nameBoundaries ≡ map (λ (b : NameBoundary). b .gives) nameBoundaries
+pub boundaries-hold : map (λ (b : NameBoundary). nameVerdict (nameAt (replicate 12 0 ++ b .octets) (b .limit) (b .at)))
+    nameBoundaries ≡ map (λ (b : NameBoundary). b .gives) nameBoundaries
 unfolding nameBoundaries walk nameFrom
 boundaries-hold = refl

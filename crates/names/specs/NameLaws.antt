@@ -12,7 +12,8 @@ use Rattle.octets.specs.Lists.{all, All, octet?, Octets}
 use Rattle.octets.specs.Bits.{both, and-left, and-right, All-append, octets-in, octets-test}
 use Rattle.octets.specs.Fields.{drop-past, take-here, getD-here, drop-one}
 use Rattle.names.specs.Name.{Name, nameForm, label?, name?, reserved, target, long, Fault}
-use Rattle.names.specs.Walk.{part, Limit, message, endOf, past, Named, named, faulty, labelled, resumed, targetAt, allowed?, walk, nameFrom}
+use Rattle.names.specs.Walk.{part, Limit, message, endOf, past, Named, named, faulty, labelled, resumed, targetAt}
+use Rattle.names.specs.Walk.{allowed?, walk, nameFrom}
 
 -- ---- equal answers
 -- the name of an answer
@@ -43,12 +44,14 @@ pub faulty≢named : {fault : Fault} {n : Name} {i : ℕ} → faulty fault ≡ n
 faulty≢named e = subst Good (sym e) tt
 
 -- the answer after a label
-labelled-back : (l : List ℕ) (w : Named) (n : Name) (next : ℕ) → labelled l w ≡ named n next → (m : Name) × (w ≡ named m next) × (l ∷ m ≡ n)
+labelled-back : (l : List ℕ) (w : Named) (n : Name) (next : ℕ) → labelled l w ≡ named n next
+    → (m : Name) × (w ≡ named m next) × (l ∷ m ≡ n)
 labelled-back l (named m i) n next e = (m, ap (named m) (named-next e), named-name e)
 labelled-back l (faulty fault) n next e = absurd (faulty≢named e)
 
 -- the answer after a pointer
-resumed-back : (here : ℕ) (w : Named) (n : Name) (next : ℕ) → resumed here w ≡ named n next → (other : ℕ) × (w ≡ named n other) × (here ≡ next)
+resumed-back : (here : ℕ) (w : Named) (n : Name) (next : ℕ) → resumed here w ≡ named n next
+    → (other : ℕ) × (w ≡ named n other) × (here ≡ next)
 resumed-back here (named m i) n next e = (i, ap (λ (k : Name). named k i) (named-name e), named-next e)
 resumed-back here (faulty fault) n next e = absurd (faulty≢named e)
 
@@ -66,8 +69,10 @@ module _ (s : List ℕ) (P : Limit → ℕ → ℕ → ℕ → Name → ℕ → 
   -- at a label
   abbrev pub Label : Type 0
   Label =
-      (limit : Limit) (run total at x : ℕ) → x ≡ getD s at 0 → 1 ≤ x → x ≤ 63 → at + (x + 1) ≤ endOf s limit → total + (x + 1) + 1 ≤ 255
-      → (n : Name) (next : ℕ) → P limit run (total + (x + 1)) (at + (x + 1)) n next → P limit run total at (part s (at + 1) x ∷ n) next
+      (limit : Limit) (run total at x : ℕ) → x ≡ getD s at 0 → 1 ≤ x → x ≤ 63 → at + (x + 1) ≤ endOf s limit
+      → total + (x + 1) + 1 ≤ 255
+      → (n : Name) (next : ℕ) → P limit run (total + (x + 1)) (at + (x + 1)) n next
+      → P limit run total at (part s (at + 1) x ∷ n) next
 
   -- at a pointer
   abbrev pub Jump : Type 0
@@ -81,8 +86,10 @@ module _ (s : List ℕ) (P : Limit → ℕ → ℕ → ℕ → Name → ℕ → 
         → ((m : Name) (i : ℕ) → here ≡ named m i → P limit run (total + (getD s at 0 + 1)) (at + (getD s at 0 + 1)) m i)
         → ((m : Name) (i : ℕ) → there ≡ named m i → P message (targetAt s at) total (targetAt s at) m i)
         → (b c d f g h i : Bool)
-        → leb (endOf s limit) at ≡ b → eqb (getD s at 0) 0 ≡ c → leb (getD s at 0) 63 ≡ d → ltb (endOf s limit) (at + (getD s at 0 + 1)) ≡ f
-        → ltb 255 (total + (getD s at 0 + 1) + 1) ≡ g → leb (endOf s limit) (at + 1) ≡ h → allowed? run (targetAt s at) ≡ i
+        → leb (endOf s limit) at ≡ b → eqb (getD s at 0) 0 ≡ c → leb (getD s at 0) 63 ≡ d
+        → ltb (endOf s limit) (at + (getD s at 0 + 1)) ≡ f
+        → ltb 255 (total + (getD s at 0 + 1) + 1) ≡ g → leb (endOf s limit) (at + 1) ≡ h
+        → allowed? run (targetAt s at) ≡ i
         → (j : Bool)
         → cond b (faulty (past limit at))
         (cond c (named [] (at + 1))
@@ -94,33 +101,45 @@ module _ (s : List ℕ) (P : Limit → ℕ → ℕ → ℕ → Name → ℕ → 
         (cond i (resumed (at + 2) there) (faulty (record { kind = target; octet = at })))))))
         ≡ named n next
         → P limit run total at n next
-    by-tests limit run total at n next here there l k true c d f g h i eb ec ed ef eg eh ei j e = absurd (faulty≢named e)
+    by-tests limit run total at n next here there l k true c d f g h i eb ec ed ef eg eh ei j e =
+        absurd (faulty≢named e)
     by-tests limit run total at n next here there l k false true d f g h i eb ec ed ef eg eh ei j e =
         subst (λ (m : Name). P limit run total at m next) (named-name e)
         (subst (P limit run total at []) (named-next e) (root limit run total at (leb-false _ _ eb) (eqb-true _ _ ec)))
-    by-tests limit run total at n next here there l k false false true true g h i eb ec ed ef eg eh ei j e = absurd (faulty≢named e)
-    by-tests limit run total at n next here there l k false false true false true h i eb ec ed ef eg eh ei j e = absurd (faulty≢named e)
+    by-tests limit run total at n next here there l k false false true true g h i eb ec ed ef eg eh ei j e =
+        absurd (faulty≢named e)
+    by-tests limit run total at n next here there l k false false true false true h i eb ec ed ef eg eh ei j e =
+        absurd (faulty≢named e)
     by-tests limit run total at n next here there l k false false true false false h i eb ec ed ef eg eh ei j e =
         let (m, p, q) = labelled-back (part s (at + 1) (getD s at 0)) here n next e in
         let z = eqb-false (getD s at 0) 0 ec in
         subst (λ (o : Name). P limit run total at o next) q
-        (label limit run total at (getD s at 0) refl (positive _ z) (leb-true _ _ ed) (ltb-false _ _ ef) (ltb-false _ _ eg) m next (l m next p))
-    by-tests limit run total at n next here there l k false false false f g h i eb ec ed ef eg eh ei true e = absurd (faulty≢named e)
-    by-tests limit run total at n next here there l k false false false f g true i eb ec ed ef eg eh ei false e = absurd (faulty≢named e)
+        (label limit run total at (getD s at 0) refl (positive _ z) (leb-true _ _ ed) (ltb-false _ _ ef)
+        (ltb-false _ _ eg) m next (l m next p))
+    by-tests limit run total at n next here there l k false false false f g h i eb ec ed ef eg eh ei true e =
+        absurd (faulty≢named e)
+    by-tests limit run total at n next here there l k false false false f g true i eb ec ed ef eg eh ei false e =
+        absurd (faulty≢named e)
     by-tests limit run total at n next here there l k false false false f g false true eb ec ed ef eg eh ei false e =
         let (other, p, q) = resumed-back (at + 2) there n next e in
         subst (P limit run total at n) q
-        (jump limit run total at (targetAt s at) (leb-false _ _ eh) (ltb→lt _ _ (and-right (leb 12 (targetAt s at)) (ltb (targetAt s at) run) (subst T (sym ei) tt))) n other (k n other p))
-    by-tests limit run total at n next here there l k false false false f g false false eb ec ed ef eg eh ei false e = absurd (faulty≢named e)
+        (jump limit run total at (targetAt s at) (leb-false _ _ eh)
+        (ltb→lt _ _ (and-right (leb 12 (targetAt s at)) (ltb (targetAt s at) run) (subst T (sym ei) tt))) n other
+        (k n other p))
+    by-tests limit run total at n next here there l k false false false f g false false eb ec ed ef eg eh ei false e =
+        absurd (faulty≢named e)
 
     -- what is shown at the root octet, at a label and at a pointer holds of every name that is read
-    pub walk-holds : (steps : ℕ) (limit : Limit) (run total at : ℕ) (n : Name) (next : ℕ) → walk steps s limit run total at ≡ named n next → P limit run total at n next
+    pub walk-holds : (steps : ℕ) (limit : Limit) (run total at : ℕ) (n : Name) (next : ℕ)
+        → walk steps s limit run total at ≡ named n next → P limit run total at n next
     unfolding walk
     walk-holds zero limit run total at n next e = absurd (faulty≢named e)
     walk-holds (suc steps) limit run total at n next e =
         by-tests limit run total at n next
-        (walk steps s limit run (total + (getD s at 0 + 1)) (at + (getD s at 0 + 1))) (walk steps s message (targetAt s at) total (targetAt s at))
-        (walk-holds steps limit run (total + (getD s at 0 + 1)) (at + (getD s at 0 + 1))) (walk-holds steps message (targetAt s at) total (targetAt s at))
+        (walk steps s limit run (total + (getD s at 0 + 1)) (at + (getD s at 0 + 1)))
+        (walk steps s message (targetAt s at) total (targetAt s at))
+        (walk-holds steps limit run (total + (getD s at 0 + 1)) (at + (getD s at 0 + 1)))
+        (walk-holds steps message (targetAt s at) total (targetAt s at))
         _ _ _ _ _ _ _ refl refl refl refl refl refl refl (ltb (getD s at 0) 192) e
 
 -- ---- the form
@@ -153,12 +172,16 @@ labels-name n h k = both (all label? n) (leb (length (nameForm n)) 255) h (le→
 -- a label's parts
 pub label-some : (l : List ℕ) → T (label? l) → 1 ≤ length l
 unfolding label?
-label-some l h = leb→le 1 (length l) (and-left (leb 1 (length l)) (leb (length l) 63) (and-left (leb 1 (length l) && leb (length l) 63) (all octet? l) h))
+label-some l h = leb→le 1 (length l)
+    (and-left (leb 1 (length l)) (leb (length l) 63)
+    (and-left (leb 1 (length l) && leb (length l) 63) (all octet? l) h))
 
 -- a valid label has at most 63 octets
 pub label-short : (l : List ℕ) → T (label? l) → length l ≤ 63
 unfolding label?
-label-short l h = leb→le (length l) 63 (and-right (leb 1 (length l)) (leb (length l) 63) (and-left (leb 1 (length l) && leb (length l) 63) (all octet? l) h))
+label-short l h = leb→le (length l) 63
+    (and-right (leb 1 (length l)) (leb (length l) 63)
+    (and-left (leb 1 (length l) && leb (length l) 63) (all octet? l) h))
 
 -- a valid label is octets
 pub label-octets : (l : List ℕ) → T (label? l) → Octets l
@@ -168,7 +191,8 @@ label-octets l h = octets-in l (and-right (leb 1 (length l) && leb (length l) 63
 -- 1 to 63 octets are a valid label
 pub label-test : (l : List ℕ) → 1 ≤ length l → length l ≤ 63 → Octets l → T (label? l)
 unfolding label?
-label-test l h k o = both (leb 1 (length l) && leb (length l) 63) (all octet? l) (both (leb 1 (length l)) (leb (length l) 63) (le→leb 1 (length l) h) (le→leb (length l) 63 k)) (octets-test l o)
+label-test l h k o = both (leb 1 (length l) && leb (length l) 63) (all octet? l)
+    (both (leb 1 (length l)) (leb (length l) 63) (le→leb 1 (length l) h) (le→leb (length l) 63 k)) (octets-test l o)
 
 -- labels of 1 to 63 elements, octets or not
 abbrev pub Sized : Name → Type 0
@@ -192,8 +216,11 @@ unfolding nameForm
 labels-octets [] h = (omega arith, tt)
 labels-octets (l ∷ n) h =
     let a = and-left (label? l) (all label? n) h in
-    let b = label-short l a in
-    (omega arith, All-append (λ x. x < 256) l (nameForm n) (label-octets l a) (labels-octets n (and-right (label? l) (all label? n) h)))
+    let b = label-short l a in (
+      omega arith,
+      All-append (λ x. x < 256) l (nameForm n) (label-octets l a)
+          (labels-octets n (and-right (label? l) (all label? n) h)),
+    )
 
 -- a valid name's form is octets
 pub form-octets : (n : Name) → T (name? n) → Octets (nameForm n)
@@ -228,18 +255,22 @@ walk-back : (n : Name) (steps : ℕ) (s r : List ℕ) (limit : Limit) (run total
     → walk steps s limit run total at ≡ named n (at + length (nameForm n))
 unfolding walk nameForm
 walk-back [] zero s r limit run total at v b f e h = absurd (omega arith)
-walk-back [] (suc steps) s r limit run total at v b f e h = rw (lt-leb (endOf s limit) at (omega arith), getD-here s r 0 at e)
+walk-back [] (suc steps) s r limit run total at v b f e h =
+    rw (lt-leb (endOf s limit) at (omega arith), getD-here s r 0 at e)
 walk-back (l ∷ n) zero s r limit run total at v b f e h = absurd (omega arith)
 walk-back (l ∷ n) (suc steps) s r limit run total at v b f e h =
     let long = length-append l (nameForm n) in
     let some = v .0 in
     let few = v .1 in
     let more = form-some n in
-    let behind : drop (at + 1) s ≡ l ++ (nameForm n ++ r) = drop-past s (length l ∷ []) _ at e ∙ append-assoc l (nameForm n) r in
+    let behind : drop (at + 1) s ≡ l ++ (nameForm n ++ r) = drop-past s (length l ∷ []) _ at e
+    ∙ append-assoc l (nameForm n) r in
     let place : at + 1 + length l ≡ at + (length l + 1) = omega arith in
-    let after : drop (at + (length l + 1)) s ≡ nameForm n ++ r = ap (λ (i : ℕ). drop i s) (sym place) ∙ drop-past s l (nameForm n ++ r) (at + 1) behind in
+    let after : drop (at + (length l + 1)) s ≡ nameForm n ++ r = ap (λ (i : ℕ). drop i s) (sym place)
+    ∙ drop-past s l (nameForm n ++ r) (at + 1) behind in
     let place′ : at + (length l + 1) + length (nameForm n) ≡ at + suc (length (l ++ nameForm n)) = omega arith in
-    let rest = walk-back n steps s r limit run (total + (length l + 1)) (at + (length l + 1)) (v .2) (omega arith) (omega arith) after (omega arith) in
+    let rest = walk-back n steps s r limit run (total + (length l + 1)) (at + (length l + 1)) (v .2) (omega arith)
+    (omega arith) after (omega arith) in
     rw (
       lt-leb (endOf s limit) at (omega arith),
       getD-here s _ (length l) at e,
@@ -251,10 +282,12 @@ walk-back (l ∷ n) (suc steps) s r limit run total at v b f e h =
     (ap₂ labelled (take-here s l (nameForm n ++ r) (at + 1) behind) rest ∙ ap (named (l ∷ n)) place′)
 
 -- where the form of a name is, that name is read
-pub read-back-sized : (s r : List ℕ) (limit : Limit) (run at : ℕ) (n : Name) → Sized n → length (nameForm n) ≤ 255 → drop at s ≡ nameForm n ++ r
+pub read-back-sized : (s r : List ℕ) (limit : Limit) (run at : ℕ) (n : Name) → Sized n → length (nameForm n) ≤ 255
+    → drop at s ≡ nameForm n ++ r
     → at + length (nameForm n) ≤ endOf s limit → nameFrom s limit run at ≡ named n (at + length (nameForm n))
 unfolding nameFrom
-read-back-sized s r limit run at n v b e h = walk-back n (suc (run + 255)) s r limit run 0 at v (omega arith) (omega arith) e h
+read-back-sized s r limit run at n v b e h =
+    walk-back n (suc (run + 255)) s r limit run 0 at v (omega arith) (omega arith) e h
 
 -- where a valid name's form is, that name is read
 pub read-back : (s r : List ℕ) (limit : Limit) (run at : ℕ) (n : Name) → T (name? n) → drop at s ≡ nameForm n ++ r
@@ -265,7 +298,8 @@ read-back s r limit run at n v e h = read-back-sized s r limit run at n (name-si
 -- what is shown of each name
 abbrev Within : List ℕ → Limit → ℕ → ℕ → ℕ → Name → ℕ → Type 0
 Within s limit run total at n next =
-    endOf s limit ≤ length s → total + 1 ≤ 255 → Sized n × (total + length (nameForm n) ≤ 255) × (at < next) × (next ≤ endOf s limit)
+    endOf s limit ≤ length s → total + 1 ≤ 255 → Sized n × (total + length (nameForm n) ≤ 255) × (at < next)
+    × (next ≤ endOf s limit)
 
 -- the walk from any offset on
 walk-sized : (s : List ℕ) (steps : ℕ) (limit : Limit) (run total at : ℕ) (n : Name) (next : ℕ)
@@ -283,7 +317,8 @@ walk-sized s = walk-holds s (Within s)
 
 -- a name read from its start on
 pub read-sized : (s : List ℕ) (limit : Limit) (run at : ℕ) (n : Name) (next : ℕ) → endOf s limit ≤ length s
-    → nameFrom s limit run at ≡ named n next → Sized n × (length (nameForm n) ≤ 255) × (at < next) × (next ≤ endOf s limit)
+    → nameFrom s limit run at ≡ named n next
+    → Sized n × (length (nameForm n) ≤ 255) × (at < next) × (next ≤ endOf s limit)
 unfolding nameFrom
 read-sized s limit run at n next h e =
     let w = walk-sized s (suc (run + 255)) limit run 0 at n next e h (omega arith) in
@@ -301,15 +336,19 @@ walk-octets s o = walk-holds s (λ limit run total at n next. All Octets n)
 -- labels of those sizes, of octets, are valid
 labels-test : (n : Name) → Sized n → All Octets n → T (all label? n)
 labels-test [] h o = tt
-labels-test (l ∷ n) h o = both (label? l) (all label? n) (label-test l (h .0) (h .1) (o .0)) (labels-test n (h .2) (o .1))
+labels-test (l ∷ n) h o =
+    both (label? l) (all label? n) (label-test l (h .0) (h .1) (o .0)) (labels-test n (h .2) (o .1))
 
 -- a name that is read from octets is valid, and ends after its start and within its limit
 pub read-valid : (s : List ℕ) (limit : Limit) (run at : ℕ) (n : Name) (next : ℕ) → Octets s → endOf s limit ≤ length s
     → nameFrom s limit run at ≡ named n next → T (name? n) × (at < next) × (next ≤ endOf s limit)
 unfolding nameFrom
 read-valid s limit run at n next o h e =
-    let w = read-sized s limit run at n next h e in
-    (labels-name n (labels-test n (w .0) (walk-octets s o (suc (run + 255)) limit run 0 at n next e)) (w .1), w .2, w .3)
+    let w = read-sized s limit run at n next h e in (
+      labels-name n (labels-test n (w .0) (walk-octets s o (suc (run + 255)) limit run 0 at n next e)) (w .1),
+      w .2,
+      w .3,
+    )
 
 -- ---- with no pointer allowed the octets read are the form
 -- what is shown of each name
@@ -334,7 +373,8 @@ walk-whole s = walk-holds s (Whole s)
     let f = form-long l n in
     let place : at + 1 + x ≡ at + (x + 1) = omega arith in
     let tail : drop (at + 1) s ≡ l ++ nameForm n ++ drop next s =
-    drop-part s (at + 1) x ∙ ap (λ (i : ℕ). l ++ drop i s) place ∙ ap (λ (m : List ℕ). l ++ m) (w .0) ∙ sym (append-assoc l (nameForm n) (drop next s)) in
+    drop-part s (at + 1) x ∙ ap (λ (i : ℕ). l ++ drop i s) place ∙ ap (λ (m : List ℕ). l ++ m) (w .0)
+    ∙ sym (append-assoc l (nameForm n) (drop next s)) in
     (drop-one s at (omega arith) ∙ ap₂ (λ (y : ℕ) (m : List ℕ). y ∷ m) (sym e ∙ sym a) tail, omega (arith, w .1)))
     (λ limit run total at goal h g n next v k z. absurd (omega arith))
 
@@ -359,7 +399,8 @@ cond-same true x x′ y y′ h k = h refl
 cond-same false x x′ y y′ h k = k refl
 
 -- the answer is the same for any two bounds above what is left: `run`, and the octets that a name may still have
-pub walk-steps : (f g : ℕ) (s : List ℕ) (limit : Limit) (run total at : ℕ) → run + (255 - total) < f → run + (255 - total) < g
+pub walk-steps : (f g : ℕ) (s : List ℕ) (limit : Limit) (run total at : ℕ) → run + (255 - total) < f
+    → run + (255 - total) < g
     → walk f s limit run total at ≡ walk g s limit run total at
 unfolding walk
 walk-steps zero g s limit run total at h k = absurd (omega arith)
@@ -371,16 +412,19 @@ walk-steps (suc f) (suc g) s limit run total at h k =
     (λ c. cond-same (ltb (endOf s limit) (at + (getD s at 0 + 1))) _ _ _ _ (λ d. refl) λ d.
     cond-same (ltb 255 (total + (getD s at 0 + 1) + 1)) _ _ _ _ (λ i. refl) λ i.
     let w = ltb-false 255 (total + (getD s at 0 + 1) + 1) i in
-    ap (labelled (part s (at + 1) (getD s at 0))) (walk-steps f g s limit run (total + (getD s at 0 + 1)) (at + (getD s at 0 + 1)) (omega arith) (omega arith)))
+    ap (labelled (part s (at + 1) (getD s at 0)))
+    (walk-steps f g s limit run (total + (getD s at 0 + 1)) (at + (getD s at 0 + 1)) (omega arith) (omega arith)))
     λ c. cond-same (ltb (getD s at 0) 192) _ _ _ _ (λ d. refl) λ d.
     cond-same (leb (endOf s limit) (at + 1)) _ _ _ _ (λ i. refl) λ i.
     cond-same (allowed? run (targetAt s at)) _ _ _ _
     (λ j.
-    let w = ltb→lt (targetAt s at) run (and-right (leb 12 (targetAt s at)) (ltb (targetAt s at) run) (subst T (sym j) tt)) in
+    let w = ltb→lt (targetAt s at) run
+    (and-right (leb 12 (targetAt s at)) (ltb (targetAt s at) run) (subst T (sym j) tt)) in
     ap (resumed (at + 2)) (walk-steps f g s message (targetAt s at) total (targetAt s at) (omega arith) (omega arith)))
     λ j. refl
 
 -- any bound above `run + 255` gives what `nameFrom` gives
-pub name-steps : (f : ℕ) (s : List ℕ) (limit : Limit) (run at : ℕ) → run + 255 < f → walk f s limit run 0 at ≡ nameFrom s limit run at
+pub name-steps : (f : ℕ) (s : List ℕ) (limit : Limit) (run at : ℕ) → run + 255 < f
+    → walk f s limit run 0 at ≡ nameFrom s limit run at
 unfolding nameFrom
 name-steps f s limit run at h = walk-steps f (suc (run + 255)) s limit run 0 at (omega arith) (omega arith)

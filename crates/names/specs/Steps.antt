@@ -8,7 +8,8 @@ use borrow.Author.Tests.{le-leb, lt-leb, le-ltb, lt-ltb, ne-eqb, leb-true, leb-f
 use lib.Dec.{leb, ltb}
 use lib.ListN.{getD}
 use Rattle.names.specs.Name.{reserved, target, long, Fault}
-use Rattle.names.specs.Walk.{part, Limit, message, endOf, past, Named, named, faulty, labelled, resumed, walk, nameFrom}
+use Rattle.names.specs.Walk.{part, Limit, message, endOf, past, Named, named, faulty, labelled, resumed, walk}
+use Rattle.names.specs.Walk.{nameFrom}
 use Rattle.names.specs.NameLaws.{walk-steps}
 
 -- the walk from the length octet at `at` on, after labels of `total` octets, with a number of steps that is never met

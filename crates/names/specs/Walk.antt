@@ -10,7 +10,8 @@ use Rattle.names.specs.Name.{Name, cut, reserved, target, long, short, F
 abbrev pub part : List ℕ → ℕ → ℕ → List ℕ
 part s at n = take n (drop at s)
 
--- where the octets end for a name: at the message's end, or, inside RDATA and before the first jump, at the end of RDATA
+-- where the octets end for a name: at the message's end, or, inside RDATA and before the first jump, at the end of
+-- RDATA
 pub data Limit : Type 0 where
   message : Limit
   -- RDATA's first octet, and the offset after its last
@@ -48,9 +49,9 @@ targetAt s at = (getD s at 0 - 192) * 256 + getD s (at + 1) 0
 abbrev pub allowed? : ℕ → ℕ → Bool
 allowed? run goal = leb 12 goal && ltb goal run
 
--- The walk from the length octet at an offset on: `walk steps s limit run total at`. `run` is where the present run of labels
--- began, `total` the octets of the labels so far. `steps` bounds the number of steps: each adds to `total`, which stays below
--- 255, or lowers `run`; so the bound of `nameFrom` is never met (`walk-steps` of NameLaws).
+-- The walk from the length octet at an offset on: `walk steps s limit run total at`. `run` is where the present run of
+-- labels began, `total` the octets of the labels so far. `steps` bounds the number of steps: each adds to `total`,
+-- which stays below 255, or lowers `run`; so the bound of `nameFrom` is never met (`walk-steps` of NameLaws).
 -- In order: the length octet past the end; 0 ends the name; a label past the end, then a name over 255;
 -- top bits 01 and 10; a pointer's second octet past the end, then its target.
 unfoldable pub walk : ℕ → List ℕ → Limit → ℕ → ℕ → ℕ → Named
@@ -69,8 +70,8 @@ walk (suc steps) s limit run total at =
     (cond (leb (endOf s limit) (at + 1)) (faulty (past limit at))
     (cond (allowed? run goal) jump (faulty (record { kind = target; octet = at })))))))
 
--- A name read from an offset, `nameFrom s limit run at`, where a first pointer must go below `run`: below the name's own start
--- in a message; nowhere, with run 0, where no pointer is taken.
+-- A name read from an offset, `nameFrom s limit run at`, where a first pointer must go below `run`: below the name's
+-- own start in a message; nowhere, with run 0, where no pointer is taken.
 unfoldable pub nameFrom : List ℕ → Limit → ℕ → ℕ → Named
 nameFrom s limit run at = walk (suc (run + 255)) s limit run 0 at
 

@@ -15,7 +15,8 @@ use Rattle.names.specs.Name.{Name, nameForm}
 use Rattle.names.specs.Walk.{part, endOf, named, faulty, labelled, resumed, nameAt}
 use Rattle.names.specs.Walk as walk
 use Rattle.names.specs.NameLaws.{part-long, read-sized}
-use Rattle.names.specs.Steps.{walkOn, name-walk, LengthOctet, step-past, step-root, step-cut, step-long, step-label, step-reserved, step-half, step-low, step-far, step-jump}
+use Rattle.names.specs.Steps.{walkOn, name-walk, LengthOctet, step-past, step-root, step-cut, step-long}
+use Rattle.names.specs.Steps.{step-label, step-reserved, step-half, step-low, step-far, step-jump}
 use Rattle.names.specs.Answer.{limitOf, faultOf, pastOf, failed, nameRead}
 use Rattle.names.specs.declared.Fault.{Fault}
 use Rattle.names.specs.declared.Fault.the-variants.{Reserved, Target, Long}
@@ -134,7 +135,8 @@ pub record LabelAt (s : List ℕ) (limit : Limit) (at end x : ℕ) : Type 0 wher
   pub few : x ≤ 63
 
 -- one octet more, within the end
-pub keep-more : {s : List ℕ} {limit : Limit} {at end x : ℕ} → LabelAt s limit at end x → (k : ℕ) {more : ℕ} {b b₁ b₂ : List ℕ}
+pub keep-more : {s : List ℕ} {limit : Limit} {at end x : ℕ} → LabelAt s limit at end x
+    → (k : ℕ) {more : ℕ} {b b₁ b₂ : List ℕ}
     {to r₁ r₂ : ℕ} → at + 1 + k < end → KeptOctets more b to (part s (at + 1) k) b₁ r₁
     → KeptOctets more b₁ r₁ (getD s (at + 1 + k) 0 ∷ []) b₂ r₂ → KeptOctets more b to (part s (at + 1) (k + 1)) b₂ r₂
 keep-more {s} {at = at} l k h p q =

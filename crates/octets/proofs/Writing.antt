@@ -33,10 +33,12 @@ pub decimal-length : (n : ℕ) → n < 2 ^ 32 → length (decimal n) ≤ 10
 decimal-length n h = decimal-short 9 n (omega arith)
 
 -- a number of one digit, and of more
-pub wrote-digit : {n : ℕ} {b b′ : List ℕ} {at r : ℕ} → n < 10 → Wrote b at ((48 + n) ∷ []) b′ r → Wrote b at (decimal n) b′ r
+pub wrote-digit : {n : ℕ} {b b′ : List ℕ} {at r : ℕ} → n < 10 → Wrote b at ((48 + n) ∷ []) b′ r
+    → Wrote b at (decimal n) b′ r
 wrote-digit {n} h w = rw (decimal-digit n h) w
 
-pub wrote-digits : {n : ℕ} {b b₁ b₂ : List ℕ} {at r₁ r₂ : ℕ} → 10 ≤ n → Wrote b at (decimal (n / 10)) b₁ r₁ → Wrote b₁ r₁ ((48 + n % 10) ∷ []) b₂ r₂ → Wrote b at (decimal n) b₂ r₂
+pub wrote-digits : {n : ℕ} {b b₁ b₂ : List ℕ} {at r₁ r₂ : ℕ} → 10 ≤ n → Wrote b at (decimal (n / 10)) b₁ r₁
+    → Wrote b₁ r₁ ((48 + n % 10) ∷ []) b₂ r₂ → Wrote b at (decimal n) b₂ r₂
 wrote-digits {n} h p q = rw (decimal-step n h) (then p q)
 
 -- ---- hexadecimal
@@ -59,7 +61,8 @@ each-hex-length [] = refl
 each-hex-length (x ∷ l) = rw length-append (omega (arith, each-hex-length l))
 
 -- ---- numbers of 16 and 32 bits
-pub wrote-two : (n : ℕ) {b b₁ b₂ : List ℕ} {at r₁ r₂ : ℕ} → n < 65536 → Wrote b at (n / 256 ∷ []) b₁ r₁ → Wrote b₁ r₁ (n % 256 ∷ []) b₂ r₂ → Wrote b at (two n) b₂ r₂
+pub wrote-two : (n : ℕ) {b b₁ b₂ : List ℕ} {at r₁ r₂ : ℕ} → n < 65536 → Wrote b at (n / 256 ∷ []) b₁ r₁
+    → Wrote b₁ r₁ (n % 256 ∷ []) b₂ r₂ → Wrote b at (two n) b₂ r₂
 wrote-two n h p q =
     let e : n / 256 % 256 ≡ n / 256 = omega arith in
     rw e (then p q)

@@ -49,23 +49,27 @@ written left = take (reported (left .answer)) (left .buffer)
 -- ---- what follows of it, for any output
 module _ (noRoom : ℕ) where
   -- given room, the output is what is written
-  pub delivered-room : (l b : List ℕ) → length l ≤ length b → (delivered noRoom (output l) b .answer ≡ success (length l)) × (written (delivered noRoom (output l) b) ≡ l)
+  pub delivered-room : (l b : List ℕ) → length l ≤ length b
+      → (delivered noRoom (output l) b .answer ≡ success (length l)) × (written (delivered noRoom (output l) b) ≡ l)
   unfolding delivered
   delivered-room l b h = rw (le-leb _ _ h) (refl, take-append-seam l (drop (length l) b))
 
   -- without room it is the refusal, and nothing changes
-  pub delivered-none : (l b : List ℕ) → length b < length l → delivered noRoom (output l) b ≡ record { answer = refusal noRoom 0; buffer = b }
+  pub delivered-none : (l b : List ℕ) → length b < length l
+      → delivered noRoom (output l) b ≡ record { answer = refusal noRoom 0; buffer = b }
   unfolding delivered
   delivered-none l b h = rw (lt-leb _ _ h)
 
   -- answer and octets written depend on the buffer's length, and not on what it held
   pub delivered-same : (o : Output) (b b′ : List ℕ) → length b ≡ length b′
-      → (delivered noRoom o b .answer ≡ delivered noRoom o b′ .answer) × (written (delivered noRoom o b) ≡ written (delivered noRoom o b′))
+      → (delivered noRoom o b .answer ≡ delivered noRoom o b′ .answer)
+      × (written (delivered noRoom o b) ≡ written (delivered noRoom o b′))
   unfolding delivered
   delivered-same (output l) b b′ e = rw e (go (leb (length l) (length b′)))
     where
       at : Bool → List ℕ → Result
-      at t b = cond t (record { answer = success (length l); buffer = overwritten l b }) (record { answer = refusal noRoom 0; buffer = b })
+      at t b = cond t (record { answer = success (length l); buffer = overwritten l b })
+          (record { answer = refusal noRoom 0; buffer = b })
 
       go : (t : Bool) → (at t b .answer ≡ at t b′ .answer) × (written (at t b) ≡ written (at t b′))
       go true = (refl, take-append-seam l (drop (length l) b) ∙ sym (take-append-seam l (drop (length l) b′)))
@@ -74,15 +78,19 @@ module _ (noRoom : ℕ) where
 
   -- the octets after the reported length stay, all octets on a refusal; and the buffer keeps its length
   pub delivered-stays : (o : Output) (b : List ℕ)
-      → (drop (reported (delivered noRoom o b .answer)) (delivered noRoom o b .buffer) ≡ drop (reported (delivered noRoom o b .answer)) b)
+      → (drop (reported (delivered noRoom o b .answer)) (delivered noRoom o b .buffer) ≡ drop
+      (reported (delivered noRoom o b .answer)) b)
       × (length (delivered noRoom o b .buffer) ≡ length b)
   unfolding delivered
   delivered-stays (output l) b = go (leb (length l) (length b)) refl
     where
       at : Bool → Result
-      at t = cond t (record { answer = success (length l); buffer = overwritten l b }) (record { answer = refusal noRoom 0; buffer = b })
+      at t = cond t (record { answer = success (length l); buffer = overwritten l b })
+          (record { answer = refusal noRoom 0; buffer = b })
 
-      go : (t : Bool) → leb (length l) (length b) ≡ t → (drop (reported (at t .answer)) (at t .buffer) ≡ drop (reported (at t .answer)) b) × (length (at t .buffer) ≡ length b)
+      go : (t : Bool) → leb (length l) (length b) ≡ t
+          → (drop (reported (at t .answer)) (at t .buffer) ≡ drop (reported (at t .answer)) b)
+          × (length (at t .buffer) ≡ length b)
       go true e =
           let h : length l ≤ length b = leb-true _ _ e in
           let n : length l + length (drop (length l) b) ≡ length b = omega (arith, length-drop (length l) b) in

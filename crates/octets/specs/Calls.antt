@@ -38,7 +38,8 @@ writtenBy c = written (resultOf c)
 
 -- ---- an output, and the buffer b
 module _ (noRoom : ℕ) (b : List ℕ) where
-  pub gives-refusal : (number place : ℕ) → Gives (delivered noRoom (answer.refused number place) b) (Refused number place) b
+  pub gives-refusal : (number place : ℕ)
+      → Gives (delivered noRoom (answer.refused number place) b) (Refused number place) b
   unfolding delivered
   gives-refusal number place = record { answers = refl; leaves = refl }
 
@@ -48,7 +49,8 @@ module _ (noRoom : ℕ) (b : List ℕ) where
   gives-none l h = record { answers = rw (lt-leb _ _ h); leaves = rw (lt-leb _ _ h) }
 
   -- it was written where it fits
-  pub gives-written : (l : List ℕ) {b′ : List ℕ} {n r : ℕ} → Wrote b 0 l b′ r → n ≡ length l → n ≤ length b → Gives (delivered noRoom (output l) b) (Length n) b′
+  pub gives-written : (l : List ℕ) {b′ : List ℕ} {n r : ℕ} → Wrote b 0 l b′ r → n ≡ length l → n ≤ length b
+      → Gives (delivered noRoom (output l) b) (Length n) b′
   unfolding delivered
   gives-written l {b′} {n} w e h =
       let k : length l ≤ length b = omega arith in

@@ -2,7 +2,8 @@
 use mathlib.Core.Path.{_≡_, refl, sym, _∙_, ap, ap₂, subst}
 use mathlib.Core.Logic.{_↔_, _⊎_, inl, inr}
 use mathlib.Core.Bool.{Bool, true, false, not, cond, _&&_}
-use mathlib.Core.List.{List, [], _∷_, _++_, map, flatten, append-assoc, append-nil, nil≢cons, head-eq-of-cons-eq, tail-eq-of-cons-eq}
+use mathlib.Core.List.{List, [], _∷_, _++_, map, flatten, append-assoc, append-nil, nil≢cons, head-eq-of-cons-eq}
+use mathlib.Core.List.{tail-eq-of-cons-eq}
 use Prim.Native.Nat.{ℕ, zero, suc, _<_}
 use Prim.Native.String.{String}
 use native.Mathlib.Omega.{arith}
@@ -10,7 +11,9 @@ use lib.Dec.{T, T-not, eqb, eqb-refl, eqb→eq}
 use lib.ListN.{length, length-append}
 use Rattle.octets.specs.Lists.{ascii, none?, all, All, key?, rowText, ended, listed}
 use Rattle.octets.specs.Bits.{is-true, is-false, and-left, and-right}
-use Rattle.octets.specs.Parsed.{Parsed, took, stuck, and-then, or-else, otherwise, strip, Holds, missed, found, took-value, took-rest, held, is-stuck, map-holds, then-holds, or-holds, otherwise-holds, strip-back, strip-sound}
+use Rattle.octets.specs.Parsed.{Parsed, took, stuck, and-then, or-else, otherwise, strip, Holds, missed, found}
+use Rattle.octets.specs.Parsed.{took-value, took-rest, held, is-stuck, map-holds, then-holds, or-holds}
+use Rattle.octets.specs.Parsed.{otherwise-holds, strip-back, strip-sound}
 
 -- ---- the fronts of texts
 -- no text of `f` begins with `x`
@@ -35,7 +38,8 @@ pub behind : (l w r : List ℕ) {t u : List ℕ} → w ++ r ≡ u → l ++ u ≡
 behind l w r e f = append-assoc l w r ∙ ap (λ z. l ++ z) e ∙ f
 
 -- a list of one or more begins as its first element does
-pub some-avoids : {A : Type 0} {I : A → Type 0} (f : A → List ℕ) (stop : ℕ) {y : ℕ} → Avoids I f y → Avoids (OneOrMore I) (ended f stop) y
+pub some-avoids : {A : Type 0} {I : A → Type 0} (f : A → List ℕ) (stop : ℕ) {y : ℕ} → Avoids I f y
+    → Avoids (OneOrMore I) (ended f stop) y
 some-avoids f stop a [] r s h e = h .1
 some-avoids f stop a (x ∷ l) r s h e = a x _ s (h .0 .0) (simp append-assoc at e)
 
@@ -43,7 +47,8 @@ some-avoids f stop a (x ∷ l) r s h e = a x _ s (h .0 .0) (simp append-assoc at
 abbrev pub Any : List ℕ → Type 0
 Any r = Unit {0}
 
--- ---- a codec: `f` writes what is in `I`; before a text in `F`, `parse` takes just that back, and what it takes is such a text
+-- ---- a codec: `f` writes what is in `I`; before a text in `F`, `parse` takes just that back, and what it takes is
+-- such a text
 pub record Codec {A : Type 0} (I : A → Type 0) (f : A → List ℕ) (F : List ℕ → Type 0) : Type 0 where
   pub parse : List ℕ → Parsed A
   pub back : (a : A) (r : List ℕ) → I a → F r → parse (f a ++ r) ≡ took a r
@@ -74,9 +79,13 @@ module _ {A : Type 0} {I : A → Type 0} {f : A → List ℕ} {F : List ℕ → 
   whole t = and-then (p .parse t) λ a r. cond (none? r) (took a []) (stuck r)
 
   pub whole-exact : F [] → (t : List ℕ) (a : A) → (whole t ≡ took a []) ↔ (I a × (f a ≡ t))
-  whole-exact m t a = (held (then-holds _ (p .sound t) go), λ h. rw (← (append-nil (f a) ∙ h .1), p .back a [] (h .0) m))
+  whole-exact m t a = (
+    held (then-holds _ (p .sound t) go),
+    λ h. rw (← (append-nil (f a) ∙ h .1), p .back a [] (h .0) m),
+  )
     where
-      go : (a : A) (r : List ℕ) → I a × (f a ++ r ≡ t) → Holds (λ a r. I a × (f a ≡ t)) (cond (none? r) (took a []) (stuck r))
+      go : (a : A) (r : List ℕ) → I a × (f a ++ r ≡ t)
+          → Holds (λ a r. I a × (f a ≡ t)) (cond (none? r) (took a []) (stuck r))
       go a [] h = found (h .0, sym (append-nil (f a)) ∙ h .1)
       go a (x ∷ r) h = missed (x ∷ r)
 
@@ -98,7 +107,8 @@ module _ {A : Type 0} (I : A → Type 0) (f : A → List ℕ) (splits : Splits I
   prefix-free a b r h k e = splits a b r [] h k (e ∙ sym (append-nil (f b)))
 
   -- texts set end to end, none of them empty, are those of one list only
-  pub streams : ((a : A) → I a → f a ≡ [] → ⊥) → (l m : List A) → All I l → All I m → (flatten (map f l) ≡ flatten (map f m)) ↔ (l ≡ m)
+  pub streams : ((a : A) → I a → f a ≡ [] → ⊥) → (l m : List A) → All I l → All I m
+      → (flatten (map f l) ≡ flatten (map f m)) ↔ (l ≡ m)
   unfolding flatten
   streams filled l m h k = (go l m h k, ap (λ z. flatten (map f z)))
     where
@@ -117,29 +127,41 @@ module _ {A : Type 0} {I : A → Type 0} {f : A → List ℕ} {F : List ℕ → 
   l ▷ p = record {
     parse = λ t. and-then (strip (ascii l) t) λ u r. p .parse r;
     back = λ a r h m. rw (append-assoc, strip-back (ascii l) (f a ++ r)) (p .back a r h m);
-    sound = λ t. then-holds _ (strip-sound (ascii l) t) λ u w e. map-holds (p .sound w) λ a r h. (h .0, behind (ascii l) _ _ (h .1) e);
+    sound = λ t. then-holds _ (strip-sound (ascii l) t) λ u w e. map-holds (p .sound w) λ a r h.
+        (h .0, behind (ascii l) _ _ (h .1) e);
   }
 
   -- fixed octets after, which may follow
-  abbrev pub behind-lit : (l : String) → ((r : List ℕ) → F (ascii l ++ r)) → Codec I f F → Codec I (λ a. f a ++ ascii l) Any
+  abbrev pub behind-lit : (l : String) → ((r : List ℕ) → F (ascii l ++ r)) → Codec I f F
+      → Codec I (λ a. f a ++ ascii l) Any
   behind-lit l fits p = record {
     parse = λ t. and-then (p .parse t) λ a w. and-then (strip (ascii l) w) λ u r. took a r;
     back = λ a r h m. rw (append-assoc, p .back a (ascii l ++ r) h (fits r), strip-back (ascii l) r);
-    sound = λ t. then-holds _ (p .sound t) λ a w h. then-holds _ (strip-sound (ascii l) w) λ u r e. found (h .0, behind (f a) _ _ e (h .1));
+    sound = λ t. then-holds _ (p .sound t) λ a w h. then-holds _ (strip-sound (ascii l) w) λ u r e. found
+        (h .0, behind (f a) _ _ e (h .1));
   }
 
   -- one after the other, where the second's texts may follow the first's
   abbrev pub joined : {B : Type 0} {J : B → Type 0} {g : B → List ℕ} {G : List ℕ → Type 0} → Codec I f F → Codec J g G
-      → ((b : B) (r : List ℕ) → J b → G r → F (g b ++ r)) → Codec {A = A × B} (λ t. I (t .0) × J (t .1)) (λ t. f (t .0) ++ g (t .1)) G
+      → ((b : B) (r : List ℕ) → J b → G r → F (g b ++ r))
+      → Codec {A = A × B} (λ t. I (t .0) × J (t .1)) (λ t. f (t .0) ++ g (t .1)) G
   joined {g} p q fits = record {
     parse = λ t. and-then (p .parse t) λ a w. and-then (q .parse w) λ b r. took (a, b) r;
-    back = λ a r h m. rw (append-assoc, p .back (a .0) (g (a .1) ++ r) (h .0) (fits (a .1) r (h .1) m), q .back (a .1) r (h .1) m);
-    sound = λ t. then-holds _ (p .sound t) λ a w h. then-holds _ (q .sound w) λ b r k. found ((h .0, k .0), behind (f a) _ _ (k .1) (h .1));
+    back = λ a r h m. rw (
+      append-assoc,
+      p .back (a .0) (g (a .1) ++ r) (h .0) (fits (a .1) r (h .1) m),
+      q .back (a .1) r (h .1) m,
+    );
+    sound = λ t. then-holds _ (p .sound t) λ a w h. then-holds _ (q .sound w) λ b r k. found (
+      (h .0, k .0),
+      behind (f a) _ _ (k .1) (h .1),
+    );
   }
 
   -- written and read as another thing
   abbrev pub on : {B : Type 0} {J : B → Type 0} (to : B → A) (from : A → B)
-      → ((b : B) → J b → I (to b) × (from (to b) ≡ b)) → ((a : A) → I a → J (from a) × (to (from a) ≡ a)) → Codec I f F → Codec J (λ b. f (to b)) F
+      → ((b : B) → J b → I (to b) × (from (to b) ≡ b)) → ((a : A) → I a → J (from a) × (to (from a) ≡ a)) → Codec I f F
+      → Codec J (λ b. f (to b)) F
   on to from one two p = record {
     parse = λ t. and-then (p .parse t) λ a r. took (from a) r;
     back = λ b r h m. rw (p .back (to b) r (one b h .0) m, one b h .1);
@@ -169,10 +191,13 @@ module _ {A : Type 0} {I : A → Type 0} {f : A → List ℕ} {F : List ℕ → 
   -- things one after another up to the octet `stop`; the number bounds how many there are
   abbrev pub repeated : ℕ → Codec I f F → ℕ → List ℕ → Parsed (List A)
   repeated stop p zero t = stuck t
-  repeated stop p (suc n) t = otherwise (and-then (strip (stop ∷ []) t) λ u r. took [] r) (and-then (p .parse t) λ a w. and-then (repeated stop p n w) λ l r. took (a ∷ l) r)
+  repeated stop p (suc n) t =
+      otherwise (and-then (strip (stop ∷ []) t) λ u r. took [] r)
+      (and-then (p .parse t) λ a w. and-then (repeated stop p n w) λ l r. took (a ∷ l) r)
 
   -- any number, and an octet that none of them begins with; the text's length bounds how many there are
-  abbrev pub many : {stop : ℕ} → Avoids I f stop → ((r : List ℕ) → F (stop ∷ r)) → ((b : A) (r : List ℕ) → I b → F (f b ++ r)) → Codec I f F → Codec (All I) (ended f stop) Any
+  abbrev pub many : {stop : ℕ} → Avoids I f stop → ((r : List ℕ) → F (stop ∷ r))
+      → ((b : A) (r : List ℕ) → I b → F (f b ++ r)) → Codec I f F → Codec (All I) (ended f stop) Any
   many {stop} avoids fits₁ fits₂ p = record {
     parse = λ t. repeated stop p (length t) t;
     back = λ l r h m. go-back _ l r h (longer l r h);
@@ -185,13 +210,15 @@ module _ {A : Type 0} {I : A → Type 0} {f : A → List ℕ} {F : List ℕ → 
 
       longer : (l : List A) (r : List ℕ) → All I l → length l < length (ended f stop l ++ r)
       longer [] r h = omega arith
-      longer (a ∷ l) r h = rw (append-assoc, length-append) (omega (arith, longer l r (h .1), filled a (f a) (h .0) refl))
+      longer (a ∷ l) r h = rw (append-assoc, length-append)
+          (omega (arith, longer l r (h .1), filled a (f a) (h .0) refl))
 
       fits : (l : List A) (r : List ℕ) → All I l → F (ended f stop l ++ r)
       fits [] r h = fits₁ r
       fits (a ∷ l) r h = rw (append-assoc) (fits₂ a (ended f stop l ++ r) (h .0))
 
-      go-back : (n : ℕ) (l : List A) (r : List ℕ) → All I l → length l < n → repeated stop p n (ended f stop l ++ r) ≡ took l r
+      go-back : (n : ℕ) (l : List A) (r : List ℕ) → All I l → length l < n
+          → repeated stop p n (ended f stop l ++ r) ≡ took l r
       go-back zero l r h k = absurd (omega arith)
       go-back (suc n) [] r h k = rw (strip-back (stop ∷ []) r)
       go-back (suc n) (a ∷ l) r h k =
@@ -206,7 +233,10 @@ module _ {A : Type 0} {I : A → Type 0} {f : A → List ℕ} {F : List ℕ → 
       go-sound zero t = missed t
       go-sound (suc n) t = otherwise-holds
           (then-holds _ (strip-sound (stop ∷ []) t) λ u r e. found (tt, e))
-          (then-holds _ (p .sound t) λ a w h. then-holds _ (go-sound n w) λ l r k. found ((h .0, k .0), behind (f a) _ _ (k .1) (h .1)))
+          (then-holds _ (p .sound t) λ a w h. then-holds _ (go-sound n w) λ l r k. found (
+            (h .0, k .0),
+            behind (f a) _ _ (k .1) (h .1),
+          ))
 
 module _ {A : Type 0} {I : A → Type 0} {f : A → List ℕ} where
   -- fixed octets after a text that ends by itself
@@ -216,16 +246,25 @@ module _ {A : Type 0} {I : A → Type 0} {f : A → List ℕ} where
 
   -- one after the other, where the first ends by itself
   infixr 50 _⊗_
-  abbrev pub _⊗_ : {B : Type 0} {J : B → Type 0} {g : B → List ℕ} {G : List ℕ → Type 0} → Codec I f Any → Codec J g G → Codec {A = A × B} (λ t. I (t .0) × J (t .1)) (λ t. f (t .0) ++ g (t .1)) G
+  abbrev pub _⊗_ : {B : Type 0} {J : B → Type 0} {g : B → List ℕ} {G : List ℕ → Type 0} → Codec I f Any → Codec J g G
+      → Codec {A = A × B} (λ t. I (t .0) × J (t .1)) (λ t. f (t .0) ++ g (t .1)) G
   p ⊗ q = joined p q (λ b r h m. tt)
 
   -- the same, where the first decides what the second is
   abbrev pub pair-by : {B : A → Type 0} {J : (a : A) → B a → Type 0} {g : (a : A) → B a → List ℕ} {G : List ℕ → Type 0}
-      → Codec I f Any → ((a : A) → Codec (J a) (g a) G) → Codec {A = (a : A) × B a} (λ u. I (u .0) × J (u .0) (u .1)) (λ u. f (u .0) ++ g (u .0) (u .1)) G
+      → Codec I f Any → ((a : A) → Codec (J a) (g a) G)
+      → Codec {A = (a : A) × B a} (λ u. I (u .0) × J (u .0) (u .1)) (λ u. f (u .0) ++ g (u .0) (u .1)) G
   pair-by {g} p q = record {
     parse = λ t. and-then (p .parse t) λ a w. and-then (q a .parse w) λ b r. took (a, b) r;
-    back = λ a r h m. rw (append-assoc, p .back (a .0) (g (a .0) (a .1) ++ r) (h .0) tt, q (a .0) .back (a .1) r (h .1) m);
-    sound = λ t. then-holds _ (p .sound t) λ a w h. then-holds _ (q a .sound w) λ b r k. found ((h .0, k .0), behind (f a) _ _ (k .1) (h .1));
+    back = λ a r h m. rw (
+      append-assoc,
+      p .back (a .0) (g (a .0) (a .1) ++ r) (h .0) tt,
+      q (a .0) .back (a .1) r (h .1) m,
+    );
+    sound = λ t. then-holds _ (p .sound t) λ a w h. then-holds _ (q a .sound w) λ b r k. found (
+      (h .0, k .0),
+      behind (f a) _ _ (k .1) (h .1),
+    );
   }
 
 -- range and text of one of two
@@ -239,7 +278,8 @@ eitherText f g (inr b) = g b
 
 module _ {A B : Type 0} {I : A → Type 0} {f : A → List ℕ} {J : B → Type 0} {g : B → List ℕ} {F : List ℕ → Type 0} where
   -- one of two, whose texts never begin alike
-  abbrev pub either : Codec I f F → Codec J g F → ((a : A) (b : B) (r s : List ℕ) → I a → J b → f a ++ r ≡ g b ++ s → ⊥) → Codec (Either I J) (eitherText f g) F
+  abbrev pub either : Codec I f F → Codec J g F → ((a : A) (b : B) (r s : List ℕ) → I a → J b → f a ++ r ≡ g b ++ s → ⊥)
+      → Codec (Either I J) (eitherText f g) F
   either p q apart = record { parse = go; back = go-back; sound = go-sound }
     where
       go : List ℕ → Parsed (A ⊎ B)
@@ -254,7 +294,8 @@ module _ {A B : Type 0} {I : A → Type 0} {f : A → List ℕ} {J : B → Type 
 
 module _ {A : Type 0} {I : A → Type 0} {f : A → List ℕ} {F : List ℕ → Type 0} where
   -- one at least
-  abbrev pub several : {stop : ℕ} → Avoids I f stop → ((r : List ℕ) → F (stop ∷ r)) → ((b : A) (r : List ℕ) → I b → F (f b ++ r)) → Codec I f F → Codec (OneOrMore I) (ended f stop) Any
+  abbrev pub several : {stop : ℕ} → Avoids I f stop → ((r : List ℕ) → F (stop ∷ r))
+      → ((b : A) (r : List ℕ) → I b → F (f b ++ r)) → Codec I f F → Codec (OneOrMore I) (ended f stop) Any
   several {stop} avoids fits₁ fits₂ p = record { parse = go; back = go-back; sound = go-sound }
     where
       fits : (l : List A) (r : List ℕ) → All I l → F (ended f stop l ++ r)
@@ -275,18 +316,21 @@ module _ {A : Type 0} {I : A → Type 0} {f : A → List ℕ} {F : List ℕ → 
       go-sound t = then-holds _ (both .sound t) λ u r h. found ((h .0, tt), h .1)
 
   -- `[a,b,c]`
-  abbrev pub array : Avoids I f 93 → ((r : List ℕ) → F (44 ∷ r)) → ((r : List ℕ) → F (93 ∷ r)) → Codec I f F → Codec (All I) (listed f) Any
+  abbrev pub array : Avoids I f 93 → ((r : List ℕ) → F (44 ∷ r)) → ((r : List ℕ) → F (93 ∷ r)) → Codec I f F
+      → Codec (All I) (listed f) Any
   array avoids fits₁ fits₂ p = record { parse = go; back = go-back; sound = go-sound }
     where
       fits : (l : List A) (r : List ℕ) → F (ended (λ b. 44 ∷ f b) 93 l ++ r)
       fits [] r = fits₂ r
       fits (a ∷ l) r = fits₁ _
 
-      both : Codec {A = A × List A} (λ t. I (t .0) × All I (t .1)) (λ t. f (t .0) ++ ended (λ b. 44 ∷ f b) 93 (t .1)) Any
+      both : Codec {A = A × List A} (λ t. I (t .0) × All I (t .1)) (λ t. f (t .0)
+          ++ ended (λ b. 44 ∷ f b) 93 (t .1)) Any
       both = joined p (many (λ a r s h e. fronts tt e) fits₂ (λ b r h. fits₁ _) ("," ▷ p)) (λ l r h m. fits l r)
 
       inside : List ℕ → Parsed (List A)
-      inside t = otherwise (and-then (strip (93 ∷ []) t) λ u r. took [] r) (and-then (both .parse t) λ u r. took (u .0 ∷ u .1) r)
+      inside t = otherwise (and-then (strip (93 ∷ []) t) λ u r. took [] r)
+          (and-then (both .parse t) λ u r. took (u .0 ∷ u .1) r)
 
       go : List ℕ → Parsed (List A)
       go t = and-then (strip (91 ∷ []) t) λ u w. inside w
@@ -295,7 +339,11 @@ module _ {A : Type 0} {I : A → Type 0} {f : A → List ℕ} {F : List ℕ → 
       go-back [] r h m = refl
       go-back (a ∷ l) r h m =
           let w = f a ++ ended (λ b. 44 ∷ f b) 93 l ++ r in
-          rw (is-stuck (strip-sound (93 ∷ []) w) (λ u s e. avoids a _ s (h .0) (sym (append-assoc (f a) _ r) ∙ sym e)) .1, both .back (a, l) r h tt)
+          rw (
+            is-stuck (strip-sound (93 ∷ []) w)
+                (λ u s e. avoids a _ s (h .0) (sym (append-assoc (f a) _ r) ∙ sym e)) .1,
+            both .back (a, l) r h tt,
+          )
 
       go-sound : (t : List ℕ) → Holds (λ l r. All I l × (listed f l ++ r ≡ t)) (go t)
       go-sound t = then-holds (λ u w. inside w) (strip-sound (91 ∷ []) t) λ u w e. otherwise-holds
@@ -342,13 +390,15 @@ key-apart : (row : ℕ × String) (rows : List (ℕ × String)) (n : ℕ) → T 
 unfolding key? rowText
 key-apart row [] n h k = absurd k
 key-apart row (u ∷ rows) n h k =
-    go (eqb (u .0) n) refl k (and-left (differs? row u) (all (differs? row) rows) h) (λ k. key-apart row rows n (and-right (differs? row u) (all (differs? row) rows) h) k)
+    go (eqb (u .0) n) refl k (and-left (differs? row u) (all (differs? row) rows) h)
+    (λ k. key-apart row rows n (and-right (differs? row u) (all (differs? row) rows) h) k)
   where
     go : (b : Bool) → eqb (u .0) n ≡ b → T (cond b true (key? n rows)) → T (differs? row u)
         → (T (key? n rows) → T (not (eqb (row .0) n)) × T (apart? (ascii (row .1)) (rowText n rows)))
         → T (not (eqb (row .0) n)) × T (apart? (ascii (row .1)) (cond b (ascii (u .1)) (rowText n rows)))
     go true d k h f = (
-      subst (λ z. T (not (eqb (row .0) z))) (eqb→eq (u .0) n (subst T (sym d) tt)) (and-left (not (eqb (row .0) (u .0))) _ h),
+      subst (λ z. T (not (eqb (row .0) z))) (eqb→eq (u .0) n (subst T (sym d) tt))
+          (and-left (not (eqb (row .0) (u .0))) _ h),
       and-right (not (eqb (row .0) (u .0))) _ h,
     )
     go false d k h f = f k
@@ -358,31 +408,39 @@ unfoldable pub tried : List (ℕ × String) → List ℕ → Parsed ℕ
 tried [] t = stuck t
 tried (row ∷ rows) t = or-else (and-then (strip (ascii (row .1)) t) λ u r. took (row .0) r) (tried rows t)
 
-pub tried-back : (rows : List (ℕ × String)) → T (distinct rows) → (n : ℕ) (r : List ℕ) → T (key? n rows) → tried rows (rowText n rows ++ r) ≡ took n r
+pub tried-back : (rows : List (ℕ × String)) → T (distinct rows) → (n : ℕ) (r : List ℕ) → T (key? n rows)
+    → tried rows (rowText n rows ++ r) ≡ took n r
 unfolding key? rowText tried
 tried-back [] d n r k = absurd k
-tried-back (row ∷ rows) d n r k = go (eqb (row .0) n) refl k (λ k. tried-back rows (and-right (all (differs? row) rows) (distinct rows) d) n r k)
+tried-back (row ∷ rows) d n r k =
+    go (eqb (row .0) n) refl k (λ k. tried-back rows (and-right (all (differs? row) rows) (distinct rows) d) n r k)
   where
-    go : (b : Bool) → eqb (row .0) n ≡ b → T (cond b true (key? n rows)) → (T (key? n rows) → tried rows (rowText n rows ++ r) ≡ took n r)
+    go : (b : Bool) → eqb (row .0) n ≡ b → T (cond b true (key? n rows))
+        → (T (key? n rows) → tried rows (rowText n rows ++ r) ≡ took n r)
         → tried (row ∷ rows) (cond b (ascii (row .1)) (rowText n rows) ++ r) ≡ took n r
     go true e k f = rw (strip-back (ascii (row .1)) r) (ap (λ z. took z r) (eqb→eq (row .0) n (subst T (sym e) tt)))
     go false e k f =
         rw (
           is-stuck (strip-sound (ascii (row .1)) (rowText n rows ++ r))
-              (λ u s q. apart-texts (ascii (row .1)) (rowText n rows) s r (key-apart row rows n (and-left (all (differs? row) rows) (distinct rows) d) k .1) q) .1,
+              (λ u s q. apart-texts (ascii (row .1)) (rowText n rows) s r
+              (key-apart row rows n (and-left (all (differs? row) rows) (distinct rows) d) k .1) q) .1,
           f k,
         )
 
-pub tried-sound : (rows : List (ℕ × String)) → T (distinct rows) → (t : List ℕ) → Holds (λ n r. T (key? n rows) × (rowText n rows ++ r ≡ t)) (tried rows t)
+pub tried-sound : (rows : List (ℕ × String)) → T (distinct rows) → (t : List ℕ)
+    → Holds (λ n r. T (key? n rows) × (rowText n rows ++ r ≡ t)) (tried rows t)
 unfolding key? rowText tried
 tried-sound [] d t = missed t
 tried-sound (row ∷ rows) d t = or-holds
-    (then-holds _ (strip-sound (ascii (row .1)) t) λ u r e. found (rw (is-true (eqb (row .0) (row .0)) (eqb-refl (row .0))) (tt, e)))
+    (then-holds _ (strip-sound (ascii (row .1)) t) λ u r e. found
+    (rw (is-true (eqb (row .0) (row .0)) (eqb-refl (row .0))) (tt, e)))
     (map-holds (tried-sound rows (and-right (all (differs? row) rows) (distinct rows) d) t) λ n r h.
-    rw (is-false (eqb (row .0) n) (key-apart row rows n (and-left (all (differs? row) rows) (distinct rows) d) (h .0) .0)) h)
+    rw (is-false (eqb (row .0) n) (key-apart row rows n (and-left (all (differs? row) rows) (distinct rows) d)
+    (h .0) .0)) h)
 
 -- a row's key, written as its text
-abbrev pub table : (rows : List (ℕ × String)) → T (distinct rows) → Codec (λ n. T (key? n rows)) (λ n. rowText n rows) Any
+abbrev pub table : (rows : List (ℕ × String)) → T (distinct rows)
+    → Codec (λ n. T (key? n rows)) (λ n. rowText n rows) Any
 table rows d = record {
   parse = tried rows;
   back = λ n r h m. tried-back rows d n r h;

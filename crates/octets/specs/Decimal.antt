@@ -27,7 +27,10 @@ NoDigit r = T (noDigit r)
 
 -- a digit by test and by bounds
 pub digit-in : (d : ℕ) → T (digit? d) → (48 ≤ d) × (d ≤ 57)
-digit-in d h = (leb→le 48 d (and-left (leb 48 d) (ltb d 58) h), omega (arith, ltb→lt d 58 (and-right (leb 48 d) (ltb d 58) h)))
+digit-in d h = (
+  leb→le 48 d (and-left (leb 48 d) (ltb d 58) h),
+  omega (arith, ltb→lt d 58 (and-right (leb 48 d) (ltb d 58) h)),
+)
 
 pub digit-test : (d : ℕ) → 48 ≤ d → d ≤ 57 → T (digit? d)
 digit-test d h k = both (leb 48 d) (ltb d 58) (le→leb 48 d h) (lt→ltb d 58 (omega arith))
@@ -70,7 +73,8 @@ decimal-step n h = rw (is-false (ltb n 10) (le→nltb n 10 h)) (go n (omega arit
   where
     go : (f : ℕ) → n ≤ f → digits f false n ≡ decimal (n / 10) ++ ((48 + n % 10) ∷ [])
     go zero k = absurd (omega arith)
-    go (suc f) k = ap (λ l. l ++ ((48 + n % 10) ∷ [])) (digits-same f (n / 10) (ltb (n / 10) 10) (n / 10) refl (omega arith) (omega arith))
+    go (suc f) k = ap (λ l. l ++ ((48 + n % 10) ∷ []))
+        (digits-same f (n / 10) (ltb (n / 10) 10) (n / 10) refl (omega arith) (omega arith))
 
 -- one more digit after a number that is not 0
 pub decimal-push : (n d : ℕ) → 0 < n → d < 10 → decimal (n * 10 + d) ≡ decimal n ++ ((48 + d) ∷ [])
@@ -89,7 +93,8 @@ decimal-digits n = go n (ltb n 10) n refl (omega arith)
     go (suc f) true n e h = let z = ltb→lt n 10 (subst T (sym e) tt) in ((omega arith, omega arith), tt)
     go (suc f) false n e h =
         let z = ltb-false n 10 e in
-        All-append (λ c. (48 ≤ c) × (c ≤ 57)) (digits f (ltb (n / 10) 10) (n / 10)) _ (go f (ltb (n / 10) 10) (n / 10) refl (omega arith)) ((omega arith, omega arith), tt)
+        All-append (λ c. (48 ≤ c) × (c ≤ 57)) (digits f (ltb (n / 10) 10) (n / 10)) _
+        (go f (ltb (n / 10) 10) (n / 10) refl (omega arith)) ((omega arith, omega arith), tt)
 
 -- there is one
 pub decimal-filled : (n : ℕ) → decimal n ≡ [] → ⊥
@@ -128,7 +133,12 @@ decimal-zero n r s e = go n (ltb n 10) n r refl e
     go : (f : ℕ) (b : Bool) (n : ℕ) (r : List ℕ) → ltb n 10 ≡ b → digits f b n ++ r ≡ 48 ∷ s → n ≡ 0
     go zero b n r h e = omega (arith, head-eq-of-cons-eq e)
     go (suc f) true n r h e = omega (arith, head-eq-of-cons-eq e)
-    go (suc f) false n r h e = omega (arith, ltb-false n 10 h, go f (ltb (n / 10) 10) (n / 10) ((48 + n % 10) ∷ r) refl (simp append-assoc at e))
+    go (suc f) false n r h e =
+        omega (
+          arith,
+          ltb-false n 10 h,
+          go f (ltb (n / 10) 10) (n / 10) ((48 + n % 10) ∷ r) refl (simp append-assoc at e),
+        )
 
 pub no-leading-zero : (n d : ℕ) (r s : List ℕ) → NoDigit r → T (digit? d) → decimal n ++ r ≡ 48 ∷ d ∷ s → ⊥
 unfolding decimal
@@ -167,17 +177,28 @@ pub run-stop : (n : ℕ) (r : List ℕ) → NoDigit r → run n r ≡ took n r
 run-stop n [] h = refl
 run-stop n (x ∷ r) h = rw (is-false (digit? x) h, run)
 
-positive-digits : (f : ℕ) (b : Bool) (n : ℕ) (t : List ℕ) → ltb n 10 ≡ b → n ≤ f → 0 < n → positive (digits f b n ++ t) ≡ run n t
+positive-digits : (f : ℕ) (b : Bool) (n : ℕ) (t : List ℕ) → ltb n 10 ≡ b → n ≤ f → 0 < n
+    → positive (digits f b n ++ t) ≡ run n t
 unfolding positive
 positive-digits zero b n t e h k = absurd (omega arith)
 positive-digits (suc f) true n t e h k =
     let y : n < 10 = ltb→lt n 10 (subst T (sym e) tt) in
     let z : 48 + n - 48 ≡ n = omega arith in
-    rw (is-true (leading? (48 + n)) (both (leb 49 (48 + n)) (ltb (48 + n) 58) (le→leb 49 (48 + n) (omega arith)) (lt→ltb (48 + n) 58 (omega arith))), positive, z)
+    rw (
+      is-true (leading? (48 + n)) (both (leb 49 (48 + n)) (ltb (48 + n) 58) (le→leb 49 (48 + n) (omega arith))
+          (lt→ltb (48 + n) 58 (omega arith))),
+      positive,
+      z,
+    )
 positive-digits (suc f) false n t e h k =
     let z : 10 ≤ n = ltb-false n 10 e in
     let y : n / 10 * 10 + n % 10 ≡ n = omega arith in
-    rw (append-assoc, positive-digits f (ltb (n / 10) 10) (n / 10) ((48 + n % 10) ∷ t) refl (omega arith) (omega arith), run-digit (n / 10) (n % 10) t (omega arith), y)
+    rw (
+      append-assoc,
+      positive-digits f (ltb (n / 10) 10) (n / 10) ((48 + n % 10) ∷ t) refl (omega arith) (omega arith),
+      run-digit (n / 10) (n % 10) t (omega arith),
+      y,
+    )
 
 pub positive-back : (n : ℕ) (r : List ℕ) → 0 < n → NoDigit r → positive (decimal n ++ r) ≡ took n r
 unfolding decimal
@@ -187,12 +208,14 @@ run-sound : (n : ℕ) (t : List ℕ) → 0 < n → Holds (λ m r. (0 < m) × (de
 run-sound n [] h = found (h, refl)
 run-sound n (d ∷ t) h = go (digit? d) refl (run-sound (n * 10 + (d - 48)) t (omega arith))
   where
-    go : (b : Bool) → digit? d ≡ b → Holds (λ m r. (0 < m) × (decimal m ++ r ≡ decimal (n * 10 + (d - 48)) ++ t)) (run (n * 10 + (d - 48)) t)
+    go : (b : Bool) → digit? d ≡ b
+        → Holds (λ m r. (0 < m) × (decimal m ++ r ≡ decimal (n * 10 + (d - 48)) ++ t)) (run (n * 10 + (d - 48)) t)
         → Holds (λ m r. (0 < m) × (decimal m ++ r ≡ decimal n ++ (d ∷ t))) (run n (d ∷ t))
     go true e k =
         let z = digit-in d (subst T (sym e) tt) in
         let y : 48 + (d - 48) ≡ d = omega arith in
-        let x : decimal (n * 10 + (d - 48)) ++ t ≡ decimal n ++ (d ∷ t) = rw (decimal-push n (d - 48) h (omega arith), y) (append-assoc (decimal n) (d ∷ []) t) in
+        let x : decimal (n * 10 + (d - 48)) ++ t ≡ decimal n ++ (d ∷ t) =
+        rw (decimal-push n (d - 48) h (omega arith), y) (append-assoc (decimal n) (d ∷ []) t) in
         rw (e, run) (map-holds k λ m r i. (i .0, i .1 ∙ x))
     go false e k = rw (e, run) (found (h, refl))
 
@@ -214,7 +237,8 @@ positive-sound (d ∷ t) = go (leading? d) refl
 pub natural-back : (n : ℕ) (r : List ℕ) → NoDigit r → natural (decimal n ++ r) ≡ took n r
 unfolding natural positive decimal
 natural-back zero r m = refl
-natural-back (suc n) r m = go (decimal (suc n) ++ r) (λ s e. z (decimal-zero (suc n) r s e)) ∙ positive-back (suc n) r (omega arith) m
+natural-back (suc n) r m = go (decimal (suc n) ++ r) (λ s e. z (decimal-zero (suc n) r s e))
+    ∙ positive-back (suc n) r (omega arith) m
   where
     z : suc n ≡ 0 → ⊥
     z e = omega arith
@@ -230,7 +254,8 @@ natural-sound (d ∷ t) = go (eqb d 48) refl
   where
     go : (b : Bool) → eqb d 48 ≡ b → Holds (λ n r. Unit {0} × (decimal n ++ r ≡ d ∷ t)) (natural (d ∷ t))
     go true e =
-        let x : decimal 0 ++ t ≡ d ∷ t = rw (decimal-digit 0 (omega arith)) (ap (λ y. y ∷ t) (sym (eqb→eq d 48 (subst T (sym e) tt)))) in
+        let x : decimal 0 ++ t ≡ d ∷ t =
+        rw (decimal-digit 0 (omega arith)) (ap (λ y. y ∷ t) (sym (eqb→eq d 48 (subst T (sym e) tt)))) in
         rw (e, natural) (found (tt, x))
     go false e = rw (e, natural) (map-holds (positive-sound (d ∷ t)) λ n r h. (tt, h .1))
 
@@ -249,7 +274,8 @@ ends? [] = false
 ends? (c ∷ l) = not (digit? c)
 
 -- a text that ends with a number, and fixed octets after it that do not begin with a digit: `till "," tt number`
-abbrev pub till : {A : Type 0} {I : A → Type 0} {f : A → List ℕ} (l : String) → T (ends? (ascii l)) → Codec I f NoDigit → Codec I (λ a. f a ++ ascii l) Any
+abbrev pub till : {A : Type 0} {I : A → Type 0} {f : A → List ℕ} (l : String) → T (ends? (ascii l)) → Codec I f NoDigit
+    → Codec I (λ a. f a ++ ascii l) Any
 till l h p = behind-lit l (go (ascii l) h) p
   where
     go : (m : List ℕ) → T (ends? m) → (r : List ℕ) → NoDigit (m ++ r)

@@ -66,18 +66,24 @@ two-same a b h k =
 
 pub two-at : (s r : List ℕ) (at n : ℕ) → n < 65536 → drop at s ≡ two n ++ r → twoAt s at ≡ n
 two-at s r at n h e =
-    rw (getD-here s _ _ at e, getD-here s r (n % 256) (at + 1) (drop-past s (n / 256 % 256 ∷ []) (n % 256 ∷ r) at e)) (two-back n h)
+    rw (getD-here s _ _ at e, getD-here s r (n % 256) (at + 1) (drop-past s (n / 256 % 256 ∷ []) (n % 256 ∷ r) at e))
+    (two-back n h)
 
 pub four-at : (s r : List ℕ) (at n : ℕ) → n < 4294967296 → drop at s ≡ four n ++ r → fourAt s at ≡ n
 four-at s r at n h e =
-    rw (two-at s (two (n % 65536) ++ r) at (n / 65536) (omega arith) e, two-at s r (at + 2) (n % 65536) (omega arith) (drop-past s (two (n / 65536)) (two (n % 65536) ++ r) at e)) (omega arith)
+    rw (
+      two-at s (two (n % 65536) ++ r) at (n / 65536) (omega arith) e,
+      two-at s r (at + 2) (n % 65536) (omega arith) (drop-past s (two (n / 65536)) (two (n % 65536) ++ r) at e),
+    )
+    (omega arith)
 
 -- ---- octets
 pub two-octets : (n : ℕ) → Octets (two n)
 two-octets n = (omega arith, (omega arith, tt))
 
 pub four-octets : (n : ℕ) → Octets (four n)
-four-octets n = All-append (λ x. x < 256) (two (n / 65536)) (two (n % 65536)) (two-octets (n / 65536)) (two-octets (n % 65536))
+four-octets n = All-append (λ x. x < 256) (two (n / 65536)) (two (n % 65536)) (two-octets (n / 65536))
+    (two-octets (n % 65536))
 
 -- an octet of a text, or 0 past its end
 pub getD-octet : (s : List ℕ) → Octets s → (at : ℕ) → getD s at 0 < 256

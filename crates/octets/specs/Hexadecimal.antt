@@ -64,7 +64,8 @@ unhex-back n r h = go (ltb n 10) refl
         rw (
           is-false (digit? (55 + n)) (not-T (digit? (55 + n)) λ t. above (digit-in (55 + n) t)),
           unhex,
-          is-true (capital? (55 + n)) (both (leb 65 (55 + n)) (ltb (55 + n) 71) (le→leb 65 (55 + n) (omega arith)) (lt→ltb (55 + n) 71 (omega arith))),
+          is-true (capital? (55 + n)) (both (leb 65 (55 + n)) (ltb (55 + n) 71) (le→leb 65 (55 + n) (omega arith))
+              (lt→ltb (55 + n) 71 (omega arith))),
           y,
         )
       where
@@ -76,7 +77,8 @@ unfolding unhex
 unhex-sound [] = missed []
 unhex-sound (c ∷ t) = go (digit? c) (capital? c) refl refl
   where
-    go : (a b : Bool) → digit? c ≡ a → capital? c ≡ b → Holds (λ n r. (n < 16) × (hexDigit n ∷ r ≡ c ∷ t)) (unhex (c ∷ t))
+    go : (a b : Bool) → digit? c ≡ a → capital? c ≡ b
+        → Holds (λ n r. (n < 16) × (hexDigit n ∷ r ≡ c ∷ t)) (unhex (c ∷ t))
     go true b e f =
         let z = digit-in c (subst T (sym e) tt) in
         let y : 48 + (c - 48) ≡ c = omega arith in
@@ -98,8 +100,10 @@ abbrev pub digitCodec : Codec (λ n. n < 16) (λ n. hexDigit n ∷ []) Any
 digitCodec = record { parse = unhex; back = λ n r h m. unhex-back n r h; sound = unhex-sound }
 
 abbrev pub octetCodec : Codec (λ x. x < 256) hexOctet Any
-octetCodec = on {A = ℕ × ℕ} {I = λ t. (t .0 < 16) × (t .1 < 16)} {f = λ t. (hexDigit (t .0) ∷ []) ++ (hexDigit (t .1) ∷ [])}
-    (λ x. (x / 16, x % 16)) (λ t. t .0 * 16 + t .1) (λ x h. ((omega arith, omega arith), omega arith)) (λ t h. (omega arith, halves (t .0) (t .1) (h .1))) (digitCodec ⊗ digitCodec)
+octetCodec = on {A = ℕ × ℕ} {I = λ t. (t .0 < 16) × (t .1 < 16)} {f = λ t. (hexDigit (t .0) ∷ [])
+    ++ (hexDigit (t .1) ∷ [])}
+    (λ x. (x / 16, x % 16)) (λ t. t .0 * 16 + t .1) (λ x h. ((omega arith, omega arith), omega arith))
+    (λ t h. (omega arith, halves (t .0) (t .1) (h .1))) (digitCodec ⊗ digitCodec)
   where
     halves : (a b : ℕ) → b < 16 → _≡_ {A = ℕ × ℕ} ((a * 16 + b) / 16, (a * 16 + b) % 16) (a, b)
     halves a b h =

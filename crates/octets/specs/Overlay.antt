@@ -27,7 +27,8 @@ unfolding overlay
 overlay-none b at = refl
 
 -- two texts, the second written where the first ends
-pub overlay-join : (b : List ℕ) (at : ℕ) (xs ys : List ℕ) → overlay (overlay b at xs) (at + length xs) ys ≡ overlay b at (xs ++ ys)
+pub overlay-join : (b : List ℕ) (at : ℕ) (xs ys : List ℕ)
+    → overlay (overlay b at xs) (at + length xs) ys ≡ overlay b at (xs ++ ys)
 unfolding overlay
 overlay-join b at [] ys = rw add-zero
 overlay-join b at (x ∷ xs) ys =
@@ -48,7 +49,8 @@ unfolding overlay
 overlay-sets b at [] = refl
 overlay-sets b at (x ∷ xs) = rw add-one (overlay-sets (set b at x) (suc at) xs)
 
-pub overlay-fits : (b : List ℕ) (at : ℕ) (xs : List ℕ) → at + length xs ≤ length b → overlay b at xs ≡ take at b ++ xs ++ drop (at + length xs) b
+pub overlay-fits : (b : List ℕ) (at : ℕ) (xs : List ℕ) → at + length xs ≤ length b
+    → overlay b at xs ≡ take at b ++ xs ++ drop (at + length xs) b
 unfolding overlay
 overlay-fits b at xs h = overlay-sets b at xs ∙ sets-eq xs b at h
 
@@ -60,23 +62,27 @@ overlay-first b xs h = overlay-fits b 0 xs (omega arith) ∙ rw zero-add
 set-overlay : (b : List ℕ) (at x n : ℕ) (xs : List ℕ) → at < n → set (overlay b n xs) at x ≡ overlay (set b at x) n xs
 unfolding overlay
 set-overlay b at x n [] h = refl
-set-overlay b at x n (y ∷ xs) h = set-overlay (set b n y) at x (n + 1) xs (omega arith) ∙ rw (set-comm b n at y x (λ e. omega arith))
+set-overlay b at x n (y ∷ xs) h = set-overlay (set b n y) at x (n + 1) xs (omega arith)
+    ∙ rw (set-comm b n at y x (λ e. omega arith))
 
-pub overlay-swap : (b : List ℕ) (at n : ℕ) (xs ys : List ℕ) → at + length xs ≤ n → overlay (overlay b n ys) at xs ≡ overlay (overlay b at xs) n ys
+pub overlay-swap : (b : List ℕ) (at n : ℕ) (xs ys : List ℕ) → at + length xs ≤ n
+    → overlay (overlay b n ys) at xs ≡ overlay (overlay b at xs) n ys
 unfolding overlay
 overlay-swap b at n [] ys h = refl
 overlay-swap b at n (x ∷ xs) ys h =
     let k : at + suc (length xs) ≤ n = h in
     rw (set-overlay b at x n ys (omega arith)) (overlay-swap (set b at x) (at + 1) n xs ys (omega arith))
 
--- What every writer does: it finds the buffer `b`, writes `xs` from the place `at` on, leaves the buffer `b′`, and returns the place after the text.
+-- What every writer does: it finds the buffer `b`, writes `xs` from the place `at` on, leaves the buffer `b′`, and
+-- returns the place after the text.
 -- The place counts what had no room too.
 pub record Wrote (b : List ℕ) (at : ℕ) (xs : List ℕ) (b′ : List ℕ) (r : ℕ) : Type 0 where
   pub place : r ≡ at + length xs
   pub text : b′ ≡ overlay b at xs
 
 -- one writer after another
-pub then : {b b₁ b₂ : List ℕ} {at r₁ r₂ : ℕ} {xs ys : List ℕ} → Wrote b at xs b₁ r₁ → Wrote b₁ r₁ ys b₂ r₂ → Wrote b at (xs ++ ys) b₂ r₂
+pub then : {b b₁ b₂ : List ℕ} {at r₁ r₂ : ℕ} {xs ys : List ℕ} → Wrote b at xs b₁ r₁ → Wrote b₁ r₁ ys b₂ r₂
+    → Wrote b at (xs ++ ys) b₂ r₂
 then {b} {b₁} {b₂} {at} {r₁} {r₂} {xs} {ys} p q =
     record {
       place = omega (arith, length-append xs ys, p .place, q .place);
@@ -92,9 +98,11 @@ pub past : (b : List ℕ) (at : ℕ) (xs : List ℕ) {r : ℕ} → length b ≤ 
 past b at xs h e = record { place = e; text = sym (overlay-past b at xs h) }
 
 -- a text written first, and then the octets before it
-pub before : {b b₁ b₂ : List ℕ} {at n r s : ℕ} {xs ys : List ℕ} → n ≡ at + length xs → Wrote b n ys b₁ r → Wrote b₁ at xs b₂ s → Wrote b at (xs ++ ys) b₂ r
+pub before : {b b₁ b₂ : List ℕ} {at n r s : ℕ} {xs ys : List ℕ} → n ≡ at + length xs → Wrote b n ys b₁ r
+    → Wrote b₁ at xs b₂ s → Wrote b at (xs ++ ys) b₂ r
 before {b} {at = at} {n = n} {xs = xs} {ys = ys} e p q =
-    let s : overlay (overlay b n ys) at xs ≡ overlay (overlay b at xs) n ys = overlay-swap b at n xs ys (omega (arith, e)) in
+    let s : overlay (overlay b n ys) at xs ≡ overlay (overlay b at xs) n ys =
+    overlay-swap b at n xs ys (omega (arith, e)) in
     record {
       place = omega (arith, length-append xs ys, p .place, e);
       text = q .text ∙ rw (p .text, s, e) (overlay-join b at xs ys);
@@ -123,7 +131,8 @@ module _ {A : Type 0} where
   each-ended f stop (x ∷ l) = rw (each-ended f stop l, append-assoc)
 
 -- the texts of one element more
-pub each-more : (f : ℕ → List ℕ) (s : List ℕ) (i : ℕ) → i < length s → each f (take (i + 1) s) ≡ each f (take i s) ++ f (getD s i 0)
+pub each-more : (f : ℕ → List ℕ) (s : List ℕ) (i : ℕ) → i < length s
+    → each f (take (i + 1) s) ≡ each f (take i s) ++ f (getD s i 0)
 each-more f s i h = rw (add-one, take-suc s i 0, each-append, each-single)
 
 -- a loop that writes the text of one element a turn: before the first turn, after one turn more, and at the end
@@ -132,12 +141,15 @@ unfolding each
 each-start f b at = nothing b at
 
 module _ (f : ℕ → List ℕ) (s : List ℕ) where
-  pub each-step : {b b₁ b₂ : List ℕ} {at r₁ r₂ i : ℕ} → i < length s → Wrote b at (each f (take i s)) b₁ r₁ → Wrote b₁ r₁ (f (getD s i 0)) b₂ r₂ → Wrote b at (each f (take (i + 1) s)) b₂ r₂
+  pub each-step : {b b₁ b₂ : List ℕ} {at r₁ r₂ i : ℕ} → i < length s → Wrote b at (each f (take i s)) b₁ r₁
+      → Wrote b₁ r₁ (f (getD s i 0)) b₂ r₂ → Wrote b at (each f (take (i + 1) s)) b₂ r₂
   each-step {b} {b₁} {b₂} {at} {r₁} {r₂} {i} h p q = rw (each-more f s i h) (then p q)
 
-  pub each-end : {b b₁ : List ℕ} {at r i : ℕ} → length s ≤ i → Wrote b at (each f (take i s)) b₁ r → Wrote b at (each f s) b₁ r
+  pub each-end : {b b₁ : List ℕ} {at r i : ℕ} → length s ≤ i → Wrote b at (each f (take i s)) b₁ r
+      → Wrote b at (each f s) b₁ r
   each-end {b} {b₁} {at} {r} {i} h p = rw (take-all i s h) at p
 
 -- the same for a loop that copies: one turn more
-pub copy-step : (s : List ℕ) {b b₁ b₂ : List ℕ} {at r₁ r₂ i : ℕ} → i < length s → Wrote b at (take i s) b₁ r₁ → Wrote b₁ r₁ (getD s i 0 ∷ []) b₂ r₂ → Wrote b at (take (i + 1) s) b₂ r₂
+pub copy-step : (s : List ℕ) {b b₁ b₂ : List ℕ} {at r₁ r₂ i : ℕ} → i < length s → Wrote b at (take i s) b₁ r₁
+    → Wrote b₁ r₁ (getD s i 0 ∷ []) b₂ r₂ → Wrote b at (take (i + 1) s) b₂ r₂
 copy-step s {i = i} h p q = rw (add-one, take-suc s i 0 h) (then p q)

@@ -78,11 +78,13 @@ module _ {A : Type 0} {P : A → List ℕ → Type 0} where
   is-stuck (missed w) f = (w, refl)
   is-stuck (found {a} {r} h) f = absurd (f a r h)
 
-  pub map-holds : {Q : A → List ℕ → Type 0} {o : Parsed A} → Holds P o → ((a : A) (r : List ℕ) → P a r → Q a r) → Holds Q o
+  pub map-holds : {Q : A → List ℕ → Type 0} {o : Parsed A} → Holds P o → ((a : A) (r : List ℕ) → P a r → Q a r)
+      → Holds Q o
   map-holds (missed w) f = missed w
   map-holds (found {a} {r} h) f = found (f a r h)
 
-  pub then-holds : {B : Type 0} {Q : B → List ℕ → Type 0} {o : Parsed A} (f : A → List ℕ → Parsed B) → Holds P o → ((a : A) (r : List ℕ) → P a r → Holds Q (f a r)) → Holds Q (and-then o f)
+  pub then-holds : {B : Type 0} {Q : B → List ℕ → Type 0} {o : Parsed A} (f : A → List ℕ → Parsed B) → Holds P o
+      → ((a : A) (r : List ℕ) → P a r → Holds Q (f a r)) → Holds Q (and-then o f)
   then-holds f (missed w) g = missed w
   then-holds f (found {a} {r} h) g = g a r h
 
@@ -107,4 +109,5 @@ strip-back (x ∷ l) r = cond-true (eqb x x) (strip l (l ++ r)) (stuck (x ∷ (l
 pub strip-sound : (l t : List ℕ) → Holds (λ u r. l ++ r ≡ t) (strip l t)
 strip-sound [] t = found refl
 strip-sound (x ∷ l) [] = missed []
-strip-sound (x ∷ l) (y ∷ t) = cond-holds (eqb x y) (y ∷ t) λ h. map-holds (strip-sound l t) λ u r e. ap₂ _∷_ (eqb→eq x y h) e
+strip-sound (x ∷ l) (y ∷ t) =
+    cond-holds (eqb x y) (y ∷ t) λ h. map-holds (strip-sound l t) λ u r e. ap₂ _∷_ (eqb→eq x y h) e

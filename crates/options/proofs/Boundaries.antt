@@ -58,6 +58,7 @@ shapes =
     ∷ record { code = 15; value = hexed "0000207F"; known = false }
     ∷ []
 
-pub shapes-hold : map (λ (s : Shape). known? (memberOf (record { code = s .code; value = s .value }))) shapes ≡ map (λ (s : Shape). s .known) shapes
+pub shapes-hold : map (λ (s : Shape). known? (memberOf (record { code = s .code; value = s .value }))) shapes ≡ map
+    (λ (s : Shape). s .known) shapes
 unfolding shapes lookup rows formOf printable? words shape memberOf
 shapes-hold = refl

@@ -44,7 +44,8 @@ form-none form v e = rw e
 -- ---- the codes
 module _ {code : ℕ} (v : List ℕ) where
   -- the code is that of a row
-  pub row-shaped : (k : ℕ) {r : Bool} → code ≡ k → r ≡ present? (shape (formOf k) v) → r ≡ present? (shape (formOf code) v)
+  pub row-shaped : (k : ℕ) {r : Bool} → code ≡ k → r ≡ present? (shape (formOf k) v)
+      → r ≡ present? (shape (formOf code) v)
   row-shaped k e q = rw e q
 
   pub error-shaped : {r : Bool} → code ≡ 15 → r ≡ errorShape v → r ≡ present? (shape (formOf code) v)
@@ -73,7 +74,8 @@ pub no-row : (code : ℕ) → Missed (Unit {0}) code (armsOf rows) → formOf co
 unfolding rows formOf
 no-row code h = ap row-form (missed-row (Unit {0}) code (armsOf rows) rows tt h)
 
-pub none-shaped : (code : ℕ) (v : List ℕ) → Missed (Unit {0}) code (armsOf rows) → false ≡ present? (shape (formOf code) v)
+pub none-shaped : (code : ℕ) (v : List ℕ) → Missed (Unit {0}) code (armsOf rows)
+    → false ≡ present? (shape (formOf code) v)
 none-shaped code v h = form-none (formOf code) v (no-row code h)
 
 -- ---- EDE without its code, and with it
@@ -101,7 +103,8 @@ module _ (v : List ℕ) where
   pub expire-four : Shaped 9 v → (length v ≡ 0 → ⊥) → length v ≡ 4
   unfolding lookup rows formOf shape
   expire-four s h =
-      let t : present? (cond (eqb (length v) 4) (some (some (fourAt v 0))) none) ≡ true = rw (ne-eqb (length v) 0 h) at s in
+      let t : present? (cond (eqb (length v) 4) (some (some (fourAt v 0))) none) ≡ true =
+      rw (ne-eqb (length v) 0 h) at s in
       eqb-true (length v) 4 (chosen (eqb (length v) 4) _ ∙ t)
 
   pub cookie-sizes : Shaped 10 v → (length v ≡ 8 → ⊥) → (16 ≤ length v) × (length v ≤ 40)

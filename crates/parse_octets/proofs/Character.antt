@@ -47,7 +47,8 @@ module _ {t : List ℕ} {at x : ℕ} {p : Bool} (e : Byte t at x) (c : p ≡ bar
   char-bare g = let w = inside e (filled (sym c ∙ g)) in letter-one (go (sym c ∙ g) w) (omega arith) (omega arith)
     where
       filled : bare? x ≡ true → 0 < x
-      filled k = ⊎-elim (λ h. omega arith) (λ h. absurd (subst T (sym k ∙ sym (bare-low {x = x} (omega arith))) tt)) (le-or-lt 1 x)
+      filled k = ⊎-elim (λ h. omega arith) (λ h. absurd (subst T (sym k ∙ sym (bare-low {x = x} (omega arith))) tt))
+          (le-or-lt 1 x)
 
       go : bare? x ≡ true → at < length t → stringAt (drop at t) ≡ took x (drop (at + 1) t)
       go k w = rw (from-byte e w) (rw (k, stringAt))
@@ -87,7 +88,8 @@ module _ {t : List ℕ} {at x : ℕ} {p : Bool} (e : Byte t at x) (c : p ≡ bar
 
         pub char-single : (y ≡ 92 → ⊥) → LetterAt stringAt t at (nowhere (at + 1))
         unfolding quoted
-        char-single k = letter-none (behind ∙ ⊎-elim end other (le-or-lt (length t) (at + 1))) (omega arith) (omega (arith, inside e (omega arith)))
+        char-single k = letter-none (behind ∙ ⊎-elim end other (le-or-lt (length t) (at + 1))) (omega arith)
+            (omega (arith, inside e (omega arith)))
           where
             end : length t ≤ at + 1 → quoted (drop (at + 1) t) ≡ stuck (drop (at + 1) t)
             end q = rw (drop-of-length-le t q)

@@ -55,13 +55,26 @@ letter x n = record { at = n; found = true; value = x }
 
 module _ {p : List ℕ → Parsed ℕ} {t : List ℕ} {at : ℕ} where
   pub letter-none : {n : ℕ} → p (drop at t) ≡ stuck (drop n t) → at ≤ n → n ≤ length t → LetterAt p t at (nowhere n)
-  letter-none e h k = record { tells = tells-missing e refl; within = k; onward = h; further = λ g. absurd (subst T (sym g) tt); none = λ g. refl }
+  letter-none e h k = record {
+    tells = tells-missing e refl;
+    within = k;
+    onward = h;
+    further = λ g. absurd (subst T (sym g) tt);
+    none = λ g. refl;
+  }
 
   pub letter-one : {x n : ℕ} → p (drop at t) ≡ took x (drop n t) → at < n → n ≤ length t → LetterAt p t at (letter x n)
-  letter-one e h k = record { tells = tells-there e refl refl; within = k; onward = omega arith; further = λ g. h; none = λ g. absurd (subst T g tt) }
+  letter-one e h k = record {
+    tells = tells-there e refl refl;
+    within = k;
+    onward = omega arith;
+    further = λ g. h;
+    none = λ g. absurd (subst T g tt);
+  }
 
   -- what another parser finds further on
-  pub letter-from : {q : List ℕ → Parsed ℕ} {n : ℕ} {r : Letter} → p (drop at t) ≡ q (drop n t) → at ≤ n → LetterAt q t n r → LetterAt p t at r
+  pub letter-from : {q : List ℕ → Parsed ℕ} {n : ℕ} {r : Letter} → p (drop at t) ≡ q (drop n t) → at ≤ n
+      → LetterAt q t n r → LetterAt p t at r
   letter-from {q} {n} {r} e h k = record {
     tells = rw e (k .tells);
     within = k .within;
@@ -151,10 +164,12 @@ leads-high k n x h = rw (le-leb 48 x (omega arith), le-ltb x 58 (omega arith))
 
 -- the first digit is 0, 1 or 2
 first-leads : (x : ℕ) → x < 58 → leads? 2 0 x ≡ (leb 48 x && leb x 50)
-first-leads x h = same (leads? 2 0 x) (leb 48 x && leb x 50) (below (λ d. same? (leads? 2 0 d) (leb 48 d && leb d 50)) 58 first-table x h)
+first-leads x h = same (leads? 2 0 x) (leb 48 x && leb x 50)
+    (below (λ d. same? (leads? 2 0 d) (leb 48 d && leb d 50)) 58 first-table x h)
 
 first-over : (x : ℕ) → 50 < x → leads? 2 0 x ≡ false
-first-over x h = ⊎-elim (λ p. leads-high 2 0 x (omega arith)) (λ q. first-leads x q ∙ rw (lt-leb x 50 h) (and-false (leb 48 x))) (le-or-lt 58 x)
+first-over x h = ⊎-elim (λ p. leads-high 2 0 x (omega arith)) (λ q. first-leads x q
+    ∙ rw (lt-leb x 50 h) (and-false (leb 48 x))) (le-or-lt 58 x)
 
 -- the second is in the range that the first gives
 second-leads : (n x : ℕ) → n < 3 → x < 58 → leads? 1 n x ≡ (leb (lowest n) x && leb x (highest n))
@@ -163,10 +178,14 @@ second-leads n x k h = same (leads? 1 n x) (leb (lowest n) x && leb x (highest n
     (below (λ n. upto (λ d. same? (leads? 1 n d) (leb (lowest n) d && leb d (highest n))) 58) 3 second-table n k) x h)
 
 second-under : (n x : ℕ) → n < 3 → x < lowest n → leads? 1 n x ≡ false
-second-under n x k h = ⊎-elim (λ p. leads-high 1 n x (omega arith)) (λ q. second-leads n x k q ∙ rw (lt-leb (lowest n) x h)) (le-or-lt 58 x)
+second-under n x k h =
+    ⊎-elim (λ p. leads-high 1 n x (omega arith)) (λ q. second-leads n x k q ∙ rw (lt-leb (lowest n) x h))
+    (le-or-lt 58 x)
 
 second-over : (n x : ℕ) → n < 3 → highest n < x → leads? 1 n x ≡ false
-second-over n x k h = ⊎-elim (λ p. leads-high 1 n x (omega arith)) (λ q. second-leads n x k q ∙ rw (lt-leb x (highest n) h) (and-false (leb (lowest n) x))) (le-or-lt 58 x)
+second-over n x k h =
+    ⊎-elim (λ p. leads-high 1 n x (omega arith)) (λ q. second-leads n x k q
+    ∙ rw (lt-leb x (highest n) h) (and-false (leb (lowest n) x))) (le-or-lt 58 x)
 
 -- the bounds of the range
 pub record Lowest (n r : ℕ) : Type 0 where
@@ -217,7 +236,8 @@ module _ {t : List ℕ} {at x : ℕ} (e : Byte t at x) where
       other : at < length t → ddd (suc k) n (drop at t) ≡ stuck (drop at t)
       other q = rw (from-byte e q) (rw (h, ddd))
 
-  digit-yes : (k n m : ℕ) → leads? k n x ≡ true → at < length t → m ≡ n * 10 + (x - 48) → ddd (suc k) n (drop at t) ≡ ddd k m (drop (at + 1) t)
+  digit-yes : (k n m : ℕ) → leads? k n x ≡ true → at < length t → m ≡ n * 10 + (x - 48)
+      → ddd (suc k) n (drop at t) ≡ ddd k m (drop (at + 1) t)
   unfolding ddd
   digit-yes k n m h q d = rw (from-byte e q, d) (rw (h, ddd))
 
@@ -228,7 +248,8 @@ module _ {t : List ℕ} {at x : ℕ} (e : Byte t at x) where
   first-high h w = digit-no 2 0 (first-over x h) w
 
   pub first-on : {r : Letter} → 48 ≤ x → x ≤ 50 → LetterAt (ddd 2 (x - 48)) t (at + 1) r → LetterAt (ddd 3 0) t at r
-  first-on h k l = letter-from (digit-yes 2 0 (x - 48) (first-leads x (omega arith) ∙ rw (le-leb 48 x h, le-leb x 50 k)) (inside e (omega arith)) (omega arith)) (omega arith) l
+  first-on h k l = letter-from (digit-yes 2 0 (x - 48) (first-leads x (omega arith) ∙ rw (le-leb 48 x h, le-leb x 50 k))
+      (inside e (omega arith)) (omega arith)) (omega arith) l
 
   module _ {n lo : ℕ} (a : n < 3) (b : Lowest n lo) where
     pub second-low : x < lo → at ≤ length t → LetterAt (ddd 2 n) t at (nowhere at)
@@ -238,9 +259,11 @@ module _ {t : List ℕ} {at x : ℕ} (e : Byte t at x) where
       pub second-high : hi < x → at ≤ length t → LetterAt (ddd 2 n) t at (nowhere at)
       second-high h w = digit-no 1 n (second-over n x a (omega (arith, d .is))) w
 
-      pub second-on : {r : Letter} → lo ≤ x → x ≤ hi → LetterAt (ddd 1 (n * 10 + (x - 48))) t (at + 1) r → LetterAt (ddd 2 n) t at r
+      pub second-on : {r : Letter} → lo ≤ x → x ≤ hi → LetterAt (ddd 1 (n * 10 + (x - 48))) t (at + 1) r
+          → LetterAt (ddd 2 n) t at r
       second-on h k l = letter-from (digit-yes 1 n (n * 10 + (x - 48))
-          (second-leads n x a (omega (arith, d .most)) ∙ rw (le-leb (lowest n) x (omega (arith, b .is)), le-leb x (highest n) (omega (arith, d .is))))
+          (second-leads n x a (omega (arith, d .most))
+          ∙ rw (le-leb (lowest n) x (omega (arith, b .is)), le-leb x (highest n) (omega (arith, d .is))))
           (inside e (omega (arith, b .least))) refl) (omega arith) l
 
   module _ (n : ℕ) where
@@ -258,7 +281,8 @@ module _ {t : List ℕ} {at x : ℕ} (e : Byte t at x) where
       unfolding ddd
       third-is g =
           let w = inside e (omega arith) in
-          letter-one (digit-yes 0 n v (third-leads n x v h k d ∙ sym c ∙ not-false p g) w d ∙ none v (drop (at + 1) t)) (omega arith) (omega arith)
+          letter-one (digit-yes 0 n v (third-leads n x v h k d ∙ sym c ∙ not-false p g) w d ∙ none v (drop (at + 1) t))
+          (omega arith) (omega arith)
         where
           none : (n : ℕ) (u : List ℕ) → ddd 0 n u ≡ took n u
           none n u = refl
@@ -266,7 +290,9 @@ module _ {t : List ℕ} {at x : ℕ} (e : Byte t at x) where
 -- what is coded is an octet
 pub coded-small : {v : ℕ} {p : Bool} → p ≡ coded? v → not p ≡ false → v < 256
 unfolding coded?
-coded-small {v} {p} e g = ⊎-elim (λ h. absurd (subst T (sym (not-false p g) ∙ e ∙ sym (coded-high {v = v} (omega arith))) tt)) (λ h. h) (le-or-lt 256 v)
+coded-small {v} {p} e g =
+    ⊎-elim (λ h. absurd (subst T (sym (not-false p g) ∙ e ∙ sym (coded-high {v = v} (omega arith))) tt)) (λ h. h)
+    (le-or-lt 256 v)
 
 -- ---- what follows the two backslashes
 module _ {t : List ℕ} {at x : ℕ} (e : Byte t at x) where
@@ -277,7 +303,8 @@ module _ {t : List ℕ} {at x : ℕ} (e : Byte t at x) where
   module _ {y : ℕ} (d : x ≡ 92) (f : Byte t (at + 1) y) where
     pub escape-short : (y ≡ 92 → ⊥) → LetterAt escape t at (nowhere (at + 1))
     unfolding escape
-    escape-short k = let w = inside e (omega arith) in letter-none (rw (from-byte e w, d, no-strip 92 [] f k)) (omega arith) (omega arith)
+    escape-short k = let w =
+        inside e (omega arith) in letter-none (rw (from-byte e w, d, no-strip 92 [] f k)) (omega arith) (omega arith)
 
     pub escape-backslash : y ≡ 92 → LetterAt escape t at (letter 92 (at + 2))
     unfolding escape
@@ -325,7 +352,9 @@ module _ {t : List ℕ} {at x : ℕ} {p : Bool} (e : Byte t at x) (c : p ≡ pla
 
     module _ {y : ℕ} (d : x ≡ 92) (f : Byte t (at + 1) y) where
       pub letter-single : (y ≡ 92 → ⊥) → LetterAt spelledAt t at (nowhere (at + 1))
-      letter-single k = let w = inside e (omega arith) in letter-none (escaped ∙ rw (from-byte e w, d, no-strip 92 [] f k)) (omega arith) (omega arith)
+      letter-single k = let w =
+          inside e (omega arith) in letter-none (escaped ∙ rw (from-byte e w, d, no-strip 92 [] f k)) (omega arith)
+          (omega arith)
 
       pub letter-escape : {r : Letter} → y ≡ 92 → LetterAt escape t (at + 2) r → LetterAt spelledAt t at r
       letter-escape k l =

@@ -16,7 +16,8 @@ use Rattle.octets.specs.Decimal.{decimal}
 use Rattle.octets.specs.Overlay.{Wrote, then, nothing, each-ended}
 use Rattle.options.specs.Options.{EdnsOption, memberOf, memberText}
 use Rattle.edns.specs.Edns.{prepend, optionsOf, rcodes, flags, fullRcode, ednsItem, ednsText}
-use Rattle.edns.specs.Element.{risen?, optionsRise, listOf, optionsIn, optionsText, showsEdns, elementText, ednsHeadText}
+use Rattle.edns.specs.Element.{risen?, optionsRise, listOf, optionsIn, optionsText, showsEdns, elementText}
+use Rattle.edns.specs.Element.{ednsHeadText}
 use Rattle.edns.specs.Table.{tableOctets, rowAt, text-none, text-row, text-short}
 use Rattle.edns.proofs.Ways.{here, options-end, options-none, options-more}
 
@@ -54,7 +55,8 @@ unfolding each
 later a none t = absurd t
 later a (some l) t = (tt, refl)
 
--- The options from `from` on are still to be written, and they divide what is left: written from `to` on, they make the whole text.
+-- The options from `from` on are still to be written, and they divide what is left: written from `to` on, they make the
+-- whole text.
 pub record OptionsLoop (s b : List ℕ) (at : ℕ) (out : List ℕ) (to from : ℕ) : Type 0 where
   pub divides : T (present? (optionsOf (drop from s)))
   pub writes : (b′ : List ℕ) (r : ℕ) → Wrote out to (optionsText (drop from s)) b′ r → Wrote b at (optionsText s) b′ r
@@ -88,7 +90,9 @@ module _ {s b : List ℕ} {at : ℕ} {out : List ℕ} {to from : ℕ} (f : Optio
     -- it is written
     pub left-more : {code size : ℕ} → code ≡ twoAt s from → size ≡ twoAt s (from + 2) → {out₁ out₂ : List ℕ} {r₁ r₂ : ℕ}
         → Wrote out to (44 ∷ []) out₁ r₁
-        → Wrote out₁ r₁ (memberText (memberOf (record { code = code; value = take (from + 4 + size - (from + 4)) (drop (from + 4) s) }))) out₂ r₂
+        → Wrote out₁ r₁ (memberText
+        (memberOf (record { code = code; value = take (from + 4 + size - (from + 4)) (drop (from + 4) s) }))) out₂
+        r₂
         → OptionsLoop s b at out₂ r₂ (from + 4 + size)
     unfolding optionsText optionsIn
     left-more {code} {size} d e {out₁} {out₂} {r₁} {r₂} p q =
@@ -137,6 +141,8 @@ pub wrote-element : (class ttl rcode : ℕ) (rdata : List ℕ) {b b₁ b₂ b₃
     → Wrote b at (elementText class ttl rcode rdata) b₅ r₅
 unfolding elementText ednsText ednsItem ednsHeadText optionsText
 wrote-element class ttl rcode rdata p q u v w =
-    let front = ednsHeadText (ttl % 65536 / 32768) (ttl / 16777216 * 16 + rcode) ++ ascii "\",\"UDPSIZE\":" ++ decimal class in
+    let front = ednsHeadText (ttl % 65536 / 32768) (ttl / 16777216 * 16 + rcode) ++ ascii "\",\"UDPSIZE\":"
+    ++ decimal class in
     let options = map memberOf (optionsIn rdata) in
-    rw (each-ended (λ m. 44 ∷ memberText m) 125 options, ← braces front (optionsText rdata)) (then (then (then (then p q) u) v) w)
+    rw (each-ended (λ m. 44 ∷ memberText m) 125 options, ← braces front (optionsText rdata))
+    (then (then (then (then p q) u) v) w)

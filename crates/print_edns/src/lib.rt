@@ -78,8 +78,10 @@ fn put_options(out: &mut [u8], at: usize, rdata: &[u8]) -> usize
 
 // Writes the element of a TYPE 41 record that is one: its CLASS, its TTL, the header's RCODE, its RDATA.
 pub fn put_edns(out: &mut [u8], at: usize, class: u32, ttl: u32, rcode: u32, rdata: &[u8]) -> usize
-    requires { ⌜ (at < 2 ^ 36) × (rcode < 16) × (length (now rdata) < 65536) × (showsEdns true ttl rcode (now rdata) ≡ true) ⌝ }
-    ensures { λ r. ⌜ Wrote (now (out .entry)) at (elementText class ttl rcode (now (rdata .entry))) (now (out .exit)) r ⌝ }
+    requires { ⌜ (at < 2 ^ 36) × (rcode < 16) × (length (now rdata) < 65536)
+        × (showsEdns true ttl rcode (now rdata) ≡ true) ⌝ }
+    ensures { λ r. ⌜ Wrote (now (out .entry)) at (elementText class ttl rcode (now (rdata .entry)))
+        (now (out .exit)) r ⌝ }
     ensures { λ r. ⌜ r ≤ at + 128 + 64 * length (now (rdata .entry)) ⌝ }
 {
     let mut to = put_head(out, at, ttl % 65536 / 32768, ttl / 16777216 * 16 + rcode);

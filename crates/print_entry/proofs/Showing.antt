@@ -32,8 +32,10 @@ use Rattle.edns.specs.Element.{showsEdns, elementText, shows-edns, element-text
 use Rattle.json.proofs.ViewLaws.{entryOf}
 use Rattle.json.specs.Document.{recordText, itemText}
 use Rattle.json.specs.Text.{recordItem, item}
-use Rattle.print_entry.specs.Prints.{texts, Readable, readable-value, readable≢bad, Prints, prints-text, prints-between}
-use Rattle.print_entry.specs.Elements.{fieldsText, hexOfRdata, rdataText, ordinaryText, rcodeOf, rdataOf, shows?, shownText, questionTextAt, entryText, recordTextAt, textAt}
+use Rattle.print_entry.specs.Prints.{texts, Readable, readable-value, readable≢bad, Prints, prints-text}
+use Rattle.print_entry.specs.Prints.{prints-between}
+use Rattle.print_entry.specs.Elements.{fieldsText, hexOfRdata, rdataText, ordinaryText, rcodeOf, rdataOf, shows?}
+use Rattle.print_entry.specs.Elements.{shownText, questionTextAt, entryText, recordTextAt, textAt}
 use Rattle.print_entry.proofs.Writing.{front-text, head-sized}
 use Rattle.print_entry.specs.declared.Element.{Element}
 use Rattle.print_entry.specs.declared.Element.the-variants as element
@@ -42,7 +44,8 @@ use Rattle.print_entry.specs.declared.Element.the-variants as element
 module _ (s form : List ℕ) (h : Head) where
   pub ordinary-rdata : Readable (ordinaryText s form h) → Readable (rdataText s (h .kind) (h .rdata) (h .rdlength))
   unfolding ordinaryText
-  ordinary-rdata k = readable-value (λ t. fieldsText form (h .kind) (h .class) (h .ttl) ++ t ++ ascii "}") (rdataText s (h .kind) (h .rdata) (h .rdlength)) k
+  ordinary-rdata k = readable-value (λ t. fieldsText form (h .kind) (h .class) (h .ttl) ++ t ++ ascii "}")
+      (rdataText s (h .kind) (h .rdata) (h .rdlength)) k
 
   pub ordinary-prints : {b b₁ b₂ b₃ : List ℕ} {to n₁ n₂ n₃ next : ℕ}
       → Wrote b to (fieldsText form (h .kind) (h .class) (h .ttl)) b₁ n₁
@@ -53,18 +56,22 @@ module _ (s form : List ℕ) (h : Head) where
 
 -- the texts of a record's parts
 record-parts : (r : Record) → Sized (r .name)
-    → recordText (recordItem r) ≡ fieldsText (nameForm (r .name)) (r .type) (r .class) (r .ttl) ++ hexText (r .rdata) ++ ascii "}"
+    → recordText (recordItem r) ≡ fieldsText (nameForm (r .name)) (r .type) (r .class) (r .ttl) ++ hexText (r .rdata)
+    ++ ascii "}"
 unfolding recordText recordItem fieldsText
 record-parts r h =
-    ap (λ (t : List ℕ). t ++ ascii ",\"TTL\":" ++ signedText (signed (r .ttl)) ++ ascii ",\"RDATAHEX\":\"" ++ hexText (r .rdata) ++ ascii "}") (front-text (r .name) (r .type) (r .class) h)
+    ap (λ (t : List ℕ). t ++ ascii ",\"TTL\":" ++ signedText (signed (r .ttl)) ++ ascii ",\"RDATAHEX\":\""
+    ++ hexText (r .rdata) ++ ascii "}") (front-text (r .name) (r .type) (r .class) h)
 
 ordinary-text : (s : List ℕ) (k : HeadOf) → Sized (k .name)
-    → ordinaryText s (nameForm (k .name)) (headRead k) ≡ texts (λ (r : Record). recordText (recordItem r)) (with-rdata s (entry k (k .rdata + k .rdlength)))
+    → ordinaryText s (nameForm (k .name)) (headRead k) ≡ texts (λ (r : Record). recordText (recordItem r))
+    (with-rdata s (entry k (k .rdata + k .rdlength)))
 unfolding ordinaryText rdataText
 ordinary-text s k h = go (rdataAt true s (k .type) (k .rdata) (k .rdlength))
   where
     go : (w : layout.Laid)
-        → texts (λ t. fieldsText (nameForm (k .name)) (k .type) (k .class) (k .ttl) ++ t ++ ascii "}") (hexOfRdata (k .rdata + k .rdlength) w)
+        → texts (λ t. fieldsText (nameForm (k .name)) (k .type) (k .class) (k .ttl) ++ t ++ ascii "}")
+        (hexOfRdata (k .rdata + k .rdlength) w)
         ≡ texts (λ (r : Record). recordText (recordItem r)) (filled (withRdata k) (k .rdata + k .rdlength) w)
     go (laid d) = ap (λ (t : List ℕ). entry t (k .rdata + k .rdlength)) (sym (record-parts (withRdata k d) h))
     go (misfit fault) = refl
@@ -75,12 +82,14 @@ abbrev shown? : ℕ → Bool → Record → Bool
 shown? rcode lone r = lone && opt? r && showsEdns (none? (r .name)) (r .ttl) rcode (r .rdata)
 
 entry-text : (rcode : ℕ) (lone : Bool) (r : Record)
-    → entryText rcode lone r ≡ cond (shown? rcode lone r) (elementText (r .class) (r .ttl) rcode (r .rdata)) (recordText (recordItem r))
+    → entryText rcode lone r ≡ cond (shown? rcode lone r) (elementText (r .class) (r .ttl) rcode (r .rdata))
+    (recordText (recordItem r))
 unfolding entryText itemText item
 entry-text rcode lone r = go lone (opt? r) refl (ednsOf rcode r) refl
   where
     go : (lone : Bool) (t : Bool) → opt? r ≡ t → (o : Option Edns) → ednsOf rcode r ≡ o
-        → itemText (item rcode (entryOf rcode lone r)) ≡ cond (shown? rcode lone r) (elementText (r .class) (r .ttl) rcode (r .rdata)) (recordText (recordItem r))
+        → itemText (item rcode (entryOf rcode lone r)) ≡ cond (shown? rcode lone r)
+        (elementText (r .class) (r .ttl) rcode (r .rdata)) (recordText (recordItem r))
     go false t p o q = refl
     go true false p o q = rw p
     go true true p none q = rw (p, shows-edns rcode r, q)
@@ -102,7 +111,9 @@ root-form [] = refl
 root-form (l ∷ n) = ne-eqb _ 1 λ e. some-octet n e
   where
     some-octet : (n : Name) → length (length l ∷ (l ++ nameForm n)) ≡ 1 → ⊥
-    some-octet n e = let a = length-append l (nameForm n) in let b = form-some n in let c : length (length l ∷ (l ++ nameForm n)) ≡ 1 + length (l ++ nameForm n) = omega arith in omega arith
+    some-octet n e = let a = length-append l (nameForm n) in let b =
+        form-some n in let c : length (length l ∷ (l ++ nameForm n)) ≡ 1 + length (l ++ nameForm n) =
+        omega arith in omega arith
 
 -- the record of a head, where RDATA is read
 module _ (s : List ℕ) (k : HeadOf) (lone : Bool) where
@@ -120,23 +131,28 @@ module _ (s : List ℕ) (k : HeadOf) (lone : Bool) where
       go false t p = refl
       go true false p = rw p
       go true true p =
-          let f : rdataAt true s 41 (k .rdata) (k .rdlength) ≡ laid d = subst (λ (n : ℕ). rdataAt true s n (k .rdata) (k .rdlength) ≡ laid d) (eqb-true (k .type) 41 p) e in
+          let f : rdataAt true s 41 (k .rdata) (k .rdlength) ≡ laid d =
+          subst (λ (n : ℕ). rdataAt true s n (k .rdata) (k .rdlength) ≡ laid d) (eqb-true (k .type) 41 p) e in
           let g : part s (k .rdata) (k .rdlength) ≡ d = laid-octets (sym (opt-rdata s (k .rdata) (k .rdlength)) ∙ f) in
           rw (p, root-form (k .name), size-same, g)
 
   -- where it is no element, its text is that of the record as it is
   as-is : (w : layout.Laid) → rdataAt true s (k .type) (k .rdata) (k .rdlength) ≡ w → shows? s (headRead k) lone ≡ false
-      → texts (entryText (rcodeOf s) lone) (filled (withRdata k) (k .rdata + k .rdlength) w) ≡ texts (λ (r : Record). recordText (recordItem r)) (filled (withRdata k) (k .rdata + k .rdlength) w)
-  as-is (laid d) p q = ap (λ (t : List ℕ). entry t (k .rdata + k .rdlength)) (entry-text (rcodeOf s) lone (withRdata k d) ∙ rw (← (head-shows d p), q))
+      → texts (entryText (rcodeOf s) lone) (filled (withRdata k) (k .rdata + k .rdlength) w) ≡ texts
+      (λ (r : Record). recordText (recordItem r)) (filled (withRdata k) (k .rdata + k .rdlength) w)
+  as-is (laid d) p q = ap (λ (t : List ℕ). entry t (k .rdata + k .rdlength))
+      (entry-text (rcodeOf s) lone (withRdata k d) ∙ rw (← (head-shows d p), q))
   as-is (misfit fault) p q = refl
 
   -- where it is one, its text is the element's
   as-element : (w : layout.Laid) → rdataAt true s (k .type) (k .rdata) (k .rdlength) ≡ w
       → w ≡ laid (rdataOf s (headRead k)) → shows? s (headRead k) lone ≡ true
-      → texts (entryText (rcodeOf s) lone) (filled (withRdata k) (k .rdata + k .rdlength) w) ≡ entry (elementText (k .class) (k .ttl) (rcodeOf s) (rdataOf s (headRead k))) (k .rdata + k .rdlength)
+      → texts (entryText (rcodeOf s) lone) (filled (withRdata k) (k .rdata + k .rdlength) w) ≡ entry
+      (elementText (k .class) (k .ttl) (rcodeOf s) (rdataOf s (headRead k))) (k .rdata + k .rdlength)
   as-element (laid d) p g q =
       ap (λ (t : List ℕ). entry t (k .rdata + k .rdlength))
-      (entry-text (rcodeOf s) lone (withRdata k d) ∙ rw (← (head-shows d p), q) (ap (elementText (k .class) (k .ttl) (rcodeOf s)) (laid-octets g)))
+      (entry-text (rcodeOf s) lone (withRdata k d)
+      ∙ rw (← (head-shows d p), q) (ap (elementText (k .class) (k .ttl) (rcodeOf s)) (laid-octets g)))
   as-element (misfit fault) p g q = absurd (misfit≢laid g)
 
 -- ---- what follows of the test
@@ -154,7 +170,9 @@ shows-root false ttl rcode d e = absurd (false≢true e)
 pub element-shows : (s : List ℕ) (h : Head) (lone : Bool) {t : Bool} {rcode : ℕ} → t ≡ shows? s h lone → t ≡ true
     → rcode ≡ rcodeOf s → showsEdns true (h .ttl) rcode (rdataOf s h) ≡ true
 unfolding shows?
-element-shows s h lone p q e = rw e (shows-root (eqb (h .size) 1) (h .ttl) (rcodeOf s) (rdataOf s h) (both-true (lone && eqb (h .kind) 41) _ (sym p ∙ q) .1))
+element-shows s h lone p q e =
+    rw e (shows-root (eqb (h .size) 1) (h .ttl) (rcodeOf s) (rdataOf s h)
+    (both-true (lone && eqb (h .kind) 41) _ (sym p ∙ q) .1))
 
 element-kind : (s : List ℕ) (h : Head) (lone : Bool) → shows? s h lone ≡ true → h .kind ≡ 41
 unfolding shows?
@@ -166,7 +184,8 @@ element-rdata : (s : List ℕ) (k : HeadOf) → k .type ≡ 41
     → rdataAt true s (k .type) (k .rdata) (k .rdlength) ≡ laid (rdataOf s (headRead k))
 element-rdata s k e =
     let z : k .rdata + k .rdlength - k .rdata ≡ k .rdlength = omega arith in
-    ap (λ (n : ℕ). rdataAt true s n (k .rdata) (k .rdlength)) e ∙ opt-rdata s (k .rdata) (k .rdlength) ∙ ap (λ (n : ℕ). laid (part s (k .rdata) n)) (sym z)
+    ap (λ (n : ℕ). rdataAt true s n (k .rdata) (k .rdlength)) e ∙ opt-rdata s (k .rdata) (k .rdlength)
+    ∙ ap (λ (n : ℕ). laid (part s (k .rdata) n)) (sym z)
 
 -- the test as the code makes it
 pub shows-many : (s : List ℕ) (h : Head) (lone : Bool) → not lone ≡ true → false ≡ shows? s h lone
@@ -189,11 +208,14 @@ shows-lone s h false e k c p = absurd (false≢true (sym e))
 -- ---- records
 -- the record's text by its head and RDATA
 record-text : (lone : Bool) (s : List ℕ) (at : ℕ) (k : HeadOf) (next : ℕ) → recordHeadAt s at ≡ entry k next
-    → recordTextAt lone s at ≡ texts (entryText (rcodeOf s) lone) (filled (withRdata k) (k .rdata + k .rdlength) (rdataAt true s (k .type) (k .rdata) (k .rdlength)))
+    → recordTextAt lone s at ≡ texts (entryText (rcodeOf s) lone)
+    (filled (withRdata k) (k .rdata + k .rdlength) (rdataAt true s (k .type) (k .rdata) (k .rdlength)))
 unfolding recordTextAt
 record-text lone s at k next e =
     ap (texts (entryText (rcodeOf s) lone))
-    (record-head s at ∙ ap (with-rdata s) e ∙ ap (λ (i : ℕ). filled (withRdata k) i (rdataAt true s (k .type) (k .rdata) (k .rdlength))) (head-next s at k next e))
+    (record-head s at ∙ ap (with-rdata s) e
+    ∙ ap (λ (i : ℕ). filled (withRdata k) i (rdataAt true s (k .type) (k .rdata) (k .rdlength)))
+    (head-next s at k next e))
 
 module _ (s : List ℕ) (at : ℕ) (lone : Bool) {r : RecordRead} (e : r ≡ recordRead (recordHeadAt s at)) where
   -- one that is readable has no fault
@@ -201,7 +223,8 @@ module _ (s : List ℕ) (at : ℕ) (lone : Bool) {r : RecordRead} (e : r ≡ rec
   unfolding recordTextAt
   record-faultless h p =
       let (fault, u, v) = headed (recordHeadAt s at) e p in
-      readable≢bad (readable-value (entryText (rcodeOf s) lone) (recordAt s at) h) (record-head s at ∙ ap (with-rdata s) u)
+      readable≢bad (readable-value (entryText (rcodeOf s) lone) (recordAt s at) h) (record-head s at
+      ∙ ap (with-rdata s) u)
 
   -- the text of a record by what was read
   record-same : {h : Head} → r .answer ≡ record′.Read h
@@ -209,15 +232,18 @@ module _ (s : List ℕ) (at : ℕ) (lone : Bool) {r : RecordRead} (e : r ≡ rec
   unfolding shownText
   record-same {h} p = go (headed (recordHeadAt s at) e p)
     where
-      go : (z : (k : HeadOf) × (next : ℕ) × (recordHeadAt s at ≡ entry k next) × (h ≡ headRead k) × (r .name ≡ padded (nameForm (k .name))))
+      go : (z : (k : HeadOf) × (next : ℕ) × (recordHeadAt s at ≡ entry k next) × (h ≡ headRead k)
+          × (r .name ≡ padded (nameForm (k .name))))
           → recordTextAt lone s at ≡ shownText lone s (take (h .size - 0) (r .name)) h
       go (k, next, u, v, l) =
           record-text lone s at k next u ∙ shown (shows? s (headRead k) lone) refl
-          ∙ ap (λ (form : List ℕ). shownText lone s form (headRead k)) (sym (form-part (nameForm (k .name)) (r .name) (length (nameForm (k .name))) refl l))
+          ∙ ap (λ (form : List ℕ). shownText lone s form (headRead k))
+          (sym (form-part (nameForm (k .name)) (r .name) (length (nameForm (k .name))) refl l))
           ∙ ap (λ (h : Head). shownText lone s (take (h .size - 0) (r .name)) h) (sym v)
         where
           shown : (t : Bool) → shows? s (headRead k) lone ≡ t
-              → texts (entryText (rcodeOf s) lone) (filled (withRdata k) (k .rdata + k .rdlength) (rdataAt true s (k .type) (k .rdata) (k .rdlength)))
+              → texts (entryText (rcodeOf s) lone)
+              (filled (withRdata k) (k .rdata + k .rdlength) (rdataAt true s (k .type) (k .rdata) (k .rdlength)))
               ≡ shownText lone s (nameForm (k .name)) (headRead k)
           shown true q = as-element s k lone _ refl (element-rdata s k (element-kind s (headRead k) lone q)) q ∙ rw q
           shown false q = as-is s k lone _ refl q ∙ sym (ordinary-text s k (head-sized s at k next u)) ∙ rw q

@@ -24,7 +24,8 @@ use Rattle.records.specs.Layout as layout
 use Rattle.records.specs.Message.{Question}
 use Rattle.records.specs.Read.{Entry, entry, bad, with-name, firstCut, questionAt}
 use Rattle.records.specs.RecordLaws.{bad≢entry, entry-value}
-use Rattle.records.specs.Parts.{fitted, begun, begunAt, question-begun, HeadOf, recordHeadAt, headed, layoutIn, rdata-pieces, stepAt}
+use Rattle.records.specs.Parts.{fitted, begun, begunAt, question-begun, HeadOf, recordHeadAt, headed, layoutIn}
+use Rattle.records.specs.Parts.{rdata-pieces, stepAt}
 use Rattle.records.specs.Answer.{padded, askedOf, questionRead, stepRead}
 use Rattle.records.specs.declared.Asked.{Asked}
 use Rattle.records.specs.declared.Question.the-variants as question
@@ -35,7 +36,8 @@ use Rattle.spelling.specs.Spelling.{labelText, nameText, signed, signedText}
 use Rattle.spelling.specs.Form.{labels, formText, within-label}
 use Rattle.json.specs.Document.{questionText}
 use Rattle.print_head.specs.Head.{numberText}
-use Rattle.print_entry.specs.Prints.{texts, Readable, readable-value, readable≢bad, Prints, prints-text, PrintLoop, rest-all, rest-same, rest-text, rest-end}
+use Rattle.print_entry.specs.Prints.{texts, Readable, readable-value, readable≢bad, Prints, prints-text}
+use Rattle.print_entry.specs.Prints.{PrintLoop, rest-all, rest-same, rest-text, rest-end}
 use Rattle.print_entry.specs.Elements.{startText, fieldsText, hexOfRdata, rdataText, piecesText, questionTextAt}
 
 -- ---- the first members
@@ -80,7 +82,8 @@ begun-sized s widths at n next e = go (nameAt s message at) refl e
     fit m i (some x) q = absurd (faulty≢named q)
 
     go : (w : Named) → nameAt s message at ≡ w → begun s widths w ≡ named n next → Sized n
-    go (named m i) p q = subst Sized (fit m i (firstCut s i widths) q) (read-sized s message at at m i (omega arith) p .0)
+    go (named m i) p q = subst Sized (fit m i (firstCut s i widths) q)
+        (read-sized s message at at m i (omega arith) p .0)
     go (faulty f) p q = absurd (faulty≢named q)
 
 -- so has what begins with one
@@ -95,7 +98,8 @@ begun-entry nameIn s widths at f same a next e = go (begunAt s at widths) refl e
 
 question-sized : (s : List ℕ) (at : ℕ) (q : Question) (next : ℕ) → questionAt s at ≡ entry q next → Sized (q .name)
 question-sized s at q next e =
-    begun-entry (λ (q : Question). q .name) s (2 ∷ 2 ∷ []) at _ (λ n i a j p. sym (ap (λ (q : Question). q .name) (entry-value p))) q next (sym (question-begun s at) ∙ e)
+    begun-entry (λ (q : Question). q .name) s (2 ∷ 2 ∷ []) at _
+    (λ n i a j p. sym (ap (λ (q : Question). q .name) (entry-value p))) q next (sym (question-begun s at) ∙ e)
 
 pub head-sized : (s : List ℕ) (at : ℕ) (h : HeadOf) (next : ℕ) → recordHeadAt s at ≡ entry h next → Sized (h .name)
 unfolding recordHeadAt
@@ -107,20 +111,31 @@ head-sized s at h next e = begun-entry (λ (h : HeadOf). h .name) s (2 ∷ 2 ∷
     room n false fault k i a j p q = sym (ap (λ (h : HeadOf). h .name) (entry-value q)) ∙ p
 
     same : (n : Name) (i : ℕ) (a : HeadOf) (j : ℕ) → headed s n i ≡ entry a j → a .name ≡ n
-    same n i a j p = room n (ltb (length s) (i + 10 + twoAt s (i + 8))) (record { kind = cut; octet = i + 10 }) (record { name = n; type = twoAt s i; class = twoAt s (i + 2); ttl = fourAt s (i + 4); rdata = i + 10; rdlength = twoAt s (i + 8) }) (i + 10 + twoAt s (i + 8)) a j refl p
+    same n i a j p = room n (ltb (length s) (i + 10 + twoAt s (i + 8))) (record { kind = cut; octet = i + 10 })
+        (record {
+          name = n;
+          type = twoAt s i;
+          class = twoAt s (i + 2);
+          ttl = fourAt s (i + 4);
+          rdata = i + 10;
+          rdlength = twoAt s (i + 8);
+        }) (i + 10 + twoAt s (i + 8)) a j refl p
 
 -- ---- questions
 -- the texts that a question and a record begin with
 front : (t u v : List ℕ)
-    → ascii "{\"NAME\":\"" ++ t ++ ascii ",\"TYPE\":" ++ u ++ ascii ",\"CLASS\":" ++ v ≡ ascii "{\"NAME\":\"" ++ t ++ (ascii ",\"TYPE\":" ++ u) ++ (ascii ",\"CLASS\":" ++ v)
+    → ascii "{\"NAME\":\"" ++ t ++ ascii ",\"TYPE\":" ++ u ++ ascii ",\"CLASS\":" ++ v ≡ ascii "{\"NAME\":\"" ++ t
+    ++ (ascii ",\"TYPE\":" ++ u) ++ (ascii ",\"CLASS\":" ++ v)
 front t u v = simp append-assoc
 
 pub front-text : (n : Name) (type class : ℕ) → Sized n
-    → ascii "{\"NAME\":\"" ++ nameText n ++ ascii ",\"TYPE\":" ++ decimal type ++ ascii ",\"CLASS\":" ++ decimal class ≡ startText (nameForm n) type class
+    → ascii "{\"NAME\":\"" ++ nameText n ++ ascii ",\"TYPE\":" ++ decimal type ++ ascii ",\"CLASS\":"
+    ++ decimal class ≡ startText (nameForm n) type class
 unfolding startText numberText
 front-text n type class h =
     front (nameText n) (decimal type) (decimal class)
-    ∙ ap (λ (t : List ℕ). ascii "{\"NAME\":\"" ++ t ++ (ascii ",\"TYPE\":" ++ decimal type) ++ (ascii ",\"CLASS\":" ++ decimal class)) (sym (sized-text n h))
+    ∙ ap (λ (t : List ℕ). ascii "{\"NAME\":\"" ++ t ++ (ascii ",\"TYPE\":" ++ decimal type)
+    ++ (ascii ",\"CLASS\":" ++ decimal class)) (sym (sized-text n h))
 
 question-parts : (q : Question) → Sized (q .name)
     → questionText q ≡ startText (nameForm (q .name)) (q .type) (q .class) ++ ascii "}"
@@ -131,7 +146,8 @@ module _ (s : List ℕ) (at : ℕ) {r : QuestionRead} (e : r ≡ questionRead (q
   -- one that is readable has no fault
   pub question-faultless : {f : FaultRead} → Readable (questionTextAt s at) → r .answer ≡ question.Faulty f → ⊥
   unfolding questionTextAt
-  question-faultless h p = readable≢bad (readable-value questionText (questionAt s at) h) (asked (questionAt s at) e p .1)
+  question-faultless h p =
+      readable≢bad (readable-value questionText (questionAt s at) h) (asked (questionAt s at) e p .1)
 
   pub question-prints : {a : Asked} {b b₁ b₂ : List ℕ} {to n₁ n₂ : ℕ} → r .answer ≡ question.Read a
       → Wrote b to (startText (take (a .size - 0) (r .name)) (a .kind) (a .class)) b₁ n₁ → Wrote b₁ n₁ (125 ∷ []) b₂ n₂
@@ -139,19 +155,23 @@ module _ (s : List ℕ) (at : ℕ) {r : QuestionRead} (e : r ≡ questionRead (q
   unfolding questionTextAt
   question-prints {a} {b} {b₁} {b₂} {to} {n₁} {n₂} p x y = go (asked (questionAt s at) e p) x
     where
-      go : (z : (q : Question) × (next : ℕ) × (questionAt s at ≡ entry q next) × (a ≡ askedOf q next) × (r .name ≡ padded (nameForm (q .name))))
+      go : (z : (q : Question) × (next : ℕ) × (questionAt s at ≡ entry q next) × (a ≡ askedOf q next)
+          × (r .name ≡ padded (nameForm (q .name))))
           → Wrote b to (startText (take (a .size - 0) (r .name)) (a .kind) (a .class)) b₁ n₁
           → Prints (texts questionText (questionAt s at)) b to b₂ (a .next) n₂
       go (q, next, u, v, l) =
-          rw u (subst (λ (c : Asked). Wrote b to (startText (take (c .size - 0) (r .name)) (c .kind) (c .class)) b₁ n₁ → Prints (entry (questionText q) next) b to b₂ (c .next) n₂) (sym v)
-          λ x. prints-text (rw (question-parts q (question-sized s at q next u)) (then (rw (form-part (nameForm (q .name)) (r .name) (length (nameForm (q .name))) refl l) at x) y)))
+          rw u (subst (λ (c : Asked). Wrote b to (startText (take (c .size - 0) (r .name)) (c .kind) (c .class)) b₁ n₁
+          → Prints (entry (questionText q) next) b to b₂ (c .next) n₂) (sym v)
+          λ x. prints-text (rw (question-parts q (question-sized s at q next u))
+          (then (rw (form-part (nameForm (q .name)) (r .name) (length (nameForm (q .name))) refl l) at x) y)))
 
 -- ---- RDATA
 -- hexadecimal, piece by piece
 hex-append : (l m : List ℕ) → hexText (l ++ m) ≡ each hexOctet l ++ hexText m
 unfolding hexText each
 hex-append [] m = refl
-hex-append (x ∷ l) m = ap (λ (t : List ℕ). hexOctet x ++ t) (hex-append l m) ∙ sym (append-assoc (hexOctet x) (each hexOctet l) (hexText m))
+hex-append (x ∷ l) m = ap (λ (t : List ℕ). hexOctet x ++ t) (hex-append l m)
+    ∙ sym (append-assoc (hexOctet x) (each hexOctet l) (hexText m))
 
 hexed-before : (end : ℕ) (l : List ℕ) (w : layout.Laid)
     → hexOfRdata end (before l w) ≡ texts (λ t. each hexOctet l ++ t) (hexOfRdata end w)
@@ -172,22 +192,28 @@ hex-short at n l e = let k = length-take n l in omega arith
 pub pieces-all : (s : List ℕ) (kind start size : ℕ) {b : List ℕ} {to : ℕ} → Readable (rdataText s kind start size)
     → PrintLoop (rdataText s kind start size) b to (piecesText s kind start size 0 start) b to
 unfolding rdataText piecesText
-pieces-all s kind start size h = rest-same (ap (hexOfRdata (start + size)) (rdata-pieces true s kind start size)) (rest-all h)
+pieces-all s kind start size h =
+    rest-same (ap (hexOfRdata (start + size)) (rdata-pieces true s kind start size)) (rest-all h)
 
 module _ (s : List ℕ) (kind start size at i : ℕ) {whole : Entry (List ℕ)} {b₀ b : List ℕ} {to next : ℕ} {r : Stepped}
-    (w : PrintLoop whole b₀ to (piecesText s kind start size i at) b next) (e : r ≡ stepRead (stepAt (drop i (layoutIn kind size)) s start (start + size) at)) where
+    (w : PrintLoop whole b₀ to (piecesText s kind start size i at) b next)
+    (e : r ≡ stepRead (stepAt (drop i (layoutIn kind size)) s start (start + size) at)) where
   -- the pieces from the next on
   after : (xs : List ℕ) (n : ℕ) {b₁ : List ℕ} {n₁ : ℕ}
-      → pieces true (drop i (layoutIn kind size)) s start (start + size) at ≡ before xs (pieces true (drop (i + 1) (layoutIn kind size)) s start (start + size) n)
+      → pieces true (drop i (layoutIn kind size)) s start (start + size) at ≡ before xs
+      (pieces true (drop (i + 1) (layoutIn kind size)) s start (start + size) n)
       → Wrote b next (each hexOctet xs) b₁ n₁ → PrintLoop whole b₀ to (piecesText s kind start size (i + 1) n) b₁ n₁
   unfolding piecesText
-  after xs n q p = rest-text (rest-same (ap (hexOfRdata (start + size)) q ∙ hexed-before (start + size) xs (pieces true (drop (i + 1) (layoutIn kind size)) s start (start + size) n)) w) p
+  after xs n q p = rest-text
+      (rest-same (ap (hexOfRdata (start + size)) q
+      ∙ hexed-before (start + size) xs (pieces true (drop (i + 1) (layoutIn kind size)) s start (start + size) n)) w) p
 
   -- octets as they are
   pub pieces-part : {n : ℕ} {b₁ : List ℕ} {n₁ : ℕ} → r .step ≡ step.Part n
       → Wrote b next (each hexOctet (take (n - at) (drop at s))) b₁ n₁
       → PrintLoop whole b₀ to (piecesText s kind start size (i + 1) n) b₁ n₁
-  pieces-part {n} q p = after (part s at (n - at)) n (pieces-next s (layoutIn kind size) start (start + size) at i (tells _ e q)) p
+  pieces-part {n} q p =
+      after (part s at (n - at)) n (pieces-next s (layoutIn kind size) start (start + size) at i (tells _ e q)) p
 
   -- a name
   pub pieces-name : {long n : ℕ} {b₁ : List ℕ} {n₁ : ℕ} → r .step ≡ step.Name long n
@@ -202,11 +228,14 @@ module _ (s : List ℕ) (kind start size at i : ℕ) {whole : Entry (List ℕ)} 
   pub pieces-done : {b₁ : List ℕ} {n₁ : ℕ} → r .step ≡ step.Done → Wrote b next (34 ∷ []) b₁ n₁
       → Prints whole b₀ to b₁ (start + size) n₁
   unfolding piecesText hexText
-  pieces-done q p = rest-end (rest-same (ap (hexOfRdata (start + size)) (pieces-next s (layoutIn kind size) start (start + size) at i (tells _ e q))) w) p
+  pieces-done q p = rest-end
+      (rest-same (ap (hexOfRdata (start + size))
+      (pieces-next s (layoutIn kind size) start (start + size) at i (tells _ e q))) w) p
 
   -- no fault is left
   pub pieces-faultless : {f : FaultRead} → r .step ≡ step.Misfit f → ⊥
   unfolding piecesText
   pieces-faultless q =
       let (fault, x, y) = tells _ e q in
-      readable≢bad (w .readable) (ap (hexOfRdata (start + size)) (pieces-next s (layoutIn kind size) start (start + size) at i x))
+      readable≢bad (w .readable)
+      (ap (hexOfRdata (start + size)) (pieces-next s (layoutIn kind size) start (start + size) at i x))

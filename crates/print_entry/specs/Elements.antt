@@ -26,11 +26,13 @@ use Rattle.print_entry.specs.declared.Element.the-variants as element
 -- ---- parts of elements
 -- NAME by the name's form, TYPE, CLASS
 unfoldable pub startText : List ℕ → ℕ → ℕ → List ℕ
-startText form type class = ascii "{\"NAME\":\"" ++ formText form ++ numberText (ascii ",\"TYPE\":") type ++ numberText (ascii ",\"CLASS\":") class
+startText form type class = ascii "{\"NAME\":\"" ++ formText form ++ numberText (ascii ",\"TYPE\":") type
+    ++ numberText (ascii ",\"CLASS\":") class
 
 -- a record up to the quote before its RDATA
 unfoldable pub fieldsText : List ℕ → ℕ → ℕ → ℕ → List ℕ
-fieldsText form type class ttl = startText form type class ++ ascii ",\"TTL\":" ++ signedText (signed ttl) ++ ascii ",\"RDATAHEX\":\""
+fieldsText form type class ttl = startText form type class ++ ascii ",\"TTL\":" ++ signedText (signed ttl)
+    ++ ascii ",\"RDATAHEX\":\""
 
 -- RDATA that ends at an offset
 abbrev pub hexOfRdata : ℕ → Laid → Entry (List ℕ)
@@ -42,12 +44,14 @@ rdataText s type start size = hexOfRdata (start + size) (rdataAt true s type sta
 
 -- RDATA from the i-th piece of its layout on
 unfoldable pub piecesText : List ℕ → ℕ → ℕ → ℕ → ℕ → ℕ → Entry (List ℕ)
-piecesText s type start size i at = hexOfRdata (start + size) (pieces true (drop i (layoutIn type size)) s start (start + size) at)
+piecesText s type start size i at =
+    hexOfRdata (start + size) (pieces true (drop i (layoutIn type size)) s start (start + size) at)
 
 -- a record as it is, by its owner's form and what the code reads of it before RDATA
 unfoldable pub ordinaryText : List ℕ → List ℕ → Head → Entry (List ℕ)
 ordinaryText s form h =
-    texts (λ t. fieldsText form (h .kind) (h .class) (h .ttl) ++ t ++ ascii "}") (rdataText s (h .kind) (h .rdata) (h .rdlength))
+    texts (λ t. fieldsText form (h .kind) (h .class) (h .ttl) ++ t ++ ascii "}")
+    (rdataText s (h .kind) (h .rdata) (h .rdlength))
 
 -- the header's RCODE
 abbrev pub rcodeOf : List ℕ → ℕ
@@ -64,7 +68,8 @@ shows? s h lone = lone && eqb (h .kind) 41 && showsEdns (eqb (h .size) 1) (h .tt
 -- a record by its owner's form and what the code reads of it before RDATA: an EDNS element, or as it is
 unfoldable pub shownText : Bool → List ℕ → List ℕ → Head → Entry (List ℕ)
 shownText lone s form h =
-    cond (shows? s h lone) (entry (elementText (h .class) (h .ttl) (rcodeOf s) (rdataOf s h)) (h .rdata + h .rdlength)) (ordinaryText s form h)
+    cond (shows? s h lone) (entry (elementText (h .class) (h .ttl) (rcodeOf s) (rdataOf s h)) (h .rdata + h .rdlength))
+    (ordinaryText s form h)
 
 -- ---- elements
 unfoldable pub questionTextAt : List ℕ → ℕ → Entry (List ℕ)

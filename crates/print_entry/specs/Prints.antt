@@ -50,7 +50,11 @@ module _ {b b₁ : List ℕ} {to n₁ : ℕ} {t : List ℕ} (w : Wrote b to t b�
   module _ {e : Entry (List ℕ)} {b₂ : List ℕ} {at n₂ : ℕ} (p : Prints e b₁ n₁ b₂ at n₂) where
     -- after a text
     pub prints-after : Prints (texts (λ u. t ++ u) e) b to b₂ at n₂
-    prints-after = record { text = t ++ p .text; reads = ap (texts (λ u. t ++ u)) (p .reads); wrote = then w (p .wrote) }
+    prints-after = record {
+      text = t ++ p .text;
+      reads = ap (texts (λ u. t ++ u)) (p .reads);
+      wrote = then w (p .wrote);
+    }
 
     -- between two texts
     pub prints-between : {v b₃ : List ℕ} {n₃ : ℕ} → Wrote b₂ n₂ v b₃ n₃
@@ -65,7 +69,8 @@ module _ {b b₁ : List ℕ} {to n₁ : ℕ} {t : List ℕ} (w : Wrote b to t b�
 -- ---- what is left to write
 -- From the buffer b and the place `next` the rest is left: it has no fault, and to write it is to write the whole from
 -- the start.
-pub record PrintLoop (whole : Entry (List ℕ)) (b₀ : List ℕ) (to : ℕ) (rest : Entry (List ℕ)) (b : List ℕ) (next : ℕ) : Type 0 where
+pub record PrintLoop (whole : Entry (List ℕ)) (b₀ : List ℕ) (to : ℕ) (rest : Entry (List ℕ)) (b : List ℕ)
+    (next : ℕ) : Type 0 where
   pub readable : Readable rest
   pub goes : (b′ : List ℕ) (at n : ℕ) → Prints rest b next b′ at n → Prints whole b₀ to b′ at n
 

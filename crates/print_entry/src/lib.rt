@@ -4,7 +4,8 @@ ghost use Prim.Native.Nat.{_+_, _*_, _^_, _<_, _≤_};
 ghost use lib.ListN.{length};
 ghost use Rattle.octets.specs.Overlay.{Wrote};
 ghost use Rattle.print_entry.specs.Prints.{Readable, Prints, Within};
-ghost use Rattle.print_entry.specs.Elements.{startText, fieldsText, rdataText, ordinaryText, rcodeOf, shows?, shownText, questionTextAt, recordTextAt, textAt};
+ghost use Rattle.print_entry.specs.Elements.{startText, fieldsText, rdataText, ordinaryText, rcodeOf, shows?};
+ghost use Rattle.print_entry.specs.Elements.{shownText, questionTextAt, recordTextAt, textAt};
 use edns::is_edns;
 use octets::put;
 use octets::put_all;
@@ -28,8 +29,8 @@ pub struct Position {
     pub to: usize,
 }
 
-// An element of an array: a question; or a record, with whether its section is the additional one and has one TYPE 41 record,
-// which can then show as an EDNS element.
+// An element of an array: a question; or a record, with whether its section is the additional one and has one TYPE 41
+// record, which can then show as an EDNS element.
 pub enum Element {
     Question,
     Record(bool),
@@ -61,8 +62,10 @@ fn put_fields(out: &mut [u8], to: usize, form: &[u8], kind: u32, class: u32, ttl
 
 // Writes RDATA, which has no fault, in hexadecimal, piece by piece, and the quote after it.
 fn put_rdata(s: &[u8], kind: u32, start: usize, size: usize, out: &mut [u8], to: usize) -> usize
-    requires { ⌜ (length (now s) ≤ 65535) × (start + size ≤ length (now s)) × (to < 2 ^ 37) × Readable (rdataText (now s) kind start size) ⌝ }
-    ensures { λ r. ⌜ Prints (rdataText (now (s .entry)) kind start size) (now (out .entry)) to (now (out .exit)) (start + size) r ⌝ }
+    requires { ⌜ (length (now s) ≤ 65535) × (start + size ≤ length (now s)) × (to < 2 ^ 37)
+        × Readable (rdataText (now s) kind start size) ⌝ }
+    ensures { λ r. ⌜ Prints (rdataText (now (s .entry)) kind start size) (now (out .entry)) to (now (out .exit))
+        (start + size) r ⌝ }
     ensures { λ r. ⌜ r ≤ to + 1531 + 2 * size ⌝ }
 {
     let mut i = 0;
@@ -96,8 +99,10 @@ fn put_rdata(s: &[u8], kind: u32, start: usize, size: usize, out: &mut [u8], to:
 
 // Writes a record as it is, by its owner's form and its fields.
 fn put_ordinary(s: &[u8], form: &[u8], head: Head, out: &mut [u8], to: usize) -> usize
-    requires { ⌜ (length (now s) ≤ 65535) × (length (now form) ≤ 255) × (head .rdata + head .rdlength ≤ length (now s)) × (to < 2 ^ 36) × Readable (ordinaryText (now s) (now form) head) ⌝ }
-    ensures { λ r. ⌜ Prints (ordinaryText (now (s .entry)) (now (form .entry)) head) (now (out .entry)) to (now (out .exit)) (head .rdata + head .rdlength) r ⌝ }
+    requires { ⌜ (length (now s) ≤ 65535) × (length (now form) ≤ 255) × (head .rdata + head .rdlength ≤ length (now s))
+        × (to < 2 ^ 36) × Readable (ordinaryText (now s) (now form) head) ⌝ }
+    ensures { λ r. ⌜ Prints (ordinaryText (now (s .entry)) (now (form .entry)) head) (now (out .entry)) to
+        (now (out .exit)) (head .rdata + head .rdlength) r ⌝ }
     ensures { λ r. ⌜ r ≤ to + 2889 + 2 * head .rdlength ⌝ }
 {
     let fields = put_fields(out, to, form, head.kind, head.class, head.ttl);
@@ -135,7 +140,8 @@ fn is_element(s: &[u8], head: Head, lone: bool) -> bool
 // Writes the question at an offset, which has no fault.
 fn put_question(s: &[u8], at: usize, out: &mut [u8], to: usize) -> Position
     requires { ⌜ (length (now s) ≤ 65535) × (to < 2 ^ 36) × Readable (questionTextAt (now s) at) ⌝ }
-    ensures { λ r. ⌜ Prints (questionTextAt (now (s .entry)) at) (now (out .entry)) to (now (out .exit)) (r .at) (r .to) ⌝ }
+    ensures { λ r. ⌜ Prints (questionTextAt (now (s .entry)) at) (now (out .entry)) to (now (out .exit)) (r .at)
+        (r .to) ⌝ }
     ensures { λ r. ⌜ Within r at to (length (now (s .entry))) ⌝ }
 {
     let read = question_at(s, at);
@@ -155,8 +161,11 @@ fn put_question(s: &[u8], at: usize, out: &mut [u8], to: usize) -> Position
 
 // Writes a record by its owner's form and its fields: as an EDNS element, or as it is.
 fn put_shown(s: &[u8], form: &[u8], head: Head, lone: bool, out: &mut [u8], to: usize) -> usize
-    requires { ⌜ (12 ≤ length (now s)) × (length (now s) ≤ 65535) × (length (now form) ≤ 255) × (head .rdata + head .rdlength ≤ length (now s)) × (to < 2 ^ 36) × Readable (shownText lone (now s) (now form) head) ⌝ }
-    ensures { λ r. ⌜ Prints (shownText lone (now (s .entry)) (now (form .entry)) head) (now (out .entry)) to (now (out .exit)) (head .rdata + head .rdlength) r ⌝ }
+    requires { ⌜ (12 ≤ length (now s)) × (length (now s) ≤ 65535) × (length (now form) ≤ 255)
+        × (head .rdata + head .rdlength ≤ length (now s)) × (to < 2 ^ 36)
+        × Readable (shownText lone (now s) (now form) head) ⌝ }
+    ensures { λ r. ⌜ Prints (shownText lone (now (s .entry)) (now (form .entry)) head) (now (out .entry)) to
+        (now (out .exit)) (head .rdata + head .rdlength) r ⌝ }
     ensures { λ r. ⌜ r ≤ to + 2889 + 64 * head .rdlength ⌝ }
 {
     if is_element(s, head, lone) {
@@ -170,8 +179,10 @@ fn put_shown(s: &[u8], form: &[u8], head: Head, lone: bool, out: &mut [u8], to: 
 
 // Writes the record at an offset, which has no fault.
 fn put_record(s: &[u8], at: usize, lone: bool, out: &mut [u8], to: usize) -> Position
-    requires { ⌜ (12 ≤ length (now s)) × (length (now s) ≤ 65535) × (to < 2 ^ 36) × Readable (recordTextAt lone (now s) at) ⌝ }
-    ensures { λ r. ⌜ Prints (recordTextAt lone (now (s .entry)) at) (now (out .entry)) to (now (out .exit)) (r .at) (r .to) ⌝ }
+    requires { ⌜ (12 ≤ length (now s)) × (length (now s) ≤ 65535) × (to < 2 ^ 36)
+        × Readable (recordTextAt lone (now s) at) ⌝ }
+    ensures { λ r. ⌜ Prints (recordTextAt lone (now (s .entry)) at) (now (out .entry)) to (now (out .exit)) (r .at)
+        (r .to) ⌝ }
     ensures { λ r. ⌜ Within r at to (length (now (s .entry))) ⌝ }
 {
     let read = head_at(s, at);
@@ -191,8 +202,10 @@ fn put_record(s: &[u8], at: usize, lone: bool, out: &mut [u8], to: usize) -> Pos
 
 // Writes the element at an offset, which has no fault.
 pub fn put_element(s: &[u8], element: Element, at: usize, out: &mut [u8], to: usize) -> Position
-    requires { ⌜ (12 ≤ length (now s)) × (length (now s) ≤ 65535) × (to < 2 ^ 36) × Readable (textAt element (now s) at) ⌝ }
-    ensures { λ r. ⌜ Prints (textAt element (now (s .entry)) at) (now (out .entry)) to (now (out .exit)) (r .at) (r .to) ⌝ }
+    requires { ⌜ (12 ≤ length (now s)) × (length (now s) ≤ 65535) × (to < 2 ^ 36)
+        × Readable (textAt element (now s) at) ⌝ }
+    ensures { λ r. ⌜ Prints (textAt element (now (s .entry)) at) (now (out .entry)) to (now (out .exit)) (r .at)
+        (r .to) ⌝ }
     ensures { λ r. ⌜ Within r at to (length (now (s .entry))) ⌝ }
 {
     match element {

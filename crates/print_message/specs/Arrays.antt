@@ -10,7 +10,8 @@ use Rattle.octets.specs.Lists.{ascii}
 use Rattle.octets.specs.Fields.{twoAt}
 use Rattle.octets.specs.Overlay.{Wrote, nothing}
 use Rattle.records.specs.Read.{Entry, entry}
-use Rattle.print_entry.specs.Prints.{texts, entryThen, Readable, readable-value, readable-first, Prints, prints-after, PrintLoop, rest-all, rest-same, rest-text, rest-then, rest-end}
+use Rattle.print_entry.specs.Prints.{texts, entryThen, Readable, readable-value, readable-first, Prints, prints-after}
+use Rattle.print_entry.specs.Prints.{PrintLoop, rest-all, rest-same, rest-text, rest-then, rest-end}
 use Rattle.print_entry.specs.Elements.{textAt}
 use Rattle.print_entry.specs.declared.Element.{Element}
 use Rattle.print_entry.specs.declared.Element.the-variants as element
@@ -100,7 +101,8 @@ module _ (e : Element) (s : List ℕ) (count at : ℕ) where
 
 -- the first of the rest
 first-rest : (e : Element) (s : List ℕ) (first : Bool) (left from : ℕ) → 0 < left
-    → restText e s first left from ≡ entryThen (texts (λ t. comma first ++ t) (textAt e s from)) (restText e s false (left - 1))
+    → restText e s first left from ≡ entryThen (texts (λ t. comma first ++ t) (textAt e s from))
+    (restText e s false (left - 1))
 unfolding restText
 first-rest e s first zero from h = absurd (omega arith)
 first-rest e s first (suc n) from h = let z : suc n - 1 ≡ n = omega arith in rw z
@@ -119,7 +121,8 @@ module _ (e : Element) (s : List ℕ) (count left from : ℕ) {whole : Entry (Li
     pub left-readable : Readable (textAt e s from)
     left-readable =
         readable-value (λ t. comma (eqb left count) ++ t) (textAt e s from)
-        (readable-first _ (restText e s false (left - 1)) (rest-same (first-rest e s (eqb left count) left from h) r .readable))
+        (readable-first _ (restText e s false (left - 1))
+        (rest-same (first-rest e s (eqb left count) left from h) r .readable))
 
     -- one less is left
     pub left-less : {b₁ b₂ : List ℕ} {n₁ n₂ after : ℕ} → left ≤ count → Wrote b next (comma (eqb left count)) b₁ n₁
@@ -128,7 +131,8 @@ module _ (e : Element) (s : List ℕ) (count left from : ℕ) {whole : Entry (Li
     left-less {after = after} k p d =
         let z : eqb (left - 1) count ≡ false = ne-eqb (left - 1) count (λ x. omega arith) in
         rest-same (ap (λ (first : Bool). restText e s first (left - 1) after) (sym z))
-        (rest-then (restText e s false (left - 1)) (rest-same (first-rest e s (eqb left count) left from h) r) (prints-after p d))
+        (rest-then (restText e s false (left - 1)) (rest-same (first-rest e s (eqb left count) left from h) r)
+        (prints-after p d))
 
 -- ---- writing a section
 module _ (s title : List ℕ) (e : Element) (at : ℕ) {n count : ℕ} (c : count ≡ n) where
@@ -142,7 +146,8 @@ module _ (s title : List ℕ) (e : Element) (at : ℕ) {n count : ℕ} (c : coun
   section-prints p d = prints-after p (rw c at d)
 
 -- ---- writing the whole
-module _ (lone : Bool) (s : List ℕ) {b b₁ : List ℕ} {n₁ : ℕ} (h : Readable (wholeText lone s)) (p : Wrote b 0 (headTextAt s) b₁ n₁) where
+module _ (lone : Bool) (s : List ℕ) {b b₁ : List ℕ} {n₁ : ℕ} (h : Readable (wholeText lone s))
+    (p : Wrote b 0 (headTextAt s) b₁ n₁) where
   after-head : PrintLoop (wholeText lone s) b 0 (fromQuestions lone s 12) b₁ n₁
   unfolding wholeText
   after-head = rest-text (rest-all h) p

@@ -55,13 +55,15 @@ counts-after (y ∷ l) s = ap (λ m. y ∷ m) (counts-after l s)
 
 -- the head is ID with the three parts after it
 head-parts : (s : List ℕ)
-    → headTextAt s ≡ withCounts (withLow (withHigh (ascii "{\"ID\":" ++ decimal (twoAt s 0)) (getD s 2 0)) (getD s 3 0)) s
+    → headTextAt s ≡ withCounts (withLow (withHigh (ascii "{\"ID\":" ++ decimal (twoAt s 0)) (getD s 2 0)) (getD s 3 0))
+    s
 unfolding headText headTextAt headerOf withHigh withLow withCounts
 head-parts s = refl
 
 -- ---- writing it
 pub wrote-head : (s : List ℕ) {n : ℕ} {b b₁ b₂ b₃ b₄ : List ℕ} {at r₁ r₂ r₃ r₄ : ℕ} → n ≡ twoAt s 0
-    → Wrote b at (numberText (ascii "{\"ID\":") n) b₁ r₁ → Wrote b₁ r₁ (highText (getD s 2 0)) b₂ r₂ → Wrote b₂ r₂ (lowText (getD s 3 0)) b₃ r₃ → Wrote b₃ r₃ (countsText s) b₄ r₄
+    → Wrote b at (numberText (ascii "{\"ID\":") n) b₁ r₁ → Wrote b₁ r₁ (highText (getD s 2 0)) b₂ r₂
+    → Wrote b₂ r₂ (lowText (getD s 3 0)) b₃ r₃ → Wrote b₃ r₃ (countsText s) b₄ r₄
     → Wrote b at (headTextAt s) b₄ r₄
 unfolding numberText
 wrote-head s e t u v w = rw (head-parts s, counts-after, low-after, high-after, ← e) (then (then (then t u) v) w)

@@ -9,10 +9,12 @@ use Rattle.octets.specs.Lists.{ascii, ended, listed, count}
 use Rattle.octets.specs.Fields.{twoAt}
 use Rattle.octets.specs.Overlay.{Wrote}
 use Rattle.records.specs.Message.{Record, Message, opt?}
-use Rattle.records.specs.Read.{Entry, entry, bad, Reached, reached, stopped, Section, questionAt, recordAt, sectionAt, sectionFrom}
+use Rattle.records.specs.Read.{Entry, entry, bad, Reached, reached, stopped, Section, questionAt, recordAt, sectionAt}
+use Rattle.records.specs.Read.{sectionFrom}
 use Rattle.records.specs.Decode.{headerOf, sectionsOf, messageRead, Decoded, accepted, refused, decode}
 use Rattle.records.specs.RecordLaws.{entry-value}
-use Rattle.records.proofs.MessageLaws.{section-step, section-stop, from-reached, section-count, from-count, decode-back, stopped≢reached}
+use Rattle.records.proofs.MessageLaws.{section-step, section-stop, from-reached, section-count, from-count, decode-back}
+use Rattle.records.proofs.MessageLaws.{stopped≢reached}
 use Rattle.json.specs.View.{Additional, additionalOf, viewOf}
 use Rattle.json.proofs.ViewLaws.{entryOf, map-long, additional-map}
 use Rattle.json.specs.Document.{Document, questionText, recordText, itemText, documentText}
@@ -22,7 +24,8 @@ use Rattle.print_entry.specs.Elements.{rcodeOf, questionTextAt, entryText, reco
 use Rattle.print_entry.specs.declared.Element.{Element}
 use Rattle.print_entry.specs.declared.Element.the-variants as element
 use Rattle.print_message.specs.Head.{headTextAt, head-at}
-use Rattle.print_message.specs.Arrays.{comma, restText, arrayText, sectionText, fromAdditional, fromAuthority, fromAnswers, wholeText}
+use Rattle.print_message.specs.Arrays.{comma, restText, arrayText, sectionText, fromAdditional, fromAuthority}
+use Rattle.print_message.specs.Arrays.{fromAnswers, wholeText}
 
 -- ---- sections
 abbrev offset : Reached → ℕ
@@ -37,7 +40,8 @@ module _ {A : Type 0} (read : List ℕ → ℕ → Entry A) (s : List ℕ) where
   from-entries n w at e = ap (λ (w : Reached). sectionFrom read s n w .entries) e
 
 -- ---- arrays of the entries that are read
-module _ {A : Type 0} (f : A → List ℕ) (read : List ℕ → ℕ → Entry A) (e : Element) (s : List ℕ) (same : (at : ℕ) → textAt e s at ≡ texts f (read s at)) where
+module _ {A : Type 0} (f : A → List ℕ) (read : List ℕ → ℕ → Entry A) (e : Element) (s : List ℕ) (same : (at : ℕ)
+    → textAt e s at ≡ texts f (read s at)) where
   -- after the first
   later-text : (n at i : ℕ) → sectionAt read s n at .end ≡ reached i
       → restText e s false n at ≡ entry (ended (λ b. 44 ∷ f b) 93 (sectionAt read s n at .entries)) i
@@ -46,12 +50,15 @@ module _ {A : Type 0} (f : A → List ℕ) (read : List ℕ → ℕ → Entry A)
   later-text (suc n) at i q = go (read s at) refl (later-text n)
     where
       go : (w : Entry A) → read s at ≡ w
-          → ((j k : ℕ) → sectionAt read s n j .end ≡ reached k → restText e s false n j ≡ entry (ended (λ b. 44 ∷ f b) 93 (sectionAt read s n j .entries)) k)
+          → ((j k : ℕ) → sectionAt read s n j .end ≡ reached k
+          → restText e s false n j ≡ entry (ended (λ b. 44 ∷ f b) 93 (sectionAt read s n j .entries)) k)
           → restText e s false (suc n) at ≡ entry (ended (λ b. 44 ∷ f b) 93 (sectionAt read s (suc n) at .entries)) i
       go (entry a next) p g =
-          ap (λ (x : Entry (List ℕ)). entryThen (texts (λ t. comma false ++ t) x) (restText e s false n)) (same at ∙ ap (texts f) p)
+          ap (λ (x : Entry (List ℕ)). entryThen (texts (λ t. comma false ++ t) x) (restText e s false n))
+          (same at ∙ ap (texts f) p)
           ∙ ap (texts (λ u. (44 ∷ f a) ++ u)) (g next i (rw (section-step read s n at a next p) at q))
-          ∙ ap (λ (x : Section A). entry (ended (λ b. 44 ∷ f b) 93 (x .entries)) i) (sym (section-step read s n at a next p))
+          ∙ ap (λ (x : Section A). entry (ended (λ b. 44 ∷ f b) 93 (x .entries)) i)
+          (sym (section-step read s n at a next p))
       go (bad fault) p g = absurd (stopped≢reached (rw (section-stop read s n at fault p) at q))
 
   array-text : (n at i : ℕ) → sectionAt read s n at .end ≡ reached i
@@ -63,15 +70,18 @@ module _ {A : Type 0} (f : A → List ℕ) (read : List ℕ → ℕ → Entry A)
       go : (w : Entry A) → read s at ≡ w
           → arrayText e s (suc n) at ≡ entry (listed f (sectionAt read s (suc n) at .entries)) i
       go (entry a next) p =
-          ap (λ (x : Entry (List ℕ)). texts (λ t. (91 ∷ []) ++ t) (entryThen (texts (λ t. comma true ++ t) x) (restText e s false n))) (same at ∙ ap (texts f) p)
-          ∙ ap (λ (x : Entry (List ℕ)). texts (λ t. (91 ∷ []) ++ t) (texts (λ u. f a ++ u) x)) (later-text n next i (rw (section-step read s n at a next p) at q))
+          ap (λ (x : Entry (List ℕ)). texts (λ t. (91 ∷ []) ++ t)
+          (entryThen (texts (λ t. comma true ++ t) x) (restText e s false n))) (same at ∙ ap (texts f) p)
+          ∙ ap (λ (x : Entry (List ℕ)). texts (λ t. (91 ∷ []) ++ t) (texts (λ u. f a ++ u) x))
+          (later-text n next i (rw (section-step read s n at a next p) at q))
           ∙ ap (λ (x : Section A). entry (listed f (x .entries)) i) (sym (section-step read s n at a next p))
       go (bad fault) p = absurd (stopped≢reached (rw (section-stop read s n at fault p) at q))
 
   section-text : (title l : List ℕ) (n at i : ℕ) → sectionAt read s n at .end ≡ reached i
       → listed f (sectionAt read s n at .entries) ≡ l → sectionText title e s n at ≡ entry (title ++ l) i
   unfolding sectionText
-  section-text title l n at i q p = ap (texts (λ t. title ++ t)) (array-text n at i q) ∙ ap (λ (m : List ℕ). entry (title ++ m) i) p
+  section-text title l n at i q p = ap (texts (λ t. title ++ t)) (array-text n at i q)
+      ∙ ap (λ (m : List ℕ). entry (title ++ m) i) p
 
 -- the texts of the elements are those of the entries
 question-same : (s : List ℕ) (at : ℕ) → textAt element.Question s at ≡ texts questionText (questionAt s at)
@@ -112,7 +122,8 @@ additional-long rcode l = ap length (additional-map rcode l) ∙ map-long (entry
 
 -- ---- the whole
 joined : (h t₁ l₁ t₂ l₂ t₃ l₃ t₄ l₄ z : List ℕ)
-    → h ++ (t₁ ++ l₁ ++ (t₂ ++ l₂ ++ (t₃ ++ l₃ ++ (t₄ ++ l₄ ++ z)))) ≡ h ++ t₁ ++ l₁ ++ t₂ ++ l₂ ++ t₃ ++ l₃ ++ t₄ ++ l₄ ++ z
+    → h ++ (t₁ ++ l₁ ++ (t₂ ++ l₂ ++ (t₃ ++ l₃ ++ (t₄ ++ l₄ ++ z)))) ≡ h ++ t₁ ++ l₁ ++ t₂ ++ l₂ ++ t₃ ++ l₃ ++ t₄ ++ l₄
+    ++ z
 joined h t₁ l₁ t₂ l₂ t₃ l₃ t₄ l₄ z = simp append-assoc
 
 -- the text of a document by its parts
@@ -126,8 +137,10 @@ document-parts : (s : List ℕ) (d : Document) → d .header ≡ headerOf s → 
     ++ ascii "}")))) ≡ documentText d
 unfolding documentText
 document-parts s d h q a n r =
-    joined (headTextAt s) (ascii ",\"questionRRs\":") (listed questionText (d .questions)) (ascii ",\"answerRRs\":") (listed recordText (d .answers))
-    (ascii ",\"authorityRRs\":") (listed recordText (d .authority)) (ascii ",\"additionalRRs\":") (listed itemText (d .additional)) (ascii "}")
+    joined (headTextAt s) (ascii ",\"questionRRs\":") (listed questionText (d .questions)) (ascii ",\"answerRRs\":")
+    (listed recordText (d .answers))
+    (ascii ",\"authorityRRs\":") (listed recordText (d .authority)) (ascii ",\"additionalRRs\":")
+    (listed itemText (d .additional)) (ascii "}")
     ∙ ap (λ (t : List ℕ). t
     ++ ascii ",\"questionRRs\":" ++ listed questionText (d .questions)
     ++ ascii ",\"answerRRs\":" ++ listed recordText (d .answers)
@@ -156,16 +169,26 @@ sections-text s i e =
     let asText : Record → List ℕ = λ r. recordText (recordItem r) in
     let d = documentOf (viewOf (messageRead s)) in
     let l₂ : listed asText (sectionAt recordAt s (twoAt s 6) i₁ .entries) ≡ listed recordText (d .answers) =
-    ap (listed asText) (sym (from-entries recordAt s (twoAt s 6) (f₁ .end) i₁ p₁)) ∙ sym (listed-map recordText recordItem (f₂ .entries)) in
+    ap (listed asText) (sym (from-entries recordAt s (twoAt s 6) (f₁ .end) i₁ p₁))
+    ∙ sym (listed-map recordText recordItem (f₂ .entries)) in
     let l₃ : listed asText (sectionAt recordAt s (twoAt s 8) i₂ .entries) ≡ listed recordText (d .authority) =
-    ap (listed asText) (sym (from-entries recordAt s (twoAt s 8) (f₂ .end) i₂ p₂)) ∙ sym (listed-map recordText recordItem (f₃ .entries)) in
-    let l₄ : listed (entryText (rcodeOf s) lone) (sectionAt recordAt s (twoAt s 10) i₃ .entries) ≡ listed itemText (d .additional) =
-    ap (listed (entryText (rcodeOf s) lone)) (sym (from-entries recordAt s (twoAt s 10) (f₃ .end) i₃ p₃)) ∙ sym (additional-text (rcodeOf s) (f₄ .entries)) in
+    ap (listed asText) (sym (from-entries recordAt s (twoAt s 8) (f₂ .end) i₂ p₂))
+    ∙ sym (listed-map recordText recordItem (f₃ .entries)) in
+    let l₄ : listed (entryText (rcodeOf s) lone) (sectionAt recordAt s (twoAt s 10) i₃ .entries) ≡ listed itemText
+    (d .additional) =
+    ap (listed (entryText (rcodeOf s) lone)) (sym (from-entries recordAt s (twoAt s 10) (f₃ .end) i₃ p₃))
+    ∙ sym (additional-text (rcodeOf s) (f₄ .entries)) in
     let t₄ = on-text (λ next. entry (ascii "}") next)
-    (section-text (entryText (rcodeOf s) lone) recordAt (element.Record lone) s (entry-same lone s) (ascii ",\"additionalRRs\":") _ (twoAt s 10) i₃ i g₄ l₄) refl in
-    let t₃ = on-text (fromAdditional lone s) (section-text asText recordAt (element.Record false) s (record-same s) (ascii ",\"authorityRRs\":") _ (twoAt s 8) i₂ i₃ g₃ l₃) t₄ in
-    let t₂ = on-text (fromAuthority lone s) (section-text asText recordAt (element.Record false) s (record-same s) (ascii ",\"answerRRs\":") _ (twoAt s 6) i₁ i₂ g₂ l₂) t₃ in
-    let t₁ = on-text (fromAnswers lone s) (section-text questionText questionAt element.Question s (question-same s) (ascii ",\"questionRRs\":") _ (twoAt s 4) 12 i₁ p₁ refl) t₂ in
+    (section-text (entryText (rcodeOf s) lone) recordAt (element.Record lone) s (entry-same lone s)
+    (ascii ",\"additionalRRs\":") _ (twoAt s 10) i₃ i g₄ l₄) refl in
+    let t₃ = on-text (fromAdditional lone s)
+    (section-text asText recordAt (element.Record false) s (record-same s) (ascii ",\"authorityRRs\":") _
+    (twoAt s 8) i₂ i₃ g₃ l₃) t₄ in
+    let t₂ = on-text (fromAuthority lone s)
+    (section-text asText recordAt (element.Record false) s (record-same s) (ascii ",\"answerRRs\":") _
+    (twoAt s 6) i₁ i₂ g₂ l₂) t₃ in
+    let t₁ = on-text (fromAnswers lone s) (section-text questionText questionAt element.Question s (question-same s)
+    (ascii ",\"questionRRs\":") _ (twoAt s 4) 12 i₁ p₁ refl) t₂ in
     ap (texts (λ t. headTextAt s ++ t)) t₁
     ∙ ap (λ (a : List ℕ). entry a i) (document-parts s d refl
     (section-count questionAt s (twoAt s 4) 12 i₁ p₁)
@@ -197,11 +220,17 @@ module _ {s : List ℕ} {lone : Bool} (a : AcceptedMessage s lone) where
   unfolding profileText
   whole-text =
       let m = a .message in
-      let k = decode-back s m (a .decodes) in
-      (k .last, rw (a .alone, a .decodes) (subst (λ (n : Message). wholeText (eqb (count opt? (n .additional)) 1) s ≡ entry (text n) (k .last)) (k .same) (sections-text s (k .last) (k .came))))
+      let k = decode-back s m (a .decodes) in (
+        k .last,
+        rw (a .alone, a .decodes)
+            (subst (λ (n : Message). wholeText (eqb (count opt? (n .additional)) 1) s ≡ entry (text n) (k .last))
+            (k .same) (sections-text s (k .last) (k .came))),
+      )
 
   pub accepted-readable : Readable (wholeText lone s)
   accepted-readable = record { value = profileText s; next = whole-text .0; reads = whole-text .1 }
 
-  pub accepted-text : {b b′ : List ℕ} {at n : ℕ} → Prints (wholeText lone s) b 0 b′ at n → Wrote b 0 (profileText s) b′ n
-  accepted-text {b} {b′} {n = n} p = subst (λ (t : List ℕ). Wrote b 0 t b′ n) (entry-value (sym (p .reads) ∙ whole-text .1)) (p .wrote)
+  pub accepted-text : {b b′ : List ℕ} {at n : ℕ} → Prints (wholeText lone s) b 0 b′ at n
+      → Wrote b 0 (profileText s) b′ n
+  accepted-text {b} {b′} {n = n} p =
+      subst (λ (t : List ℕ). Wrote b 0 t b′ n) (entry-value (sym (p .reads) ∙ whole-text .1)) (p .wrote)

@@ -37,8 +37,10 @@ fn put_array(
     out: &mut [u8],
     to: usize,
 ) -> Position
-    requires { ⌜ (12 ≤ length (now s)) × (length (now s) ≤ 65535) × (at ≤ length (now s)) × (to ≤ 4096 * at + 400) × Readable (arrayText element (now s) count at) ⌝ }
-    ensures { λ r. ⌜ Prints (arrayText element (now (s .entry)) count at) (now (out .entry)) to (now (out .exit)) (r .at) (r .to) ⌝ }
+    requires { ⌜ (12 ≤ length (now s)) × (length (now s) ≤ 65535) × (at ≤ length (now s)) × (to ≤ 4096 * at + 400)
+        × Readable (arrayText element (now s) count at) ⌝ }
+    ensures { λ r. ⌜ Prints (arrayText element (now (s .entry)) count at) (now (out .entry)) to (now (out .exit))
+        (r .at) (r .to) ⌝ }
     ensures { λ r. ⌜ Arrives r at to (length (now (s .entry))) ⌝ }
 {
     let mut left = count;
@@ -67,8 +69,11 @@ fn put_section(
     place: usize,
     out: &mut [u8],
 ) -> Position
-    requires { ⌜ (12 ≤ length (now s)) × (length (now s) ≤ 65535) × (length (now title) ≤ 18) × (place ≤ 10) × Placed start (length (now s)) place × Readable (sectionText (now title) element (now s) (twoAt (now s) place) (start .at)) ⌝ }
-    ensures { λ r. ⌜ Prints (sectionText (now (title .entry)) element (now (s .entry)) (twoAt (now (s .entry)) place) (start .at)) (now (out .entry)) (start .to) (now (out .exit)) (r .at) (r .to) ⌝ }
+    requires { ⌜ (12 ≤ length (now s)) × (length (now s) ≤ 65535) × (length (now title) ≤ 18) × (place ≤ 10)
+        × Placed start (length (now s)) place
+        × Readable (sectionText (now title) element (now s) (twoAt (now s) place) (start .at)) ⌝ }
+    ensures { λ r. ⌜ Prints (sectionText (now (title .entry)) element (now (s .entry)) (twoAt (now (s .entry)) place)
+        (start .at)) (now (out .entry)) (start .to) (now (out .exit)) (r .at) (r .to) ⌝ }
     ensures { λ r. ⌜ Placed r (length (now (s .entry))) (place + 2) ⌝ }
 {
     let count = two_at(s, place);

@@ -14,16 +14,19 @@ use Rattle.octets.specs.Decimal.{decimal}
 use Rattle.octets.specs.Hexadecimal.{hexOctet, hexText}
 use Rattle.octets.specs.Overlay.{Wrote, then, each-ended}
 use Rattle.spelling.specs.Spelling.{stringText}
-use Rattle.options.specs.Options.{Form, Value, rows, members, formOf, valueText, words, shape, zero?, present, errorTail, other, memberOf, memberText}
+use Rattle.options.specs.Options.{Form, Value, rows, members, formOf, valueText, words, shape, zero?, present}
+use Rattle.options.specs.Options.{errorTail, other, memberOf, memberText}
 use Rattle.octets.proofs.Arms.{Missed, armsOf}
-use Rattle.options.specs.Shapes.{none-shaped, Shaped, expire-four, cookie-sizes, keepalive-two, keytag-even, error-parts}
+use Rattle.options.specs.Shapes.{none-shaped, Shaped, expire-four, cookie-sizes, keepalive-two, keytag-even}
+use Rattle.options.specs.Shapes.{error-parts}
 
 -- the text of an option's member
 abbrev pub optionText : ℕ → List ℕ → List ℕ
 optionText code value = memberText (memberOf (record { code = code; value = value }))
 
 -- the code is that of a row
-pub at-code : (k : ℕ) {code : ℕ} (v : List ℕ) {b b′ : List ℕ} {at r : ℕ} → code ≡ k → Wrote b at (optionText k v) b′ r → Wrote b at (optionText code v) b′ r
+pub at-code : (k : ℕ) {code : ℕ} (v : List ℕ) {b b′ : List ℕ} {at r : ℕ} → code ≡ k → Wrote b at (optionText k v) b′ r
+    → Wrote b at (optionText code v) b′ r
 at-code k v e w = rw e w
 
 -- the octets from a place on, as a part of the value
@@ -47,15 +50,18 @@ module _ (v : List ℕ) where
 -- ---- the rows, for a value `v`
 module _ (v : List ℕ) {b b′ : List ℕ} {at r : ℕ} where
   -- no row, or not the shape
-  pub other-is : (code : ℕ) {b₁ b₂ : List ℕ} {r₁ r₂ : ℕ} → Wrote b at (ascii "\"OPT") b₁ r₁ → Wrote b₁ r₁ (decimal code) b₂ r₂ → Wrote b₂ r₂ (ascii "\":\"" ++ hexText v) b′ r
+  pub other-is : (code : ℕ) {b₁ b₂ : List ℕ} {r₁ r₂ : ℕ} → Wrote b at (ascii "\"OPT") b₁ r₁
+      → Wrote b₁ r₁ (decimal code) b₂ r₂ → Wrote b₂ r₂ (ascii "\":\"" ++ hexText v) b′ r
       → Wrote b at (memberText (other code v)) b′ r
   unfolding memberText
   other-is code p q s =
-      let e : ascii "\"OPT" ++ decimal code ++ ascii "\":\"" ++ hexText v ≡ ascii "\"OPT" ++ decimal code ++ (ascii "\":\"" ++ hexText v) = simp append-assoc in
+      let e : ascii "\"OPT" ++ decimal code ++ ascii "\":\"" ++ hexText v ≡ ascii "\"OPT" ++ decimal code
+      ++ (ascii "\":\"" ++ hexText v) = simp append-assoc in
       rw e (then (then p q) s)
 
   -- NSID
-  pub nsid-is : {b₁ : List ℕ} {r₁ : ℕ} → Wrote b at (ascii "\"NSID\":{\"HEX\":\"" ++ hexText v) b₁ r₁ → Wrote b₁ r₁ (ascii "}") b′ r → Wrote b at (optionText 3 v) b′ r
+  pub nsid-is : {b₁ : List ℕ} {r₁ : ℕ} → Wrote b at (ascii "\"NSID\":{\"HEX\":\"" ++ hexText v) b₁ r₁
+      → Wrote b₁ r₁ (ascii "}") b′ r → Wrote b at (optionText 3 v) b′ r
   unfolding lookup rowText rows members formOf shape valueText memberOf memberText
   nsid-is p q = then p q
 
@@ -83,7 +89,8 @@ module _ (v : List ℕ) {b b′ : List ℕ} {at r : ℕ} where
   expire-is s h f p q = rw (expire-four v s h, ← f) (then p q)
 
   -- COOKIE
-  pub cookie-client : {b₁ : List ℕ} {r₁ : ℕ} → length v ≡ 8 → Wrote b at (ascii "\"COOKIE\":[\"" ++ hexText v) b₁ r₁ → Wrote b₁ r₁ (ascii "]") b′ r → Wrote b at (optionText 10 v) b′ r
+  pub cookie-client : {b₁ : List ℕ} {r₁ : ℕ} → length v ≡ 8 → Wrote b at (ascii "\"COOKIE\":[\"" ++ hexText v) b₁ r₁
+      → Wrote b₁ r₁ (ascii "]") b′ r → Wrote b at (optionText 10 v) b′ r
   unfolding lookup rowText rows members formOf shape valueText memberOf memberText
   cookie-client e p q = rw e (then p q)
 
@@ -94,7 +101,12 @@ module _ (v : List ℕ) {b b′ : List ℕ} {at r : ℕ} where
   unfolding lookup rowText rows members formOf shape valueText memberOf memberText
   cookie-both f e p q s =
       let (h, k) = cookie-sizes v f e in
-      rw (ne-eqb _ _ e, le-leb _ _ h, le-leb _ _ k, ← (append-assoc (hexText (take 8 v)) (ascii ",\"" ++ hexText (drop 8 v)) (ascii "]")))
+      rw (
+        ne-eqb _ _ e,
+        le-leb _ _ h,
+        le-leb _ _ k,
+        ← (append-assoc (hexText (take 8 v)) (ascii ",\"" ++ hexText (drop 8 v)) (ascii "]")),
+      )
       (then (then p (rw (rest-is 8 v) at q)) s)
 
   -- KEEPALIVE
@@ -105,19 +117,22 @@ module _ (v : List ℕ) {b b′ : List ℕ} {at r : ℕ} where
 
   -- PADDING
   pub padding-zero : {t : Bool} {b₁ b₂ : List ℕ} {r₁ r₂ : ℕ} → t ≡ true → t ≡ all zero? v
-      → Wrote b at (ascii "\"PADDING\":{\"LENGTH\":") b₁ r₁ → Wrote b₁ r₁ (decimal (length v)) b₂ r₂ → Wrote b₂ r₂ (ascii "}") b′ r
+      → Wrote b at (ascii "\"PADDING\":{\"LENGTH\":") b₁ r₁ → Wrote b₁ r₁ (decimal (length v)) b₂ r₂
+      → Wrote b₂ r₂ (ascii "}") b′ r
       → Wrote b at (optionText 12 v) b′ r
   unfolding lookup rowText rows members formOf shape valueText memberOf memberText
   padding-zero e f p q s = rw (← f, e) (then (then p q) s)
 
   pub padding-is : {t : Bool} {b₁ b₂ b₃ : List ℕ} {r₁ r₂ r₃ : ℕ} → t ≡ false → t ≡ all zero? v
       → Wrote b at (ascii "\"PADDING\":{\"LENGTH\":") b₁ r₁ → Wrote b₁ r₁ (decimal (length v)) b₂ r₂
-      → Wrote b₂ r₂ (ascii ",\"HEX\":\"" ++ hexText v) b₃ r₃ → Wrote b₃ r₃ (ascii "}") b′ r → Wrote b at (optionText 12 v) b′ r
+      → Wrote b₂ r₂ (ascii ",\"HEX\":\"" ++ hexText v) b₃ r₃ → Wrote b₃ r₃ (ascii "}") b′ r
+      → Wrote b at (optionText 12 v) b′ r
   unfolding lookup rowText rows members formOf shape valueText memberOf memberText
   padding-is e f p q s u = rw (← f, e) (then (then p q) (then s u))
 
   -- KEYTAG
-  pub keytag-is : Shaped 14 v → Wrote b at (ascii "\"KEYTAG\":" ++ listed decimal (words v)) b′ r → Wrote b at (optionText 14 v) b′ r
+  pub keytag-is : Shaped 14 v → Wrote b at (ascii "\"KEYTAG\":" ++ listed decimal (words v)) b′ r
+      → Wrote b at (optionText 14 v) b′ r
   unfolding lookup rowText rows members formOf shape valueText memberOf memberText
   keytag-is s w = rw (keytag-even v s) w
 

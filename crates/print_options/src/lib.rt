@@ -44,7 +44,8 @@ fn put_nsid(out: &mut [u8], at: usize, value: &[u8]) -> usize
 // DAU, DHU, N3U, by the member's name
 fn put_octets(out: &mut [u8], at: usize, name: &[u8], value: &[u8]) -> usize
     requires { ⌜ (at < 2 ^ 38) × (length (now name) < 32) × (length (now value) < 65536) ⌝ }
-    ensures { λ r. ⌜ Wrote (now (out .entry)) at (now (name .entry) ++ listed decimal (now (value .entry))) (now (out .exit)) r ⌝ }
+    ensures { λ r. ⌜ Wrote (now (out .entry)) at (now (name .entry) ++ listed decimal (now (value .entry)))
+        (now (out .exit)) r ⌝ }
     ensures { λ r. ⌜ r ≤ at + 4 * length (now (value .entry)) + 64 ⌝ }
 {
     let next = put_all(out, at, name);
@@ -128,7 +129,8 @@ fn put_error(out: &mut [u8], at: usize, value: &[u8]) -> usize
 // Writes the member of an option.
 pub fn put_member(out: &mut [u8], at: usize, code: u32, value: &[u8]) -> usize
     requires { ⌜ (at < 2 ^ 38) × (length (now value) < 65536) ⌝ }
-    ensures { λ r. ⌜ Wrote (now (out .entry)) at (memberText (memberOf (record { code = code; value = now (value .entry) }))) (now (out .exit)) r ⌝ }
+    ensures { λ r. ⌜ Wrote (now (out .entry)) at
+        (memberText (memberOf (record { code = code; value = now (value .entry) }))) (now (out .exit)) r ⌝ }
     ensures { λ r. ⌜ r ≤ at + 4 * length (now (value .entry)) + 64 ⌝ }
 {
     if !has_shape(code, value, false) {

@@ -50,7 +50,8 @@ module _ {w : ℕ} (k : Width w) (s : List ℕ) (i : ℕ) where
   number-here h = go (eqb w 2) refl
     where
       go : (b : Bool) → eqb w 2 ≡ b
-          → cond b (words (drop i s)) (drop i s) ≡ cond b (twoAt s i) (getD s i 0) ∷ cond b (words (drop (i + w) s)) (drop (i + w) s)
+          → cond b (words (drop i s)) (drop i s) ≡ cond b (twoAt s i) (getD s i 0) ∷ cond b (words (drop (i + w) s))
+          (drop (i + w) s)
       go true e = let q = eqb-true w 2 e in rw q (word-here s i (omega arith))
       go false e = let q = one e in rw q (drop-one s i (omega arith))
 
@@ -104,15 +105,18 @@ module _ {w : ℕ} (k : Width w) (s : List ℕ) where
       → Wrote b at (listed decimal (numbers w s)) b′ r
   list-none h v = rw (no-number k s 0 (omega arith)) v
 
-  module _ (i : ℕ) {b₀ b b₁ : List ℕ} {at to r : ℕ} (o : ListLoop (numbers w (drop w s)) (numbers w (drop i s)) b₀ at b to) where
+  module _ (i : ℕ) {b₀ b b₁ : List ℕ} {at to r : ℕ}
+      (o : ListLoop (numbers w (drop w s)) (numbers w (drop i s)) b₀ at b to) where
     -- one entry more
     pub list-next : i + w ≤ length s → Wrote b to (44 ∷ decimal (numberAt w s i)) b₁ r
         → ListLoop (numbers w (drop w s)) (numbers w (drop (i + w) s)) b₀ at b₁ r
     list-next h v = record { goes = λ b′ t u. o .goes b′ t (rw (number-here k s i h) (then v u)) }
 
     -- none is left: the bracket ends the list, whose first number was written before the loop
-    pub list-last : {b₋ : List ℕ} {r₋ : ℕ} → w ≤ length s → length s < i + w → Wrote b₋ r₋ (91 ∷ decimal (numberAt w s 0)) b₀ at
+    pub list-last : {b₋ : List ℕ} {r₋ : ℕ} → w ≤ length s → length s < i + w
+        → Wrote b₋ r₋ (91 ∷ decimal (numberAt w s 0)) b₀ at
         → Wrote b to (93 ∷ []) b₁ r → Wrote b₋ r₋ (listed decimal (numbers w s)) b₁ r
     list-last h l u v =
-        let all : numbers w s ≡ numberAt w s 0 ∷ numbers w (drop w s) = number-here k s 0 (omega arith) ∙ rw (zero-add w) in
+        let all : numbers w s ≡ numberAt w s 0 ∷ numbers w (drop w s) = number-here k s 0 (omega arith)
+        ∙ rw (zero-add w) in
         rw all (then u (o .goes b₁ r (rw (no-number k s i l) v)))

@@ -31,7 +31,8 @@ pub fn put_hex_text(out: &mut [u8], at: usize, head: &[u8], src: &[u8]) -> usize
 // Writes the number at `i` of a list, of one or two octets, and before it the bracket or the comma.
 fn put_entry(out: &mut [u8], at: usize, mark: u8, value: &[u8], i: usize, width: usize) -> usize
     requires { ⌜ (at + 1 < 2 ^ 39) × Width width × (i + width ≤ length (now value)) ⌝ }
-    ensures { λ r. ⌜ Wrote (now (out .entry)) at (mark ∷ decimal (numberAt width (now (value .entry)) i)) (now (out .exit)) r ⌝ }
+    ensures { λ r. ⌜ Wrote (now (out .entry)) at (mark ∷ decimal (numberAt width (now (value .entry)) i))
+        (now (out .exit)) r ⌝ }
     ensures { λ r. ⌜ r ≤ at + 4 * width ⌝ }
 {
     let next = put(out, at, mark);
@@ -44,7 +45,8 @@ fn put_entry(out: &mut [u8], at: usize, mark: u8, value: &[u8], i: usize, width:
 // Writes the octets as a list of numbers, of one or two octets each.
 pub fn put_list(out: &mut [u8], at: usize, value: &[u8], width: usize) -> usize
     requires { ⌜ (at < 2 ^ 38 + 32) × (length (now value) < 65536) × Width width ⌝ }
-    ensures { λ r. ⌜ Wrote (now (out .entry)) at (listed decimal (numbers width (now (value .entry)))) (now (out .exit)) r ⌝ }
+    ensures { λ r. ⌜ Wrote (now (out .entry)) at (listed decimal (numbers width (now (value .entry))))
+        (now (out .exit)) r ⌝ }
     ensures { λ r. ⌜ r ≤ at + 4 * length (now (value .entry)) + 2 ⌝ }
 {
     if value.len() < width {

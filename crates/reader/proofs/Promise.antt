@@ -28,7 +28,8 @@ use Rattle.strict.specs.Reading.{meant, reading, toWire}
 use Rattle.tokens.specs.declared.Cursor.{Cursor}
 use Rattle.tokens.specs.Cursor.{Finds, reads-bad, reads-got, Got}
 use Rattle.tokens.specs.Step.{found-there, Put, Step}
-use Rattle.reader.specs.Meant.{documentMeant?, documentOctets, document-meant, document-octets, headMeant?, sectionsMeant?}
+use Rattle.reader.specs.Meant.{documentMeant?, documentOctets, document-meant, document-octets, headMeant?}
+use Rattle.reader.specs.Meant.{sectionsMeant?}
 use Rattle.reader.specs.Whole.{start}
 
 -- ---- what is read is what the definitions read
@@ -59,11 +60,14 @@ within-same d t = go (within? (documentView d)) (leb (length (documentOctets d))
     go true false e f =
         let k = within-small (documentView d) (subst T (sym e) tt) .0 in
         absurd (subst T (sym (ap (λ l. leb (length l) 65535) (octets-form d t)) ∙ f) k)
-    go false true e f = absurd (subst T e (small-form (documentView d) (subst T (sym f ∙ ap (λ l. leb (length l) 65535) (octets-form d t)) tt)))
+    go false true e f = absurd
+        (subst T e (small-form (documentView d)
+        (subst T (sym f ∙ ap (λ l. leb (length l) 65535) (octets-form d t)) tt)))
 
 -- ---- the refusals, and what is written
 -- l is what the first run leaves of no octets
-module _ (t b l : List ℕ) (z : length l ≡ 0) {c : Cursor} (x : Step documentMeant? documentOctets (document .parse) t start [] c l) where
+module _ (t b l : List ℕ) (z : length l ≡ 0) {c : Cursor}
+    (x : Step documentMeant? documentOctets (document .parse) t start [] c l) where
   refuses : (n : ℕ) → reading t ≡ answer.refused n 0 → Gives (toWire t b) (Refused n 0) (l ++ b)
   unfolding toWire
   refuses n e = rw (empty l z, e) (gives-refusal 23 b n 0)
@@ -106,7 +110,13 @@ module _ (t b l : List ℕ) (z : length l ≡ 0) {c : Cursor} (x : Step document
 
         pub read-large : not (c .small) ≡ true → Gives (toWire t b) (Refused 22 0) (l ++ b)
         unfolding reading
-        read-large m = refuses 22 (rw (whole, meaning-some (got .value) means, within-same (got .value) means, sym limit ∙ not-true (c .small) m))
+        read-large m = refuses 22 (rw (
+          whole,
+          meaning-some (got .value) means,
+          within-same (got .value) means,
+          sym limit
+              ∙ not-true (c .small) m,
+        ))
 
         module _ (m : not (c .small) ≡ false) where
           small : T (c .small)
@@ -114,7 +124,13 @@ module _ (t b l : List ℕ) (z : length l ≡ 0) {c : Cursor} (x : Step document
 
           says : reading t ≡ output (documentOctets (got .value))
           unfolding reading
-          says = rw (whole, meaning-some (got .value) means, within-same (got .value) means, sym limit ∙ not-false (c .small) m) (ap output (sym (octets-form (got .value) means)))
+          says = rw (
+            whole,
+            meaning-some (got .value) means,
+            within-same (got .value) means,
+            sym limit
+                ∙ not-false (c .small) m,
+          ) (ap output (sym (octets-form (got .value) means)))
 
           size : c .to ≡ length (documentOctets (got .value))
           size = omega (arith, got .holds .wrote holds small .place)
@@ -127,20 +143,28 @@ module _ (t b l : List ℕ) (z : length l ≡ 0) {c : Cursor} (x : Step document
               go n = rw says (gives-none 23 b (documentOctets (got .value)) (omega (arith, size)))
 
           -- the second run finds the same, and writes it
-          pub read-message : {c′ : Cursor} {b′ : List ℕ} → c .to ≤ length (l ++ b) → Step documentMeant? documentOctets (document .parse) t start (l ++ b) c′ b′ → Gives (toWire t b) (Length (c .to)) b′
+          pub read-message : {c′ : Cursor} {b′ : List ℕ} → c .to ≤ length (l ++ b)
+              → Step documentMeant? documentOctets (document .parse) t start (l ++ b) c′ b′
+              → Gives (toWire t b) (Length (c .to)) b′
           unfolding toWire
           read-message {c′} {b′} n y = go (rw (empty l z) at n) (rw (empty l z) at y)
             where
-              same : (d : Document) → d ≡ got .value → Put documentMeant? documentOctets start b c′ b′ d → Wrote b 0 (documentOctets (got .value)) b′ (c′ .to)
+              same : (d : Document) → d ≡ got .value → Put documentMeant? documentOctets start b c′ b′ d
+                  → Wrote b 0 (documentOctets (got .value)) b′ (c′ .to)
               same d e p =
-                  let q : Put documentMeant? documentOctets start b c′ b′ (got .value) = subst (λ (x : Document). Put documentMeant? documentOctets start b c′ b′ x) e p in
+                  let q : Put documentMeant? documentOctets start b c′ b′ (got .value) =
+                  subst (λ (x : Document). Put documentMeant? documentOctets start b c′ b′ x) e p in
                   let i : T (c′ .meant) = subst T (sym (q .meant)) means in
                   let j : T (c′ .small) = subst T (sym (q .small i)) (subst T (got .holds .small holds) small) in
                   q .wrote i j
 
-              good : (v : Bool) → c′ .spelled ≡ v → Finds t (Put documentMeant? documentOctets start b c′ b′) c′ (document .parse t) → Wrote b 0 (documentOctets (got .value)) b′ (c′ .to)
+              good : (v : Bool) → c′ .spelled ≡ v
+                  → Finds t (Put documentMeant? documentOctets start b c′ b′) c′ (document .parse t)
+                  → Wrote b 0 (documentOctets (got .value)) b′ (c′ .to)
               good true e r = let o = reads-got r e in same (o .value) (took-value (sym (o .is) ∙ got .is)) (o .holds)
               good false e r = absurd (took≢stuck (sym (got .is) ∙ reads-bad r e))
 
-              go : c .to ≤ length b → Step documentMeant? documentOctets (document .parse) t start b c′ b′ → Gives (toWire t b) (Length (c .to)) b′
-              go n y = rw says (gives-written 23 b (documentOctets (got .value)) (good (c′ .spelled) refl (found-there y refl)) size n)
+              go : c .to ≤ length b → Step documentMeant? documentOctets (document .parse) t start b c′ b′
+                  → Gives (toWire t b) (Length (c .to)) b′
+              go n y = rw says (gives-written 23 b (documentOctets (got .value))
+                  (good (c′ .spelled) refl (found-there y refl)) size n)

@@ -17,7 +17,8 @@ use Rattle.tokens.specs.Cursor.{Passed}
 use Rattle.tokens.specs.Step.{Found, found-lit, found-stuck, Put, put-from, put-as, Step}
 use Rattle.tokens.specs.Choice.{Further, either-further, either-second}
 use Rattle.tokens.specs.Leaf.{found-same, passed-took}
-use Rattle.reader.specs.Meant.{recordMeant?, recordOctets, itemMeant?, itemOctets, itemOpt?, itemShown?, itemHides?}
+use Rattle.reader.specs.Meant.{recordMeant?, recordOctets, itemMeant?, itemOctets, itemOpt?, itemShown?}
+use Rattle.reader.specs.Meant.{itemHides?}
 use Rattle.reader.specs.Reading.{recordRest, entry-parse, Facts, RecordFacts, RecordRead}
 use Rattle.reader.specs.Element.{ednsRest, edns-parse, element?, elementForm}
 use Rattle.reader.specs.declared.entries.Entry.{Entry}
@@ -41,7 +42,9 @@ module _ {t : List ℕ} {c n m : Cursor} (p : Passed nameTitle t c n) (q : Passe
   not-both g = go (n .spelled) refl
     where
       go : (b : Bool) → n .spelled ≡ b → b ≡ false
-      go true h = absurd (apart-texts nameTitle ednsTitle (drop (n .at) t) (drop (m .at) t) tt (held (strip-sound nameTitle (drop (c .at) t)) (passed-took p h) ∙ sym (held (strip-sound ednsTitle (drop (c .at) t)) (passed-took q g))))
+      go true h = absurd (apart-texts nameTitle ednsTitle (drop (n .at) t) (drop (m .at) t) tt
+          (held (strip-sound nameTitle (drop (c .at) t)) (passed-took p h)
+          ∙ sym (held (strip-sound ednsTitle (drop (c .at) t)) (passed-took q g))))
       go false h = refl
 
   -- both by their titles
@@ -52,24 +55,40 @@ module _ {t : List ℕ} {c n m : Cursor} (p : Passed nameTitle t c n) (q : Passe
   as-edns x = found-same (ednsElement .parse) (λ g. sym (edns-parse _)) (found-lit q x)
 
   -- what is reported of each
-  record-told : (rcode : ℕ) {b b′ : List ℕ} {d : Entry} (a : RecordItem) → RecordFacts rcode n b d b′ a → ItemFacts rcode c b d b′ (ordinary a)
+  record-told : (rcode : ℕ) {b b′ : List ℕ} {d : Entry} (a : RecordItem) → RecordFacts rcode n b d b′ a
+      → ItemFacts rcode c b d b′ (ordinary a)
   unfolding itemMeant? itemOctets itemOpt? itemShown? itemHides? recordMeant? recordOctets item? additional? itemAdditional recordOf opt-entry?
-  record-told rcode a h = record { put = put-as refl refl (put-from (p .keeps) (h .put)); is-opt = h .is-opt; is-shown = h .is-shown; is-hidden = h .is-hidden }
+  record-told rcode a h =
+      record {
+        put = put-as refl refl (put-from (p .keeps) (h .put));
+        is-opt = h .is-opt;
+        is-shown = h .is-shown;
+        is-hidden = h .is-hidden;
+      }
 
-  edns-told : (rcode : ℕ) {b b′ : List ℕ} {e : Cursor} (a : EdnsItem) → Put (element? rcode) elementForm m b e b′ a → ItemFacts rcode c b (record { cursor = e; opt = true; shown = true; hidden = false }) b′ (edns a)
+  edns-told : (rcode : ℕ) {b b′ : List ℕ} {e : Cursor} (a : EdnsItem) → Put (element? rcode) elementForm m b e b′ a
+      → ItemFacts rcode c b (record { cursor = e; opt = true; shown = true; hidden = false }) b′ (edns a)
   unfolding itemMeant? itemOctets itemOpt? itemShown? itemHides? item? additional? itemAdditional recordOf opt-entry?
-  edns-told rcode a h = record { put = put-as refl refl (put-from (q .keeps) h); is-opt = refl; is-shown = refl; is-hidden = λ k. refl }
+  edns-told rcode a h =
+      record { put = put-as refl refl (put-from (q .keeps) h); is-opt = refl; is-shown = refl; is-hidden = λ k. refl }
 
   -- an EDNS element
-  pub item-edns : (rcode : ℕ) {b b′ : List ℕ} {e r : Cursor} → m .spelled ≡ true → Step (element? rcode) elementForm ednsRest t m b e b′ → Further (n .at) e r
+  pub item-edns : (rcode : ℕ) {b b′ : List ℕ} {e r : Cursor} → m .spelled ≡ true
+      → Step (element? rcode) elementForm ednsRest t m b e b′ → Further (n .at) e r
       → ItemRead rcode t c b (record { cursor = r; opt = true; shown = true; hidden = false }) b′
   unfolding itemCodec
-  item-edns rcode {b} {b′} g x f = either-second ordinary edns (recordCodec .parse) (ednsElement .parse) (as-record {P = λ a. Unit {0}} (found-stuck recordRest t n (p .keeps .safe) (not-both g)))
-      (λ z. ItemFacts rcode c b (record { cursor = z; opt = true; shown = true; hidden = false }) b′) (as-edns x) (not-both g) f λ a h. edns-told rcode a h
+  item-edns rcode {b} {b′} g x f =
+      either-second ordinary edns (recordCodec .parse) (ednsElement .parse)
+      (as-record {P = λ a. Unit {0}} (found-stuck recordRest t n (p .keeps .safe) (not-both g)))
+      (λ z. ItemFacts rcode c b (record { cursor = z; opt = true; shown = true; hidden = false }) b′) (as-edns x)
+      (not-both g) f λ a h. edns-told rcode a h
 
   -- an ordinary record
-  pub item-record : (rcode : ℕ) {b b′ : List ℕ} {d : Entry} {r : Cursor} → m .spelled ≡ false → RecordRead rcode t n b d b′ → Further (m .at) (d .cursor) r
+  pub item-record : (rcode : ℕ) {b b′ : List ℕ} {d : Entry} {r : Cursor} → m .spelled ≡ false
+      → RecordRead rcode t n b d b′ → Further (m .at) (d .cursor) r
       → ItemRead rcode t c b (record { cursor = r; opt = d .opt; shown = d .shown; hidden = d .hidden }) b′
   unfolding itemCodec
-  item-record rcode {b} {b′} {d} g x f = either-further ordinary edns (recordCodec .parse) (ednsElement .parse) (as-record x)
-      (λ z. ItemFacts rcode c b (record { cursor = z; opt = d .opt; shown = d .shown; hidden = d .hidden }) b′) (as-edns {P = λ a. Unit {0}} (found-stuck ednsRest t m (q .keeps .safe) g)) g f λ a h. record-told rcode a h
+  item-record rcode {b} {b′} {d} g x f =
+      either-further ordinary edns (recordCodec .parse) (ednsElement .parse) (as-record x)
+      (λ z. ItemFacts rcode c b (record { cursor = z; opt = d .opt; shown = d .shown; hidden = d .hidden }) b′)
+      (as-edns {P = λ a. Unit {0}} (found-stuck ednsRest t m (q .keeps .safe) g)) g f λ a h. record-told rcode a h

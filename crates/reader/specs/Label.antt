@@ -21,17 +21,22 @@ use Rattle.reader.specs.declared.labels.Part.{Part}
 use Rattle.parse_octets.specs.Octet.{Tells, tells-missing, tells-there, tells-bad, tells-got, LetterAt}
 
 -- ---- one at least, where the octet that ends them does not stand at the front: any number
-module _ {A : Type 0} {I : A → Type 0} {f : A → List ℕ} {F : List ℕ → Type 0} (p : Codec I f F) (stop : ℕ) (avoids : Avoids I f stop) (empty : p .parse [] ≡ stuck [])
+module _ {A : Type 0} {I : A → Type 0} {f : A → List ℕ} {F : List ℕ
+    → Type 0} (p : Codec I f F) (stop : ℕ) (avoids : Avoids I f stop) (empty : p .parse [] ≡ stuck [])
     (fits₁ : (r : List ℕ) → F (stop ∷ r)) (fits₂ : (b : A) (r : List ℕ) → I b → F (f b ++ r)) where
-  pub several-run : (t w : List ℕ) → strip (stop ∷ []) t ≡ stuck w → several avoids fits₁ fits₂ p .parse t ≡ run-of stop p t
+  pub several-run : (t w : List ℕ) → strip (stop ∷ []) t ≡ stuck w
+      → several avoids fits₁ fits₂ p .parse t ≡ run-of stop p t
   several-run t w e = sym (many-once p stop avoids empty t ∙ rw e (go (p .parse t)))
     where
-      rest : (a : A) (o : Parsed (List A)) → and-then o (λ l r. took (a ∷ l) r) ≡ and-then {A = A × List A} (and-then o λ l r. took (a, l) r) (λ u r. took (u .0 ∷ u .1) r)
+      rest : (a : A) (o : Parsed (List A))
+          → and-then o (λ l r. took (a ∷ l) r) ≡ and-then {A = A × List A} (and-then o λ l r. took (a, l) r)
+          (λ u r. took (u .0 ∷ u .1) r)
       rest a (took l r) = refl
       rest a (stuck v) = refl
 
       go : (o : Parsed A) → and-then o (λ a w. and-then (run-of stop p w) λ l r. took (a ∷ l) r)
-          ≡ and-then {A = A × List A} (and-then o λ a w. and-then (run-of stop p w) λ l r. took (a, l) r) (λ u r. took (u .0 ∷ u .1) r)
+          ≡ and-then {A = A × List A} (and-then o λ a w. and-then (run-of stop p w) λ l r. took (a, l) r)
+          (λ u r. took (u .0 ∷ u .1) r)
       go (took a w) = rest a (run-of stop p w)
       go (stuck v) = refl
 
@@ -44,9 +49,11 @@ octet-empty : spelledOctet .parse [] ≡ stuck []
 unfolding spelledOctet spelledAt
 octet-empty = refl
 
-label-run : {t : List ℕ} {at x : ℕ} → Byte t at x → (x ≡ 46 → ⊥) → label .parse (drop at t) ≡ run-of 46 spelledOctet (drop at t)
+label-run : {t : List ℕ} {at x : ℕ} → Byte t at x → (x ≡ 46 → ⊥)
+    → label .parse (drop at t) ≡ run-of 46 spelledOctet (drop at t)
 unfolding label
-label-run {t} {at} e d = several-run spelledOctet 46 dotless octet-empty (λ r. tt) (λ b r h. tt) (drop at t) (drop at t) (no-strip 46 [] e d)
+label-run {t} {at} e d = several-run spelledOctet 46 dotless octet-empty (λ r. tt) (λ b r h. tt) (drop at t) (drop at t)
+    (no-strip 46 [] e d)
 
 -- no label begins with a dot, nor with a quote
 pub label-dot : {t : List ℕ} {at x : ℕ} → Byte t at x → x ≡ 46 → label .parse (drop at t) ≡ stuck (drop at t)
@@ -95,7 +102,8 @@ pub record Letters (t : List ℕ) (start : ℕ) (b : List ℕ) (to at n : ℕ) (
   pub some : (at ≡ start → ⊥) → 1 ≤ n
   pub long : length out ≡ length b
 
-pub letters-start : {t : List ℕ} {start x : ℕ} (b : List ℕ) (to : ℕ) → start ≤ length t → Byte t start x → (x ≡ 46 → ⊥) → Letters t start b to start 0 b
+pub letters-start : {t : List ℕ} {start x : ℕ} (b : List ℕ) (to : ℕ) → start ≤ length t → Byte t start x → (x ≡ 46 → ⊥)
+    → Letters t start b to start 0 b
 letters-start {t} {start} b to h e d = record {
   l = [];
   goes = record { goes = label-run e d ∙ going-start (run-of 46 spelledOctet) t start .goes };
@@ -108,8 +116,16 @@ letters-start {t} {start} b to h e d = record {
 }
 
 -- a dot at the front
-pub label-none : {t : List ℕ} {start x : ℕ} (b : List ℕ) (to : ℕ) → start ≤ length t → Byte t start x → x ≡ 46 → LabelAt t start b to (record { at = start; found = false; size = 0 }) b
-label-none b to h e d = record { tells = tells-missing (label-dot e d) refl; within = h; onward = omega arith; further = λ g. absurd (subst T (sym g) tt); long = refl }
+pub label-none : {t : List ℕ} {start x : ℕ} (b : List ℕ) (to : ℕ) → start ≤ length t → Byte t start x → x ≡ 46
+    → LabelAt t start b to (record { at = start; found = false; size = 0 }) b
+label-none b to h e d =
+    record {
+      tells = tells-missing (label-dot e d) refl;
+      within = h;
+      onward = omega arith;
+      further = λ g. absurd (subst T (sym g) tt);
+      long = refl;
+    }
 
 module _ {t : List ℕ} {start : ℕ} {b : List ℕ} {to at n : ℕ} {out : List ℕ} (w : Letters t start b to at n out) where
   -- the dot after them
@@ -129,7 +145,8 @@ module _ {t : List ℕ} {start : ℕ} {b : List ℕ} {to at n : ℕ} {out : List
       long = w .long;
     }
 
-    pub letters-end : {b′ : List ℕ} {m : ℕ} → n ≤ 63 → Wrote out to (n ∷ []) b′ m → LabelAt t start b to (record { at = at + 1; found = true; size = n }) b′
+    pub letters-end : {b′ : List ℕ} {m : ℕ} → n ≤ 63 → Wrote out to (n ∷ []) b′ m
+        → LabelAt t start b to (record { at = at + 1; found = true; size = n }) b′
     letters-end k v = record {
       tells = tells-there ends refl record {
         size = w .size;
@@ -146,7 +163,8 @@ module _ {t : List ℕ} {start : ℕ} {b : List ℕ} {to at n : ℕ} {out : List
     pub letters-bad : not (o .found) ≡ true → LabelAt t start b to (record { at = o .at; found = false; size = 0 }) out
     unfolding spelledOctet
     letters-bad g = record {
-      tells = tells-missing (going-stop spelledOctet 46 dotless octet-empty (w .goes) (λ k. d (f .is ∙ k)) (tells-bad (q .tells) (not-true _ g))) refl;
+      tells = tells-missing (going-stop spelledOctet 46 dotless octet-empty (w .goes) (λ k. d (f .is ∙ k))
+          (tells-bad (q .tells) (not-true _ g))) refl;
       within = q .within;
       onward = omega (arith, w .onward, q .onward);
       further = λ z. absurd (subst T (sym z) tt);

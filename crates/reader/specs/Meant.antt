@@ -1,4 +1,5 @@
--- What is judged and written of the entries of a document, one by one, and that this is what the definitions judge of the whole.
+-- What is judged and written of the entries of a document, one by one, and that this is what the definitions judge of
+-- the whole.
 use mathlib.Core.Path.{_≡_, refl, sym, _∙_, ap, subst}
 use mathlib.Core.Bool.{Bool, true, false, not, cond, _&&_, _||_}
 use mathlib.Core.List.{List, [], _∷_, _++_, map, append-assoc}
@@ -8,7 +9,8 @@ use lib.ListN.{length, length-map}
 use Rattle.octets.specs.Lists.{all, All, count, each, word?, present?}
 use Rattle.octets.specs.Bits.{both, and-left, and-right}
 use Rattle.octets.specs.Fields.{two}
-use Rattle.records.specs.Message.{Header, bit?, four-bits?, header?, question?, record?, section?, questionForm, recordForm, headerForm, form, opt?}
+use Rattle.records.specs.Message.{Header, bit?, four-bits?, header?, question?, record?, section?, questionForm}
+use Rattle.records.specs.Message.{recordForm, headerForm, form, opt?}
 use Rattle.edns.specs.Edns.{ednsOf}
 use Rattle.json.specs.View.{additional?, opt-entry?, settled?, additionals?, view?, recordOf, messageOf}
 use Rattle.json.specs.Document.{RecordItem, Item, ordinary, edns, Document}
@@ -50,7 +52,8 @@ abbrev pub any : {A : Type 0} → (A → Bool) → List A → Bool
 any p [] = false
 any p (x ∷ l) = p x || any p l
 
--- in a section where one entry alone is of TYPE 41 or not, an EDNS element is there or not, a record that could be one is there or not
+-- in a section where one entry alone is of TYPE 41 or not, an EDNS element is there or not, a record that could be one
+-- is there or not
 abbrev pub settledBy : Bool → Bool → Bool → Bool
 settledBy lone shown hidden = (not shown || lone) && not (hidden && lone)
 
@@ -75,17 +78,22 @@ lowOf h = (h .ra, (h .ad, (h .cd, h .rcode)))
 
 -- the numbers of the head are in range; its octets, with the counts that it says
 unfoldable pub headMeant? : Head → Bool
-headMeant? (h, (q, (a, (n, r)))) = word? (h .id) && (highMeant? (highOf h) && (lowMeant? (lowOf h) && (word? q && (word? a && (word? n && word? r)))))
+headMeant? (h, (q, (a, (n, r)))) =
+    word? (h .id) && (highMeant? (highOf h) && (lowMeant? (lowOf h) && (word? q && (word? a && (word? n && word? r)))))
 
 unfoldable pub headOctets : Head → List ℕ
-headOctets (h, (q, (a, (n, r)))) = two (h .id) ++ ((highOctet (highOf h) ∷ lowOctet (lowOf h) ∷ []) ++ (two q ++ (two a ++ (two n ++ two r))))
+headOctets (h, (q, (a, (n, r)))) =
+    two (h .id) ++ ((highOctet (highOf h) ∷ lowOctet (lowOf h) ∷ []) ++ (two q ++ (two a ++ (two n ++ two r))))
 
 -- ---- the whole
 abbrev pub sectionsMeant? : Document → Bool
-sectionsMeant? d = all question? (d .questions) && (all recordMeant? (d .answers) && (all recordMeant? (d .authority) && all (itemMeant? (d .header .rcode)) (d .additional)))
+sectionsMeant? d = all question? (d .questions)
+    && (all recordMeant? (d .answers)
+    && (all recordMeant? (d .authority) && all (itemMeant? (d .header .rcode)) (d .additional)))
 
 abbrev pub settledItems? : Document → Bool
-settledItems? d = settledBy (eqb (count itemOpt? (d .additional)) 1) (any itemShown? (d .additional)) (any (itemHides? (d .header .rcode)) (d .additional))
+settledItems? d = settledBy (eqb (count itemOpt? (d .additional)) 1) (any itemShown? (d .additional))
+    (any (itemHides? (d .header .rcode)) (d .additional))
 
 unfoldable pub documentMeant? : Document → Bool
 documentMeant? d = (headMeant? (headOf d) && sectionsMeant? d) && (counts? d && settledItems? d)
@@ -101,15 +109,19 @@ same-truth false false f g = refl
 module _ {A : Type 0} where
   pub all-and : (p q : A → Bool) (l : List A) → T (all p l) → T (all q l) → T (all (λ a. p a && q a) l)
   all-and p q [] h k = tt
-  all-and p q (x ∷ l) h k = both (p x && q x) _ (both (p x) (q x) (and-left (p x) _ h) (and-left (q x) _ k)) (all-and p q l (and-right (p x) _ h) (and-right (q x) _ k))
+  all-and p q (x ∷ l) h k =
+      both (p x && q x) _ (both (p x) (q x) (and-left (p x) _ h) (and-left (q x) _ k))
+      (all-and p q l (and-right (p x) _ h) (and-right (q x) _ k))
 
   pub all-first : (p q : A → Bool) (l : List A) → T (all (λ a. p a && q a) l) → T (all p l)
   all-first p q [] h = tt
-  all-first p q (x ∷ l) h = both (p x) _ (and-left (p x) (q x) (and-left (p x && q x) _ h)) (all-first p q l (and-right (p x && q x) _ h))
+  all-first p q (x ∷ l) h =
+      both (p x) _ (and-left (p x) (q x) (and-left (p x && q x) _ h)) (all-first p q l (and-right (p x && q x) _ h))
 
   pub all-second : (p q : A → Bool) (l : List A) → T (all (λ a. p a && q a) l) → T (all q l)
   all-second p q [] h = tt
-  all-second p q (x ∷ l) h = both (q x) _ (and-right (p x) (q x) (and-left (p x && q x) _ h)) (all-second p q l (and-right (p x && q x) _ h))
+  all-second p q (x ∷ l) h =
+      both (q x) _ (and-right (p x) (q x) (and-left (p x && q x) _ h)) (all-second p q l (and-right (p x && q x) _ h))
 
 module _ {A B : Type 0} where
   pub all-map : (f : A → B) (p : B → Bool) (l : List A) → all p (map f l) ≡ all (λ a. p (f a)) l
@@ -126,14 +138,17 @@ module _ {A B : Type 0} where
   each-map f g (x ∷ l) = ap (λ t. g (f x) ++ t) (each-map f g l)
 
 -- settled, entry by entry and at once
-pub settled-once : (rcode n : ℕ) (l : List Item) → all (settled? rcode n) (map itemAdditional l) ≡ settledBy (eqb n 1) (any itemShown? l) (any (itemHides? rcode) l)
+pub settled-once : (rcode n : ℕ) (l : List Item)
+    → all (settled? rcode n) (map itemAdditional l) ≡ settledBy (eqb n 1) (any itemShown? l) (any (itemHides? rcode) l)
 unfolding settled? itemAdditional itemShown? itemHides? hides?
 settled-once rcode n [] = none (eqb n 1)
   where
     none : (b : Bool) → true ≡ settledBy b false false
     none true = refl
     none false = refl
-settled-once rcode n (ordinary r ∷ l) = rw (settled-once rcode n l) (go (opt? (itemRecord r)) (eqb n 1) (present? (ednsOf rcode (itemRecord r))) (any itemShown? l) (any (itemHides? rcode) l))
+settled-once rcode n (ordinary r ∷ l) =
+    rw (settled-once rcode n l) (go (opt? (itemRecord r)) (eqb n 1) (present? (ednsOf rcode (itemRecord r)))
+    (any itemShown? l) (any (itemHides? rcode) l))
   where
     go : (o b p s h : Bool) → not (o && b && p) && settledBy b s h ≡ settledBy b s (o && p || h)
     go true true false s h = refl
@@ -144,7 +159,8 @@ settled-once rcode n (ordinary r ∷ l) = rw (settled-once rcode n l) (go (opt? 
     go true false true false true = refl
     go true false true false false = refl
     go false b p s h = refl
-settled-once rcode n (edns e ∷ l) = rw (settled-once rcode n l) (go (eqb n 1) (any itemShown? l) (any (itemHides? rcode) l))
+settled-once rcode n (edns e ∷ l) =
+    rw (settled-once rcode n l) (go (eqb n 1) (any itemShown? l) (any (itemHides? rcode) l))
   where
     go : (b s h : Bool) → b && settledBy b s h ≡ settledBy b true h
     go true true h = refl
@@ -165,12 +181,16 @@ all-hold a [] t h = t
 all-hold a (b ∷ l) t h = all-hold (a && b) l (both a b t (h .0)) (h .1)
 
 -- the numbers of the head: those of the header, and the counts
-pub head-numbers : (h : Header) (q a n r : ℕ) → headMeant? (h, (q, (a, (n, r)))) ≡ (header? h && (word? q && (word? a && (word? n && word? r))))
+pub head-numbers : (h : Header) (q a n r : ℕ)
+    → headMeant? (h, (q, (a, (n, r)))) ≡ (header? h && (word? q && (word? a && (word? n && word? r))))
 unfolding headMeant? header?
 head-numbers h q a n r =
-    go (word? (h .id)) (bit? (h .qr)) (four-bits? (h .opcode)) (bit? (h .aa)) (bit? (h .tc)) (bit? (h .rd)) (bit? (h .ra)) (bit? (h .ad)) (bit? (h .cd)) (four-bits? (h .rcode)) _
+    go (word? (h .id)) (bit? (h .qr)) (four-bits? (h .opcode)) (bit? (h .aa)) (bit? (h .tc)) (bit? (h .rd))
+    (bit? (h .ra)) (bit? (h .ad)) (bit? (h .cd)) (four-bits? (h .rcode)) _
   where
-    go : (a b c d e f g h i j w : Bool) → a && ((b && (c && (d && (e && f)))) && ((g && (h && (i && j))) && w)) ≡ (a && b && c && d && e && f && g && h && i && j) && w
+    go : (a b c d e f g h i j w : Bool)
+        → a && ((b && (c && (d && (e && f)))) && ((g && (h && (i && j))) && w)) ≡ (a && b && c && d && e && f && g && h
+        && i && j) && w
     go false b c d e f g h i j w = refl
     go true false c d e f g h i j w = refl
     go true true false d e f g h i j w = refl
@@ -192,7 +212,8 @@ document-meant d = same-truth _ _ forward backward
     h = d .header
 
     counts : List Bool
-    counts = eqb (d .ancount) (length (d .answers)) ∷ eqb (d .nscount) (length (d .authority)) ∷ eqb (d .arcount) (length (d .additional)) ∷ []
+    counts = eqb (d .ancount) (length (d .answers)) ∷ eqb (d .nscount) (length (d .authority)) ∷ eqb (d .arcount)
+        (length (d .additional)) ∷ []
 
     agreed : List Bool
     agreed = all recordItem? (d .answers) ∷ all recordItem? (d .authority) ∷ all (item? (h .rcode)) (d .additional) ∷ []
@@ -208,19 +229,24 @@ document-meant d = same-truth _ _ forward backward
     first-count : Bool
     first-count = eqb (d .qdcount) (length (d .questions))
 
-    settled-same : all (settled? (h .rcode) (count opt-entry? (map itemAdditional (d .additional)))) (map itemAdditional (d .additional)) ≡ settledItems? d
+    settled-same : all (settled? (h .rcode) (count opt-entry? (map itemAdditional (d .additional))))
+        (map itemAdditional (d .additional)) ≡ settledItems? d
     settled-same = rw (count-map itemAdditional opt-entry? (d .additional)) (settled-once (h .rcode) _ (d .additional))
 
     -- a section whose count is its length
-    section : {A B : Type 0} (f : A → B) (n : ℕ) (p : B → Bool) (l : List A) → T (eqb n (length l)) → T (word? n) → T (all (λ a. p (f a)) l) → T (section? p (map f l))
-    section f n p l e w t = both (word? (length (map f l))) _ (rw (length-map l f, ← eqb→eq n (length l) e) w) (rw (all-map f p l) t)
+    section : {A B : Type 0} (f : A → B) (n : ℕ) (p : B → Bool) (l : List A) → T (eqb n (length l)) → T (word? n)
+        → T (all (λ a. p (f a)) l) → T (section? p (map f l))
+    section f n p l e w t =
+        both (word? (length (map f l))) _ (rw (length-map l f, ← eqb→eq n (length l) e) w) (rw (all-map f p l) t)
 
     forward : T (documentMeant? d) → T (agrees? d && view? (documentView d))
     forward t =
         let hs = and-left (headMeant? (headOf d) && sectionsMeant? d) _ t in
         let cs = and-right (headMeant? (headOf d) && sectionsMeant? d) _ t in
-        let hd : T (header? h && (word? (d .qdcount) && (word? (d .ancount) && (word? (d .nscount) && word? (d .arcount))))) =
-        subst T (head-numbers h (d .qdcount) (d .ancount) (d .nscount) (d .arcount)) (and-left (headMeant? (headOf d)) _ hs) in
+        let hd : T (header? h
+        && (word? (d .qdcount) && (word? (d .ancount) && (word? (d .nscount) && word? (d .arcount))))) =
+        subst T (head-numbers h (d .qdcount) (d .ancount) (d .nscount) (d .arcount))
+        (and-left (headMeant? (headOf d)) _ hs) in
         let w1 = and-right (header? h) _ hd in
         let w2 = and-right (word? (d .qdcount)) _ w1 in
         let w3 = and-right (word? (d .ancount)) _ w2 in
@@ -237,14 +263,19 @@ document-meant d = same-truth _ _ forward backward
           (all-first recordItem? _ (d .authority) ns, (all-first (item? (h .rcode)) _ (d .additional) ar, tt)),
         ))
         (all-hold (header? h) viewed (and-left (header? h) _ hd) (
-          both (word? (length (d .questions))) _ (subst (λ n. T (word? n)) (eqb→eq (d .qdcount) (length (d .questions)) (c .0)) (and-left (word? (d .qdcount)) _ w1)) (and-left (all question? (d .questions)) _ s1),
+          both (word? (length (d .questions))) _
+              (subst (λ n. T (word? n)) (eqb→eq (d .qdcount) (length (d .questions)) (c .0))
+              (and-left (word? (d .qdcount)) _ w1)) (and-left (all question? (d .questions)) _ s1),
           (
-            section itemRecord (d .ancount) record? (d .answers) (c .1 .0) (and-left (word? (d .ancount)) _ w2) (all-second recordItem? _ (d .answers) an),
+            section itemRecord (d .ancount) record? (d .answers) (c .1 .0) (and-left (word? (d .ancount)) _ w2)
+                (all-second recordItem? _ (d .answers) an),
             (
-              section itemRecord (d .nscount) record? (d .authority) (c .1 .1 .0) (and-left (word? (d .nscount)) _ w3) (all-second recordItem? _ (d .authority) ns),
+              section itemRecord (d .nscount) record? (d .authority) (c .1 .1 .0) (and-left (word? (d .nscount)) _ w3)
+                  (all-second recordItem? _ (d .authority) ns),
               (
                 both (section? (additional? (h .rcode)) (map itemAdditional (d .additional))) _
-                    (section itemAdditional (d .arcount) (additional? (h .rcode)) (d .additional) (c .1 .1 .1 .0) (and-right (word? (d .nscount)) _ w3) (all-second (item? (h .rcode)) _ (d .additional) ar))
+                    (section itemAdditional (d .arcount) (additional? (h .rcode)) (d .additional) (c .1 .1 .1 .0)
+                    (and-right (word? (d .nscount)) _ w3) (all-second (item? (h .rcode)) _ (d .additional) ar))
                     (subst T (sym settled-same) (and-right (counts? d) _ cs)),
                 tt,
               ),
@@ -263,31 +294,45 @@ document-meant d = same-truth _ _ forward backward
         (both (headMeant? (headOf d)) _
         (subst T (sym (head-numbers h (d .qdcount) (d .ancount) (d .nscount) (d .arcount)))
         (both (header? h) _ (v .0)
-        (both (word? (d .qdcount)) _ (subst (λ n. T (word? n)) (sym (eqb→eq (d .qdcount) (length (d .questions)) (c .0))) (and-left (word? (length (d .questions))) _ (v .1 .0)))
+        (both (word? (d .qdcount)) _
+        (subst (λ n. T (word? n)) (sym (eqb→eq (d .qdcount) (length (d .questions)) (c .0)))
+        (and-left (word? (length (d .questions))) _ (v .1 .0)))
         (both (word? (d .ancount)) _ (counted itemRecord (d .ancount) record? (d .answers) (c .1 .0) (v .1 .1 .0))
-        (both (word? (d .nscount)) _ (counted itemRecord (d .nscount) record? (d .authority) (c .1 .1 .0) (v .1 .1 .1 .0))
+        (both (word? (d .nscount)) _
+        (counted itemRecord (d .nscount) record? (d .authority) (c .1 .1 .0) (v .1 .1 .1 .0))
         (counted itemAdditional (d .arcount) (additional? (h .rcode)) (d .additional) (c .1 .1 .1 .0) ar))))))
         (both (all question? (d .questions)) _ (and-right (word? (length (d .questions))) _ (v .1 .0))
-        (both (all recordMeant? (d .answers)) _ (all-and recordItem? _ (d .answers) (a .1 .0) (passed itemRecord record? (d .answers) (v .1 .1 .0)))
-        (both (all recordMeant? (d .authority)) _ (all-and recordItem? _ (d .authority) (a .1 .1 .0) (passed itemRecord record? (d .authority) (v .1 .1 .1 .0)))
-        (all-and (item? (h .rcode)) _ (d .additional) (a .1 .1 .1 .0) (passed itemAdditional (additional? (h .rcode)) (d .additional) ar))))))
-        (both (counts? d) _ (a .0) (subst T settled-same (and-right (section? (additional? (h .rcode)) (map itemAdditional (d .additional))) _ ad)))
+        (both (all recordMeant? (d .answers)) _
+        (all-and recordItem? _ (d .answers) (a .1 .0) (passed itemRecord record? (d .answers) (v .1 .1 .0)))
+        (both (all recordMeant? (d .authority)) _
+        (all-and recordItem? _ (d .authority) (a .1 .1 .0)
+        (passed itemRecord record? (d .authority) (v .1 .1 .1 .0)))
+        (all-and (item? (h .rcode)) _ (d .additional) (a .1 .1 .1 .0)
+        (passed itemAdditional (additional? (h .rcode)) (d .additional) ar))))))
+        (both (counts? d) _ (a .0)
+        (subst T settled-same
+        (and-right (section? (additional? (h .rcode)) (map itemAdditional (d .additional))) _ ad)))
       where
-        counted : {A B : Type 0} (f : A → B) (n : ℕ) (p : B → Bool) (l : List A) → T (eqb n (length l)) → T (section? p (map f l)) → T (word? n)
+        counted : {A B : Type 0} (f : A → B) (n : ℕ) (p : B → Bool) (l : List A) → T (eqb n (length l))
+            → T (section? p (map f l)) → T (word? n)
         counted f n p l e t = rw (eqb→eq n (length l) e, ← length-map l f) (and-left (word? (length (map f l))) _ t)
 
-        passed : {A B : Type 0} (f : A → B) (p : B → Bool) (l : List A) → T (section? p (map f l)) → T (all (λ a. p (f a)) l)
+        passed : {A B : Type 0} (f : A → B) (p : B → Bool) (l : List A) → T (section? p (map f l))
+            → T (all (λ a. p (f a)) l)
         passed f p l t = subst T (all-map f p l) (and-right (word? (length (map f l))) _ t)
 
 -- the octets, part by part; with counts that are those of the arrays they are the form of the message
 unfoldable pub documentOctets : Document → List ℕ
-documentOctets d = headOctets (headOf d) ++ (each questionForm (d .questions) ++ (each recordOctets (d .answers) ++ (each recordOctets (d .authority) ++ each itemOctets (d .additional))))
+documentOctets d = headOctets (headOf d)
+    ++ (each questionForm (d .questions)
+    ++ (each recordOctets (d .answers) ++ (each recordOctets (d .authority) ++ each itemOctets (d .additional))))
 
 pub document-octets : (d : Document) → T (counts? d) → documentOctets d ≡ form (messageOf (documentView d))
 unfolding documentOctets headOctets recordOctets itemOctets counts? form headerForm messageOf documentView
 document-octets d t =
     let c = each-holds (eqb (d .qdcount) (length (d .questions)))
-    (eqb (d .ancount) (length (d .answers)) ∷ eqb (d .nscount) (length (d .authority)) ∷ eqb (d .arcount) (length (d .additional)) ∷ []) t in
+    (eqb (d .ancount) (length (d .answers)) ∷ eqb (d .nscount) (length (d .authority)) ∷ eqb (d .arcount)
+    (length (d .additional)) ∷ []) t in
     let e : headOctets (headOf d) ≡ headerForm (messageOf (documentView d)) =
     rw (
       eqb→eq (d .qdcount) (length (d .questions)) (c .0),
@@ -299,8 +344,11 @@ document-octets d t =
       length-map (map itemAdditional (d .additional)) recordOf,
       length-map (d .additional) itemAdditional,
     ) in
-    chain (each questionForm (d .questions)) e (sym (each-map itemRecord recordForm (d .answers))) (sym (each-map itemRecord recordForm (d .authority)))
-    (sym (each-map recordOf recordForm (map itemAdditional (d .additional)) ∙ each-map itemAdditional (λ a. recordForm (recordOf a)) (d .additional)))
+    chain (each questionForm (d .questions)) e (sym (each-map itemRecord recordForm (d .answers)))
+    (sym (each-map itemRecord recordForm (d .authority)))
+    (sym (each-map recordOf recordForm (map itemAdditional (d .additional))
+    ∙ each-map itemAdditional (λ a. recordForm (recordOf a)) (d .additional)))
   where
-    chain : (q : List ℕ) {h h′ a a′ n n′ r r′ : List ℕ} → h ≡ h′ → a ≡ a′ → n ≡ n′ → r ≡ r′ → h ++ (q ++ (a ++ (n ++ r))) ≡ h′ ++ q ++ a′ ++ n′ ++ r′
+    chain : (q : List ℕ) {h h′ a a′ n n′ r r′ : List ℕ} → h ≡ h′ → a ≡ a′ → n ≡ n′ → r ≡ r′
+        → h ++ (q ++ (a ++ (n ++ r))) ≡ h′ ++ q ++ a′ ++ n′ ++ r′
     chain q e f g i = rw (e, f, g, i) (simp append-assoc)

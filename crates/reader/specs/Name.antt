@@ -9,7 +9,8 @@ use borrow.Author.Tests.{not-true, not-false, le-leb, lt-leb, le-ltb, ltb-false,
 use lib.Dec.{T, leb, ltb, eqb, leb→le, le→leb}
 use lib.ListN.{length, drop, length-append, length-drop}
 use Rattle.octets.specs.Lists.{none?, all, All, each, ended}
-use Rattle.octets.specs.Bits.{is-true, both, and-left, and-right, all→All, All→all, All-append, All-left, All-right, octets-test}
+use Rattle.octets.specs.Bits.{is-true, both, and-left, and-right, all→All, All→all, All-append, All-left, All-right}
+use Rattle.octets.specs.Bits.{octets-test}
 use Rattle.octets.specs.Parsed.{took, stuck, strip, strip-sound, held}
 use Rattle.octets.specs.Codec.{Avoids, Any, OneOrMore, Codec, exact, several}
 use Rattle.octets.specs.Overlay.{Wrote, then, nothing, same-long}
@@ -40,7 +41,8 @@ module _ (n : Name) (l : List ℕ) where
   name-more : T (name? n) → T (label? l) → length (nameForm (n ++ (l ∷ []))) ≤ 255 → T (name? (n ++ (l ∷ [])))
   unfolding name?
   name-more h k s = both (all label? (n ++ (l ∷ []))) _
-      (All→all label? (n ++ (l ∷ [])) (All-append (λ x. T (label? x)) n (l ∷ []) (all→All label? n (and-left (all label? n) _ h)) (k, tt)))
+      (All→all label? (n ++ (l ∷ []))
+      (All-append (λ x. T (label? x)) n (l ∷ []) (all→All label? n (and-left (all label? n) _ h)) (k, tt)))
       (le→leb (length (nameForm (n ++ (l ∷ [])))) 255 s)
 
   module _ (h : T (name? (n ++ (l ∷ [])))) where
@@ -54,7 +56,8 @@ module _ (n : Name) (l : List ℕ) where
 
     name-less : T (name? n)
     unfolding name?
-    name-less = both (all label? n) _ (All→all label? n (All-left (λ x. T (label? x)) n (l ∷ []) name-labels)) (le→leb (length (nameForm n)) 255 (omega (arith, form-last n l, name-size)))
+    name-less = both (all label? n) _ (All→all label? n (All-left (λ x. T (label? x)) n (l ∷ []) name-labels))
+        (le→leb (length (nameForm n)) 255 (omega (arith, form-last n l, name-size)))
 
     name-last : T (label? l)
     name-last = All-right (λ x. T (label? x)) n (l ∷ []) name-labels .0
@@ -62,7 +65,8 @@ module _ (n : Name) (l : List ℕ) where
 -- a label of the grammar that is no longer than 63 octets
 label-fits : (l : List ℕ) → Label l → length l ≤ 63 → T (label? l)
 unfolding label?
-label-fits l h k = both (leb 1 (length l) && leb (length l) 63) _ (both (leb 1 (length l)) _ (le→leb 1 (length l) (filled l (h .1))) (le→leb (length l) 63 k)) (octets-test l (h .0))
+label-fits l h k = both (leb 1 (length l) && leb (length l) 63) _
+    (both (leb 1 (length l)) _ (le→leb 1 (length l) (filled l (h .1))) (le→leb (length l) 63 k)) (octets-test l (h .0))
   where
     filled : (l : List ℕ) → T (not (none? l)) → 1 ≤ length l
     filled [] h = absurd h
@@ -76,9 +80,11 @@ quoteless = label-avoids 34 tt tt
 unfoldable pub labelList : Codec (OneOrMore Label) (ended labelText 34) Any
 labelList = several quoteless (λ r. tt) (λ b r h. tt) label
 
-list-run : {t : List ℕ} {at x : ℕ} → Byte t at x → (x ≡ 34 → ⊥) → labelList .parse (drop at t) ≡ run-of 34 label (drop at t)
+list-run : {t : List ℕ} {at x : ℕ} → Byte t at x → (x ≡ 34 → ⊥)
+    → labelList .parse (drop at t) ≡ run-of 34 label (drop at t)
 unfolding labelList
-list-run {t} {at} e d = several-run label 34 quoteless label-empty (λ r. tt) (λ b r h. tt) (drop at t) (drop at t) (no-strip 34 [] e d)
+list-run {t} {at} e d = several-run label 34 quoteless label-empty (λ r. tt) (λ b r h. tt) (drop at t) (drop at t)
+    (no-strip 34 [] e d)
 
 list-stuck : (w : List ℕ) → label .parse w ≡ stuck w → labelList .parse w ≡ stuck w
 unfolding labelList
@@ -117,7 +123,8 @@ pub record LabelsAt (t : List ℕ) (start : ℕ) (b : List ℕ) (to : ℕ) (r : 
   pub most : r .size ≤ 256
   pub long : length b′ ≡ length b
 
-pub labels-none : {t : List ℕ} {start x : ℕ} (b : List ℕ) (to : ℕ) → start ≤ length t → Byte t start x → x ≡ 34 → LabelsAt t start b to (record { at = start; found = false; size = 0 }) b
+pub labels-none : {t : List ℕ} {start x : ℕ} (b : List ℕ) (to : ℕ) → start ≤ length t → Byte t start x → x ≡ 34
+    → LabelsAt t start b to (record { at = start; found = false; size = 0 }) b
 labels-none {t} {start} b to h e d = record {
   tells = tells-missing (list-stuck (drop start t) (label-quote e d)) refl;
   within = h;
@@ -127,7 +134,8 @@ labels-none {t} {start} b to h e d = record {
   long = refl;
 }
 
-pub labels-start : {t : List ℕ} {start x : ℕ} (b : List ℕ) (to : ℕ) → start ≤ length t → Byte t start x → (x ≡ 34 → ⊥) → LabelsLoop t start b to start 0 b
+pub labels-start : {t : List ℕ} {start x : ℕ} (b : List ℕ) (to : ℕ) → start ≤ length t → Byte t start x → (x ≡ 34 → ⊥)
+    → LabelsLoop t start b to start 0 b
 unfolding name? nameForm each
 labels-start {t} {start} b to h e d = record {
   l = [];
@@ -142,7 +150,8 @@ labels-start {t} {start} b to h e d = record {
   long = refl;
 }
 
-module _ {t : List ℕ} {start : ℕ} {b : List ℕ} {to at size : ℕ} {out : List ℕ} (w : LabelsLoop t start b to at size out) where
+module _ {t : List ℕ} {start : ℕ} {b : List ℕ} {to at size : ℕ} {out : List ℕ}
+    (w : LabelsLoop t start b to at size out) where
   -- the octets of the labels, where they fit
   sized : size ≤ 254 → length (nameForm (w .l)) ≡ size + 1
   sized h = omega (arith, form-length (w .l), w .wrote h .place)
@@ -151,14 +160,16 @@ module _ {t : List ℕ} {start : ℕ} {b : List ℕ} {to at size : ℕ} {out : L
   small h = ⊎-elim (λ k. k) (λ k. absurd (w .over k h)) (le-or-lt size 254)
 
   -- the quote after them
-  pub labels-end : {x y : ℕ} {b′ : List ℕ} {m : ℕ} → Byte t start x → (x ≡ 34 → ⊥) → Byte t at y → y ≡ 34 → Wrote out (to + size) (0 ∷ []) b′ m
+  pub labels-end : {x y : ℕ} {b′ : List ℕ} {m : ℕ} → Byte t start x → (x ≡ 34 → ⊥) → Byte t at y → y ≡ 34
+      → Wrote out (to + size) (0 ∷ []) b′ m
       → LabelsAt t start b to (record { at = at + 1; found = true; size = size + 1 }) b′
   labels-end {x} {y} {b′} e d f g v = record {
-    tells = tells-there (going-end label 34 quoteless label-empty (w .goes) (inside f (omega arith)) (sym (f .is) ∙ g)) refl record {
-      fits = ⊎-elim fit over (le-or-lt size 254);
-      wrote = written;
-      some = w .some moved .1;
-    };
+    tells = tells-there (going-end label 34 quoteless label-empty (w .goes) (inside f (omega arith)) (sym (f .is) ∙ g))
+        refl record {
+          fits = ⊎-elim fit over (le-or-lt size 254);
+          wrote = written;
+          some = w .some moved .1;
+        };
     within = omega (arith, inside f (omega arith));
     onward = omega (arith, w .onward);
     further = λ z. omega (arith, w .some moved .0);
@@ -182,13 +193,23 @@ module _ {t : List ℕ} {start : ℕ} {b : List ℕ} {to at size : ℕ} {out : L
       written : size + 1 ≤ 255 → Wrote b to (nameForm (w .l)) b′ (to + (size + 1))
       written h =
           let u = then (w .wrote (omega arith)) v in
-          rw (form-labels (w .l)) record { place = omega (arith, length-append (each labelForm (w .l)) (0 ∷ []), w .wrote (omega arith) .place); text = u .text }
+          rw (form-labels (w .l))
+          record {
+            place = omega (
+              arith,
+              length-append (each labelForm (w .l)) (0 ∷ []),
+              w .wrote (omega arith) .place,
+            );
+            text = u .text;
+          }
 
-  module _ {y : ℕ} (f : Byte t at y) (d : y ≡ 34 → ⊥) {p : Part} {b′ : List ℕ} (q : LabelAt t at out (to + size) p b′) where
+  module _ {y : ℕ} (f : Byte t at y) (d : y ≡ 34
+      → ⊥) {p : Part} {b′ : List ℕ} (q : LabelAt t at out (to + size) p b′) where
     -- no label
     pub labels-bad : not (p .found) ≡ true → LabelsAt t start b to (record { at = p .at; found = false; size = 0 }) b′
     labels-bad g = record {
-      tells = tells-missing (going-stop label 34 quoteless label-empty (w .goes) (λ k. d (f .is ∙ k)) (tells-bad (q .tells) (not-true _ g))) refl;
+      tells = tells-missing (going-stop label 34 quoteless label-empty (w .goes) (λ k. d (f .is ∙ k))
+          (tells-bad (q .tells) (not-true _ g))) refl;
       within = q .within;
       onward = omega (arith, w .onward, q .onward);
       further = λ z. absurd (subst T (sym z) tt);
@@ -228,7 +249,8 @@ module _ {t : List ℕ} {start : ℕ} {b : List ℕ} {to at size : ℕ} {out : L
           fits h =
               let z = k .fit h in
               let y : size ≤ 254 = omega (arith, z) in
-              name-more (w .l) a (w .fit y) (label-fits a is (omega (arith, z, got .holds .size))) (omega (arith, z, form-last (w .l) a, sized y, got .holds .size))
+              name-more (w .l) a (w .fit y) (label-fits a is (omega (arith, z, got .holds .size)))
+              (omega (arith, z, form-last (w .l) a, sized y, got .holds .size))
 
           written : s ≤ 254 → Wrote b to (each labelForm (w .l ++ (a ∷ []))) b′ (to + s)
           written h =
@@ -246,17 +268,20 @@ module _ {t : List ℕ} {start : ℕ} {b : List ℕ} {to at size : ℕ} {out : L
 
 -- ---- a name: the root or labels
 abbrev pub NameRead : (t : List ℕ) (c : Cursor) (b : List ℕ) (r : Cursor) (b′ : List ℕ) → Type 0
-NameRead t c b r b′ = Found (name .parse) (λ n. Put name? nameForm c b r b′ n × (none? n ≡ eqb (r .at) (c .at + 2))) t c r
+NameRead t c b r b′ =
+    Found (name .parse) (λ n. Put name? nameForm c b r b′ n × (none? n ≡ eqb (r .at) (c .at + 2))) t c r
 
 name-root : (w r : List ℕ) → strip (46 ∷ 34 ∷ []) w ≡ took tt r → name .parse w ≡ took [] r
 unfolding name
 name-root w r e = rw e
 
-name-list : (w : List ℕ) {u r : List ℕ} {n : Name} → strip (46 ∷ 34 ∷ []) w ≡ stuck u → labelList .parse w ≡ took n r → name .parse w ≡ took n r
+name-list : (w : List ℕ) {u r : List ℕ} {n : Name} → strip (46 ∷ 34 ∷ []) w ≡ stuck u → labelList .parse w ≡ took n r
+    → name .parse w ≡ took n r
 unfolding name labelList
 name-list w e d = rw (e, d)
 
-name-neither : (t : List ℕ) (at m n : ℕ) → m ≤ length t → n ≤ length t → strip (46 ∷ 34 ∷ []) (drop at t) ≡ stuck (drop m t) → labelList .parse (drop at t) ≡ stuck (drop n t)
+name-neither : (t : List ℕ) (at m n : ℕ) → m ≤ length t → n ≤ length t
+    → strip (46 ∷ 34 ∷ []) (drop at t) ≡ stuck (drop m t) → labelList .parse (drop at t) ≡ stuck (drop n t)
     → name .parse (drop at t) ≡ stuck (drop (cond (ltb m n) n m) t)
 unfolding name labelList
 name-neither t at m n h k e d = rw (e, d, further t m n h k)
@@ -266,51 +291,81 @@ module _ {t : List ℕ} {c : Cursor} (h : Safe t c) where
   name-stuck g = found-stuck (name .parse) t c h (not-true _ g)
 
   -- the root
-  module _ {x : ℕ} (g : c .spelled ≡ true) (e : Byte t (c .at) x) (d : x ≡ 46) {r : Cursor} (q : Passed (46 ∷ 34 ∷ []) t c r) where
+  module _ {x : ℕ} (g : c .spelled ≡ true) (e : Byte t (c .at) x) (d : x ≡ 46) {r : Cursor}
+      (q : Passed (46 ∷ 34 ∷ []) t c r) where
     stripped : (b : Bool) → r .spelled ≡ b → strip (46 ∷ 34 ∷ []) (drop (c .at) t) ≡ left-of b (drop (r .at) t)
     stripped b k = sym (rw (k, g) at (q .left))
 
     pub root-bad : {b b′ : List ℕ} → not (r .spelled) ≡ true → NameRead t c b r b′
     root-bad k = record {
-      reads = reads-stop (rw g (name-neither t (c .at) (r .at) (c .at) (q .keeps .safe .inside) (h .inside) (stripped false (not-true _ k)) (list-stuck (drop (c .at) t) (label-dot e d)) ∙ rw (le-ltb (r .at) (c .at) (q .keeps .onward)))) (not-true _ k) refl;
+      reads = reads-stop (rw g (name-neither t (c .at) (r .at) (c .at) (q .keeps .safe .inside) (h .inside)
+          (stripped false (not-true _ k)) (list-stuck (drop (c .at) t) (label-dot e d))
+          ∙ rw (le-ltb (r .at) (c .at) (q .keeps .onward)))) (not-true _ k) refl;
       moves = record { safe = q .keeps .safe; onward = q .keeps .onward };
     }
 
-    pub root-is : {b b′ : List ℕ} {s : Cursor} → not (r .spelled) ≡ false → Emits (0 ∷ []) r b s b′ → NameRead t c b s b′
+    pub root-is : {b b′ : List ℕ} {s : Cursor} → not (r .spelled) ≡ false → Emits (0 ∷ []) r b s b′
+        → NameRead t c b s b′
     unfolding name? nameForm
     root-is {b} {b′} {s} k m =
         let z = stripped true (not-false _ k) in
         let y = ap length (held (strip-sound (46 ∷ 34 ∷ []) (drop (c .at) t)) z) in
-        let f : r .at ≡ c .at + 2 = omega (arith, length-drop (c .at) t, length-drop (r .at) t, q .keeps .safe .inside, q .keeps .onward) in
-        let put : Put name? nameForm r b s b′ [] = record { meant = m .meant ∙ sym (and-true (r .meant)); small = λ k. m .small; wrote = λ k. m .wrote } in
+        let f : r .at ≡ c .at + 2 =
+        omega (arith, length-drop (c .at) t, length-drop (r .at) t, q .keeps .safe .inside, q .keeps .onward) in
+        let put : Put name? nameForm r b s b′ [] =
+        record { meant = m .meant ∙ sym (and-true (r .meant)); small = λ k. m .small; wrote = λ k. m .wrote } in
         record {
-          reads = reads-took {a = []} (rw g (name-root (drop (c .at) t) (drop (r .at) t) z)) (m .spelled ∙ not-false _ k) (m .at) (put-from (q .keeps) put, sym (eq-eqb (s .at) (c .at + 2) (m .at ∙ f)));
-          moves = record { safe = record { inside = omega (arith, m .at, q .keeps .safe .inside); room = m .room }; onward = omega (arith, m .at, q .keeps .onward) };
+          reads = reads-took {a = []} (rw g (name-root (drop (c .at) t) (drop (r .at) t) z))
+              (m .spelled ∙ not-false _ k) (m .at) (
+                put-from (q .keeps) put,
+                sym (eq-eqb (s .at) (c .at + 2) (m .at ∙ f)),
+              );
+          moves = record {
+            safe = record { inside = omega (arith, m .at, q .keeps .safe .inside); room = m .room };
+            onward = omega (arith, m .at, q .keeps .onward);
+          };
         }
 
 -- labels
-module _ {t : List ℕ} {c : Cursor} {b b′ : List ℕ} {x : ℕ} {p : Part} (h : Safe t c) (g : not (c .spelled) ≡ false) (e : Byte t (c .at) x) (d : x ≡ 46 → ⊥) (q : LabelsAt t (c .at) b (c .to) p b′) where
+module _ {t : List ℕ} {c : Cursor} {b b′ : List ℕ} {x : ℕ} {p : Part} (h : Safe t c) (g : not (c .spelled) ≡ false)
+    (e : Byte t (c .at) x) (d : x ≡ 46 → ⊥) (q : LabelsAt t (c .at) b (c .to) p b′) where
   pub name-bad : {r : Cursor} → not (p .found) ≡ true → Stopped c (p .at) r → NameRead t c b r b′
   name-bad {r} k s = record {
-    reads = reads-stop (rw (not-false (c .spelled) g) (name-neither t (c .at) (c .at) (p .at) (h .inside) (q .within) (no-strip 46 (34 ∷ []) e d) (tells-bad (q .tells) (not-true _ k)) ∙ ap (λ n. stuck (drop n t)) (last (ltb (c .at) (p .at)) refl))) (s .is) (s .at);
-    moves = record { safe = record { inside = omega (arith, s .at, q .within); room = omega (arith, s .to, h .room) }; onward = omega (arith, s .at, q .onward) };
+    reads = reads-stop (rw (not-false (c .spelled) g)
+        (name-neither t (c .at) (c .at) (p .at) (h .inside) (q .within) (no-strip 46 (34 ∷ []) e d)
+        (tells-bad (q .tells) (not-true _ k)) ∙ ap (λ n. stuck (drop n t)) (last (ltb (c .at) (p .at)) refl))) (s .is)
+        (s .at);
+    moves = record {
+      safe = record { inside = omega (arith, s .at, q .within); room = omega (arith, s .to, h .room) };
+      onward = omega (arith, s .at, q .onward);
+    };
   }
     where
       last : (f : Bool) → ltb (c .at) (p .at) ≡ f → cond f (p .at) (c .at) ≡ p .at
       last true f = refl
       last false f = omega (arith, q .onward, ltb-false (c .at) (p .at) f)
 
-  pub name-is : {r s u : Cursor} → not (p .found) ≡ false → Came c (p .at) r → Held (p .size) r s → Judged (leb (p .size) 255) s u → NameRead t c b u b′
+  pub name-is : {r s u : Cursor} → not (p .found) ≡ false → Came c (p .at) r → Held (p .size) r s
+      → Judged (leb (p .size) 255) s u → NameRead t c b u b′
   name-is {r} {s} {u} k m v j = record {
-    reads = reads-took (rw (not-false (c .spelled) g) (name-list (drop (c .at) t) (no-strip 46 (34 ∷ []) e d) (got .is))) (j .spelled ∙ v .spelled ∙ m .is) (j .at ∙ v .at ∙ m .at) (put, far);
-    moves = record { safe = record { inside = omega (arith, j .at, v .at, m .at, q .within); room = omega (arith, j .to, v .room) }; onward = omega (arith, j .at, v .at, m .at, q .onward) };
+    reads = reads-took (rw (not-false (c .spelled) g)
+        (name-list (drop (c .at) t) (no-strip 46 (34 ∷ []) e d) (got .is))) (j .spelled ∙ v .spelled ∙ m .is)
+        (j .at ∙ v .at ∙ m .at) (put, far);
+    moves = record {
+      safe = record {
+        inside = omega (arith, j .at, v .at, m .at, q .within);
+        room = omega (arith, j .to, v .room);
+      };
+      onward = omega (arith, j .at, v .at, m .at, q .onward);
+    };
   }
     where
       got : Got (labelList .parse (drop (c .at) t)) (Formed b (c .to) (p .size) b′) (drop (p .at) t)
       got = tells-got (q .tells) (not-false _ k)
 
       far : none? (got .value) ≡ eqb (u .at) (c .at + 2)
-      far = got .holds .some ∙ sym (ne-eqb (u .at) (c .at + 2) (λ z. omega (arith, j .at, v .at, m .at, q .further (not-false _ k))))
+      far = got .holds .some
+          ∙ sym (ne-eqb (u .at) (c .at + 2) (λ z. omega (arith, j .at, v .at, m .at, q .further (not-false _ k))))
 
       meant : u .meant ≡ (c .meant && name? (got .value))
       meant = j .meant ∙ rw (v .meant, m .meant, got .holds .fits)

@@ -18,17 +18,21 @@ use Rattle.strict.specs.Parser.{questionCodec, recordCodec, itemCodec, question
 use Rattle.strict.specs.Meaning.{itemRecord}
 use Rattle.tokens.specs.declared.Cursor.{Cursor}
 use Rattle.tokens.specs.Cursor.{Safe, keeps-same, Passed, Came}
-use Rattle.tokens.specs.Step.{Found, found-as, found-lit, found-stuck, Put, put-from, put-to, put-nothing, put-last, all-last, Step}
+use Rattle.tokens.specs.Step.{Found, found-as, found-lit, found-stuck, Put, put-from, put-to, put-nothing, put-last}
+use Rattle.tokens.specs.Step.{all-last, Step}
 use Rattle.tokens.specs.Leaf.{found-same}
 use Rattle.tokens.specs.Place.{Byte}
-use Rattle.tokens.specs.Items.{comma-of, part-of, item-of, Items, items-start, items-end, items-stop, items-far, items-more}
-use Rattle.reader.specs.Meant.{any, recordMeant?, recordOctets, hides?, itemMeant?, itemOctets, itemOpt?, itemShown?, itemHides?}
+use Rattle.tokens.specs.Items.{comma-of, part-of, item-of, Items, items-start, items-end, items-stop, items-far}
+use Rattle.tokens.specs.Items.{items-more}
+use Rattle.reader.specs.Meant.{any, recordMeant?, recordOctets, hides?, itemMeant?, itemOctets, itemOpt?}
+use Rattle.reader.specs.Meant.{itemShown?, itemHides?}
 use Rattle.reader.specs.Reading.{entry-parse, Facts, RecordRead}
 use Rattle.reader.specs.Items.{ItemRead}
 use Rattle.reader.specs.declared.entries.Entry.{Entry}
 use Rattle.reader.specs.declared.entries.Section.{Section}
 use Rattle.reader.specs.declared.entries.Element.{Element}
-use Rattle.reader.specs.declared.entries.Element.the-variants.{Question as Questions, Record as Records, Additional as Additionals}
+use Rattle.reader.specs.declared.entries.Element.the-variants.{Question as Questions, Record as Records}
+use Rattle.reader.specs.declared.entries.Element.the-variants.{Additional as Additionals}
 
 -- ---- what an array holds
 abbrev pub Thing : Element → Type 0
@@ -90,27 +94,46 @@ AskedRead = OneRead Questions 0
 abbrev pub TitledRead : ℕ → List ℕ → Cursor → List ℕ → Entry → List ℕ → Type 0
 TitledRead = OneRead Records
 
-pub asked-read : {t b b′ : List ℕ} {c r : Cursor} → Step question? questionForm (questionCodec .parse) t c b r b′ → AskedRead t c b (record { cursor = r; opt = false; shown = false; hidden = false }) b′
+pub asked-read : {t b b′ : List ℕ} {c r : Cursor} → Step question? questionForm (questionCodec .parse) t c b r b′
+    → AskedRead t c b (record { cursor = r; opt = false; shown = false; hidden = false }) b′
 asked-read x = found-as x λ a h. record { put = h; is-opt = refl; is-shown = refl; is-hidden = λ k. refl }
 
-pub titled-read : (rcode : ℕ) {t b b′ : List ℕ} {c d : Cursor} {r : Entry} → Passed (ascii "{\"NAME\":\"") t c d → RecordRead rcode t d b r b′ → TitledRead rcode t c b r b′
-titled-read rcode q x = found-same (recordCodec .parse) (λ g. sym (entry-parse _)) (found-lit q (found-as x λ a h. record { put = put-from (q .keeps) (h .put); is-opt = h .is-opt; is-shown = h .is-shown; is-hidden = h .is-hidden }))
+pub titled-read : (rcode : ℕ) {t b b′ : List ℕ} {c d : Cursor} {r : Entry} → Passed (ascii "{\"NAME\":\"") t c d
+    → RecordRead rcode t d b r b′ → TitledRead rcode t c b r b′
+titled-read rcode q x =
+    found-same (recordCodec .parse) (λ g. sym (entry-parse _))
+    (found-lit q (found-as x λ a h. record {
+      put = put-from (q .keeps) (h .put);
+      is-opt = h .is-opt;
+      is-shown = h .is-shown;
+      is-hidden = h .is-hidden;
+    }))
 
-pub one-asked : {e : Element} (rcode : ℕ) {t b b′ : List ℕ} {c : Cursor} {r : Entry} → e ≡ Questions → AskedRead t c b r b′ → OneRead e rcode t c b r b′
+pub one-asked : {e : Element} (rcode : ℕ) {t b b′ : List ℕ} {c : Cursor} {r : Entry} → e ≡ Questions
+    → AskedRead t c b r b′ → OneRead e rcode t c b r b′
 one-asked rcode {t} {b} {b′} {c} {r} h x = subst (λ e. OneRead e rcode t c b r b′) (sym h) x
 
-pub one-titled : {e : Element} (rcode : ℕ) {t b b′ : List ℕ} {c : Cursor} {r : Entry} → e ≡ Records → TitledRead rcode t c b r b′ → OneRead e rcode t c b r b′
+pub one-titled : {e : Element} (rcode : ℕ) {t b b′ : List ℕ} {c : Cursor} {r : Entry} → e ≡ Records
+    → TitledRead rcode t c b r b′ → OneRead e rcode t c b r b′
 one-titled rcode {t} {b} {b′} {c} {r} h x = subst (λ e. OneRead e rcode t c b r b′) (sym h) x
 
-pub one-item : {e : Element} (rcode : ℕ) {t b b′ : List ℕ} {c : Cursor} {r : Entry} → e ≡ Additionals → ItemRead rcode t c b r b′ → OneRead e rcode t c b r b′
+pub one-item : {e : Element} (rcode : ℕ) {t b b′ : List ℕ} {c : Cursor} {r : Entry} → e ≡ Additionals
+    → ItemRead rcode t c b r b′ → OneRead e rcode t c b r b′
 one-item rcode {t} {b} {b′} {c} {r} h x = subst (λ e. OneRead e rcode t c b r b′) (sym h) x
 
 -- ---- an entry and the comma before it
 abbrev pub NextRead : Element → Bool → ℕ → List ℕ → Cursor → List ℕ → Entry → List ℕ → Type 0
 NextRead e first rcode t c b r b′ = Found (item-of (codecOf e) 93 first) (OneFacts e rcode c b r b′) t c (r .cursor)
 
-pub next-read : (e : Element) (first : Bool) (rcode : ℕ) {t b b′ : List ℕ} {c d : Cursor} {r : Entry} → Passed (comma-of first) t c d → OneRead e rcode t d b r b′ → NextRead e first rcode t c b r b′
-next-read e first rcode q x = found-lit q (found-as x λ a h. record { put = put-from (q .keeps) (h .put); is-opt = h .is-opt; is-shown = h .is-shown; is-hidden = h .is-hidden })
+pub next-read : (e : Element) (first : Bool) (rcode : ℕ) {t b b′ : List ℕ} {c d : Cursor} {r : Entry}
+    → Passed (comma-of first) t c d → OneRead e rcode t d b r b′ → NextRead e first rcode t c b r b′
+next-read e first rcode q x =
+    found-lit q (found-as x λ a h. record {
+      put = put-from (q .keeps) (h .put);
+      is-opt = h .is-opt;
+      is-shown = h .is-shown;
+      is-hidden = h .is-hidden;
+    })
 
 -- ---- counting
 -- 65,536 counts for every number above
@@ -157,7 +180,8 @@ abbrev pub arrayParse : (e : Element) → List ℕ → Parsed (List (Thing e))
 arrayParse e w = and-then (strip (91 ∷ []) w) λ u r. insideParse e r
 
 -- what is reported of its entries
-pub record SectionFacts (e : Element) (rcode : ℕ) (c : Cursor) (b : List ℕ) (r : Section) (b′ : List ℕ) (l : List (Thing e)) : Type 0 where
+pub record SectionFacts (e : Element) (rcode : ℕ) (c : Cursor) (b : List ℕ) (r : Section) (b′ : List ℕ)
+    (l : List (Thing e)) : Type 0 where
   pub put : Put (all (meantOf rcode e)) (each (thingForm e)) c b (r .cursor) b′ l
   pub counted : r .count ≡ atMost65536 (length l)
   pub opts : r .opts ≡ atMost65536 (count (thingOpt e) l)
@@ -171,8 +195,10 @@ abbrev pub SectionRead : Element → ℕ → List ℕ → Cursor → List ℕ �
 SectionRead e rcode t c b r b′ = Found (arrayParse e) (SectionFacts e rcode c b r b′) t c (r .cursor)
 
 -- the loop: entries were read from c to d and counted
-pub record Gathered (e : Element) (rcode : ℕ) (t : List ℕ) (c : Cursor) (b : List ℕ) (d : Cursor) (first : Bool) (n o : ℕ) (s h : Bool) (b′ : List ℕ) : Type 0 where
-  pub items : Items (codecOf e) 93 (SectionFacts e rcode c b (record { cursor = d; count = n; opts = o; shown = s; hidden = h }) b′) t c true d first
+pub record Gathered (e : Element) (rcode : ℕ) (t : List ℕ) (c : Cursor) (b : List ℕ) (d : Cursor) (first : Bool)
+    (n o : ℕ) (s h : Bool) (b′ : List ℕ) : Type 0 where
+  pub items : Items (codecOf e) 93
+      (SectionFacts e rcode c b (record { cursor = d; count = n; opts = o; shown = s; hidden = h }) b′) t c true d first
   pub few : n ≤ 65536
   pub few-opts : o ≤ 65536
   pub long : length b′ ≡ length b
@@ -186,7 +212,8 @@ avoids Additionals = item-avoids
 apart : (e : Element) → Avoids (In e) (λ a. 44 ∷ thingText e a) 93
 apart e a r s h q = fronts tt q
 
-pub inside-stopped : {e : Element} (rcode : ℕ) {t b : List ℕ} {c : Cursor} → Safe t c → not (c .spelled) ≡ true → InsideRead e rcode t c b (record { cursor = c; count = 0; opts = 0; shown = false; hidden = false }) b
+pub inside-stopped : {e : Element} (rcode : ℕ) {t b : List ℕ} {c : Cursor} → Safe t c → not (c .spelled) ≡ true
+    → InsideRead e rcode t c b (record { cursor = c; count = 0; opts = 0; shown = false; hidden = false }) b
 inside-stopped {e} rcode {t} {c = c} f g = found-stuck (insideParse e) t c f (not-true (c .spelled) g)
 
 module _ {e : Element} (rcode : ℕ) {t b : List ℕ} {c : Cursor} (g : not (c .spelled) ≡ false) where
@@ -194,21 +221,36 @@ module _ {e : Element} (rcode : ℕ) {t b : List ℕ} {c : Cursor} (g : not (c .
   pub gathered-start : Safe t c → Gathered e rcode t c b c true 0 0 false false b
   unfolding each
   gathered-start f = record {
-    items = items-start (codecOf e) 93 (avoids e) (apart e) t g f record { put = put-nothing b (keeps-same f) refl refl; counted = omega arith; opts = omega arith; shown = refl; hidden = λ m. refl };
+    items = items-start (codecOf e) 93 (avoids e) (apart e) t g f record {
+      put = put-nothing b (keeps-same f) refl refl;
+      counted = omega arith;
+      opts = omega arith;
+      shown = refl;
+      hidden = λ m. refl;
+    };
     few = omega arith;
     few-opts = omega arith;
     long = refl;
   }
 
-  module _ {d : Cursor} {first : Bool} {n o : ℕ} {s h : Bool} {b′ : List ℕ} (w : Gathered e rcode t c b d first n o s h b′) where
+  module _ {d : Cursor} {first : Bool} {n o : ℕ} {s h : Bool} {b′ : List ℕ}
+      (w : Gathered e rcode t c b d first n o s h b′) where
     -- the bracket
-    pub inside-end : {r : Cursor} {v : ℕ} → Byte t (d .at) v → v ≡ 93 → Came d (d .at + 1) r → InsideRead e rcode t c b (record { cursor = r; count = n; opts = o; shown = s; hidden = h }) b′
+    pub inside-end : {r : Cursor} {v : ℕ} → Byte t (d .at) v → v ≡ 93 → Came d (d .at + 1) r
+        → InsideRead e rcode t c b (record { cursor = r; count = n; opts = o; shown = s; hidden = h }) b′
     inside-end k p m = items-end (codecOf e) 93 (avoids e) (apart e) t g (w .items) k p (omega arith) m
-        λ z l x. record { put = put-to (x .put) z; counted = x .counted; opts = x .opts; shown = x .shown; hidden = λ y. x .hidden (subst T (z .meant) y) }
+        λ z l x. record {
+          put = put-to (x .put) z;
+          counted = x .counted;
+          opts = x .opts;
+          shown = x .shown;
+          hidden = λ y. x .hidden (subst T (z .meant) y);
+        }
 
     module _ {y : Entry} {b″ : List ℕ} (z : NextRead e first rcode t d b′ y b″) where
       -- neither an entry nor the bracket
-      pub inside-no : {r : Section} {v : ℕ} → Byte t (d .at) v → (v ≡ 93 → ⊥) → not (y .cursor .spelled) ≡ true → r .cursor ≡ y .cursor → InsideRead e rcode t c b r b″
+      pub inside-no : {r : Section} {v : ℕ} → Byte t (d .at) v → (v ≡ 93 → ⊥) → not (y .cursor .spelled) ≡ true
+          → r .cursor ≡ y .cursor → InsideRead e rcode t c b r b″
       inside-no k p j q = rw q (items-stop (codecOf e) 93 (avoids e) (apart e) t g (w .items) z k p j)
 
       module _ (j : not (y .cursor .spelled) ≡ false) where
@@ -216,7 +258,8 @@ module _ {e : Element} (rcode : ℕ) {t b : List ℕ} {c : Cursor} (g : not (c .
         gathered-far = items-far (codecOf e) 93 (avoids e) (apart e) t g (w .items) z j
 
         -- one more
-        pub gathered-more : {n′ o′ : ℕ} {s′ h′ : Bool} → n′ ≡ atMost65536 (n + bit true) → o′ ≡ atMost65536 (o + bit (y .opt)) → s′ ≡ (s || y .shown) → h′ ≡ (h || y .hidden) → length b″ ≡ length b′
+        pub gathered-more : {n′ o′ : ℕ} {s′ h′ : Bool} → n′ ≡ atMost65536 (n + bit true)
+            → o′ ≡ atMost65536 (o + bit (y .opt)) → s′ ≡ (s || y .shown) → h′ ≡ (h || y .hidden) → length b″ ≡ length b′
             → Gathered e rcode t c b (y .cursor) false n′ o′ s′ h′ b″
         gathered-more {n′} {o′} {s′} {h′} en eo es eh same = record {
           items = items-more (codecOf e) 93 (avoids e) (apart e) t g (w .items) z j more;
@@ -225,18 +268,32 @@ module _ {e : Element} (rcode : ℕ) {t b : List ℕ} {c : Cursor} (g : not (c .
           long = same ∙ w .long;
         }
           where
-            more : (l : List (Thing e)) (a : Thing e) → SectionFacts e rcode c b (record { cursor = d; count = n; opts = o; shown = s; hidden = h }) b′ l → OneFacts e rcode d b′ y b″ a
-                → SectionFacts e rcode c b (record { cursor = y .cursor; count = n′; opts = o′; shown = s′; hidden = h′ }) b″ (l ++ (a ∷ []))
+            more : (l : List (Thing e)) (a : Thing e)
+                → SectionFacts e rcode c b (record { cursor = d; count = n; opts = o; shown = s; hidden = h }) b′ l
+                → OneFacts e rcode d b′ y b″ a
+                → SectionFacts e rcode c b
+                (record { cursor = y .cursor; count = n′; opts = o′; shown = s′; hidden = h′ }) b″ (l ++ (a ∷ []))
             more l a x f = record {
               put = put-last l a (all-last (meantOf rcode e) l a) (x .put) (f .put);
               counted = omega (arith, en, x .counted, length-append l (a ∷ []));
-              opts = eo ∙ ap (λ v. atMost65536 (o + bit v)) (f .is-opt) ∙ tallied (bit (thingOpt e a)) (count-snoc (thingOpt e) l a);
+              opts = eo ∙ ap (λ v. atMost65536 (o + bit v)) (f .is-opt)
+                  ∙ tallied (bit (thingOpt e a)) (count-snoc (thingOpt e) l a);
               shown = es ∙ rw (x .shown, f .is-shown) (sym (any-snoc (shownOf e) l a));
-              hidden = λ m. eh ∙ rw (x .hidden (and-left (d .meant) _ (subst T (f .put .meant) m)), f .is-hidden m) (sym (any-snoc (hidesOf rcode e) l a));
+              hidden = λ m. eh ∙ rw (x .hidden (and-left (d .meant) _ (subst T (f .put .meant) m)), f .is-hidden m)
+                  (sym (any-snoc (hidesOf rcode e) l a));
             }
               where
-                tallied : (m : ℕ) → count (thingOpt e) (l ++ (a ∷ [])) ≡ count (thingOpt e) l + m → atMost65536 (o + m) ≡ atMost65536 (count (thingOpt e) (l ++ (a ∷ [])))
+                tallied : (m : ℕ) → count (thingOpt e) (l ++ (a ∷ [])) ≡ count (thingOpt e) l + m
+                    → atMost65536 (o + m) ≡ atMost65536 (count (thingOpt e) (l ++ (a ∷ [])))
                 tallied m q = omega (arith, q, x .opts)
 
-pub section-read : (e : Element) (rcode : ℕ) {t b b′ : List ℕ} {c d : Cursor} {r : Section} → Passed (ascii "[") t c d → InsideRead e rcode t d b r b′ → SectionRead e rcode t c b r b′
-section-read e rcode q x = found-lit q (found-as x λ l h. record { put = put-from (q .keeps) (h .put); counted = h .counted; opts = h .opts; shown = h .shown; hidden = h .hidden })
+pub section-read : (e : Element) (rcode : ℕ) {t b b′ : List ℕ} {c d : Cursor} {r : Section} → Passed (ascii "[") t c d
+    → InsideRead e rcode t d b r b′ → SectionRead e rcode t c b r b′
+section-read e rcode q x =
+    found-lit q (found-as x λ l h. record {
+      put = put-from (q .keeps) (h .put);
+      counted = h .counted;
+      opts = h .opts;
+      shown = h .shown;
+      hidden = h .hidden;
+    })

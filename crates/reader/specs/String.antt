@@ -28,9 +28,11 @@ unfolding string
 string-run w = refl
 
 abbrev pub StringRead : (t : List ℕ) (c : Cursor) (b : List ℕ) (r : Cursor) (b′ : List ℕ) → Type 0
-StringRead t c b r b′ = Found (string .parse) (λ l. Put (λ l. true) (λ l. l) c b r b′ l × (none? l ≡ eqb (r .at) (c .at + 1))) t c r
+StringRead t c b r b′ =
+    Found (string .parse) (λ l. Put (λ l. true) (λ l. l) c b r b′ l × (none? l ≡ eqb (r .at) (c .at + 1))) t c r
 
-pub string-stuck : {t : List ℕ} {c : Cursor} {b b′ : List ℕ} → Safe t c → not (c .spelled) ≡ true → StringRead t c b c b′
+pub string-stuck : {t : List ℕ} {c : Cursor} {b b′ : List ℕ} → Safe t c → not (c .spelled) ≡ true
+    → StringRead t c b c b′
 string-stuck {t} {c} h g = found-stuck (string .parse) t c h (not-true _ g)
 
 -- the reader came from c to `at`, and the octet `v` was written
@@ -60,14 +62,16 @@ chars-start t c b h g = record {
   long = refl;
 }
 
-module _ {t : List ℕ} {c : Cursor} {b : List ℕ} {d : Cursor} {out : List ℕ} (w : Chars t c b d out) (g : not (c .spelled) ≡ false) {y : ℕ} (f : Byte t (d .at) y) where
+module _ {t : List ℕ} {c : Cursor} {b : List ℕ} {d : Cursor} {out : List ℕ} (w : Chars t c b d out)
+    (g : not (c .spelled) ≡ false) {y : ℕ} (f : Byte t (d .at) y) where
   -- the quote after them
   pub chars-end : {r : Cursor} → y ≡ 34 → Came d (d .at + 1) r → StringRead t c b r out
   chars-end {r} k s =
       let h = inside f (omega arith) in
       let keeps = went-keeps (w .moves .safe) s (omega arith) (omega arith) in
       record {
-        reads = reads-took (rw (not-false (c .spelled) g) (going-end stringChar 34 stringOctet-avoids char-empty (w .goes) h (sym (f .is) ∙ k))) (s .is) (s .at)
+        reads = reads-took (rw (not-false (c .spelled) g)
+            (going-end stringChar 34 stringOctet-avoids char-empty (w .goes) h (sym (f .is) ∙ k))) (s .is) (s .at)
             (put-to (w .put) keeps, w .place ∙ next (eqb (d .at) (c .at)) refl);
         moves = record { safe = keeps .safe; onward = omega (arith, keeps .onward, w .moves .onward) };
       }
@@ -83,16 +87,20 @@ module _ {t : List ℕ} {c : Cursor} {b : List ℕ} {d : Cursor} {out : List ℕ
     chars-bad {r} m s =
         let keeps = went-keeps (w .moves .safe) s (q .onward) (q .within) in
         record {
-          reads = reads-stop (rw (not-false (c .spelled) g) (going-stop stringChar 34 stringOctet-avoids char-empty (w .goes) (λ z. k (f .is ∙ z)) (tells-bad (q .tells) (not-true _ m)))) (s .is) (s .at);
+          reads = reads-stop (rw (not-false (c .spelled) g)
+              (going-stop stringChar 34 stringOctet-avoids char-empty (w .goes) (λ z. k (f .is ∙ z))
+              (tells-bad (q .tells) (not-true _ m)))) (s .is) (s .at);
           moves = record { safe = keeps .safe; onward = omega (arith, keeps .onward, w .moves .onward) };
         }
 
 -- one octet more
-module _ {t : List ℕ} {c : Cursor} {b : List ℕ} {d : Cursor} {out : List ℕ} (w : Chars t c b d out) {o : Letter} (q : LetterAt stringAt t (d .at) o) (m : not (o .found) ≡ false) where
+module _ {t : List ℕ} {c : Cursor} {b : List ℕ} {d : Cursor} {out : List ℕ} (w : Chars t c b d out) {o : Letter}
+    (q : LetterAt stringAt t (d .at) o) (m : not (o .found) ≡ false) where
   pub chars-far : d .at < o .at
   chars-far = q .further (not-false _ m)
 
-  pub chars-more : {r : Cursor} {b′ : List ℕ} → Added d (o .at) (o .value) out r b′ → length b′ ≡ length b → Chars t c b r b′
+  pub chars-more : {r : Cursor} {b′ : List ℕ} → Added d (o .at) (o .value) out r b′ → length b′ ≡ length b
+      → Chars t c b r b′
   unfolding stringChar
   chars-more {r} {b′} a z =
       let keeps = went-keeps (w .moves .safe) (a .came) (q .onward) (q .within) in
@@ -102,8 +110,12 @@ module _ {t : List ℕ} {c : Cursor} {b : List ℕ} {d : Cursor} {out : List ℕ
         goes = rw e (going-more stringChar 34 stringOctet-avoids char-empty (w .goes) (got .is));
         spelled = a .emits .spelled ∙ a .came .is;
         put = put-as refl (ap (λ v. w .l ++ (v ∷ [])) (sym (got .holds))) (put-emit (put-to (w .put) keeps) (a .emits));
-        moves = record { safe = record { inside = omega (arith, e, q .within); room = a .emits .room }; onward = omega (arith, e, chars-far, w .moves .onward) };
-        place = none-last (w .l) (got .value) ∙ sym (ne-eqb (r .at) (c .at) (λ y. omega (arith, e, chars-far, w .moves .onward)));
+        moves = record {
+          safe = record { inside = omega (arith, e, q .within); room = a .emits .room };
+          onward = omega (arith, e, chars-far, w .moves .onward);
+        };
+        place = none-last (w .l) (got .value)
+            ∙ sym (ne-eqb (r .at) (c .at) (λ y. omega (arith, e, chars-far, w .moves .onward)));
         long = z;
       }
     where

@@ -1,4 +1,5 @@
-// Questions, records and elements of a text, and the arrays of them. What is judged and written of each is defined in specs/.
+// Questions, records and elements of a text, and the arrays of them. What is judged and written of each is defined in
+// specs/.
 ghost use mathlib.Core.Path.{_≡_};
 ghost use Prim.Native.Nat.{_+_, _≤_, _<_};
 ghost use Rattle.tokens.specs.Cursor.{Safe};
@@ -8,7 +9,8 @@ ghost use Rattle.records.specs.Message.{question?, questionForm};
 ghost use Rattle.strict.specs.Parser.{questionCodec};
 ghost use Rattle.reader.specs.Reading.{WordRead, typeOr0, RdataRead, CouldBeElement, TailRead, RecordRead};
 ghost use Rattle.reader.specs.Items.{ItemRead};
-ghost use Rattle.reader.specs.Sections.{AskedRead, TitledRead, OneRead, NextRead, InsideRead, SectionRead, atMost65536, bit};
+ghost use Rattle.reader.specs.Sections.{AskedRead, TitledRead, OneRead, NextRead, InsideRead, SectionRead};
+ghost use Rattle.reader.specs.Sections.{atMost65536, bit};
 use crate::labels::name;
 use crate::members::edns;
 use crate::members::put_hex;
@@ -32,7 +34,8 @@ use tokens::put_ttl;
 use tokens::put_word;
 use tokens::signed;
 
-// What was read of an entry: whether it is of TYPE 41, whether it is an EDNS element, whether it is an ordinary record that could be one.
+// What was read of an entry: whether it is of TYPE 41, whether it is an EDNS element, whether it is an ordinary record
+// that could be one.
 struct Entry {
     cursor: Cursor,
     opt: bool,
@@ -55,7 +58,8 @@ fn word(text: &[u8], c: Cursor, out: &mut [u8]) -> Amount
 // A question.
 fn question(text: &[u8], c: Cursor, out: &mut [u8]) -> Cursor
     requires { ⌜ Safe (now text) c ⌝ }
-    ensures { λ r. ⌜ Step question? questionForm (questionCodec .parse) (now (text .entry)) c (now (out .entry)) r (now (out .exit)) ⌝ }
+    ensures { λ r. ⌜ Step question? questionForm (questionCodec .parse) (now (text .entry)) c (now (out .entry)) r
+        (now (out .exit)) ⌝ }
 {
     let start = literal(text, c, b"{\"NAME\":\"");
     let owner = name(text, start, out);
@@ -172,7 +176,8 @@ pub enum Element {
     Additional,
 }
 
-// The entries of an array: how many, how many of TYPE 41 (65,536 counts for every number above), whether an EDNS element is there, whether a record that could be one is.
+// The entries of an array: how many, how many of TYPE 41 (65,536 counts for every number above), whether an EDNS
+// element is there, whether a record that could be one is.
 pub struct Section {
     pub cursor: Cursor,
     pub count: u64,

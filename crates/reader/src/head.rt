@@ -1,7 +1,8 @@
 // The head of a text: the header's numbers and the counts.
 ghost use Prim.Native.Nat.{_≤_, _<_};
 ghost use Rattle.tokens.specs.Cursor.{Safe};
-ghost use Rattle.reader.specs.Head.{HighBits, LowBits, HighRead, LowRead, CountsRead, PutFlags, PutCounts, HeadRead};
+ghost use Rattle.reader.specs.Head.{HighBits, LowBits, HighRead, LowRead, CountsRead, PutFlags, PutCounts};
+ghost use Rattle.reader.specs.Head.{HeadRead};
 use tokens::Cursor;
 use tokens::both;
 use tokens::emit;

@@ -99,7 +99,8 @@ fn grow(size: usize, label: usize) -> usize
     s
 }
 
-// Labels and the quote after them. Their octets and the root octet are written from `to` on, unless they are too many; the size is then 256.
+// Labels and the quote after them. Their octets and the root octet are written from `to` on, unless they are too many;
+// the size is then 256.
 fn labels_at(text: &[u8], start: usize, out: &mut [u8], to: usize) -> Part
     requires { ⌜ (start ≤ length (now text)) × (to ≤ 65535) ⌝ }
     ensures { λ r. ⌜ LabelsAt (now (text .entry)) start (now (out .entry)) to r (now (out .exit)) ⌝ }

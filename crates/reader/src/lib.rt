@@ -35,7 +35,8 @@ fn array(
     out: &mut [u8],
 ) -> Section
     requires { ⌜ Safe (now text) c × (rcode < 16) ⌝ }
-    ensures { λ r. ⌜ ArrayRead (now (title .entry)) element rcode (now (text .entry)) c (now (out .entry)) r (now (out .exit)) ⌝ }
+    ensures { λ r. ⌜ ArrayRead (now (title .entry)) element rcode (now (text .entry)) c (now (out .entry)) r
+        (now (out .exit)) ⌝ }
 {
     let behind = literal(text, c, title);
     read_section(text, behind, element, rcode, out)
@@ -55,7 +56,8 @@ fn agree(counts: Counts, questions: u64, answers: u64, authority: u64, additiona
     )
 }
 
-// Whether an EDNS element is the only entry of TYPE 41, and no record that could be one is written as an ordinary record.
+// Whether an EDNS element is the only entry of TYPE 41, and no record that could be one is written as an ordinary
+// record.
 fn settled(section: Section) -> bool
     ensures { λ r. ⌜ r ≡ settledSection section ⌝ }
 {
@@ -67,7 +69,8 @@ fn settled(section: Section) -> bool
 
 // Reads the text from its first octet on.
 fn document(text: &[u8], out: &mut [u8]) -> Cursor
-    ensures { λ r. ⌜ Step documentMeant? documentOctets (document .parse) (now (text .entry)) start (now (out .entry)) r (now (out .exit)) ⌝ }
+    ensures { λ r. ⌜ Step documentMeant? documentOctets (document .parse) (now (text .entry)) start (now (out .entry)) r
+        (now (out .exit)) ⌝ }
 {
     let first = Cursor {
         at: 0,
@@ -117,7 +120,8 @@ fn document(text: &[u8], out: &mut [u8]) -> Cursor
 
 // Writes the message that a text says. A first run over no octets finds every refusal.
 pub fn read(text: &[u8], message: &mut [u8]) -> Outcome
-    ensures { λ r. ⌜ Reads (record { input = now (text .entry); before = now (message .entry); answer = r; after = now (message .exit) }) ⌝ }
+    ensures { λ r. ⌜ Reads
+        (record { input = now (text .entry); before = now (message .entry); answer = r; after = now (message .exit) }) ⌝ }
 {
     let c = document(text, &mut message[..0]);
     if !c.spelled {

@@ -6,15 +6,19 @@ ghost use lib.ListN.{replicate};
 ghost use Rattle.octets.specs.Lists.{all, each};
 ghost use Rattle.octets.specs.Decimal.{natural};
 ghost use Rattle.octets.specs.Overlay.{Wrote};
-ghost use Rattle.options.specs.Options.{hexObject, octetList, expiry, hexList, padding, wordList, extendedError, formOf};
+ghost use Rattle.options.specs.Options.{hexObject, octetList, expiry, hexList, padding, wordList, extendedError};
+ghost use Rattle.options.specs.Options.{formOf};
 ghost use Rattle.strict.specs.Members.{cookie?, text?, optional};
 ghost use Rattle.strict.specs.Parser.{optionMembers};
 ghost use Rattle.tokens.specs.Cursor.{Safe};
 ghost use Rattle.tokens.specs.Step.{Step};
 ghost use Rattle.tokens.specs.Fields.{Done};
 ghost use Rattle.tokens.specs.Hex.{HexRun};
-ghost use Rattle.reader.specs.Values.{HexSpan, sizeOf, numeral?, numeralForm, numeralsParse, ValueStep, part?, next-part, CookieStep, cookieParse, Zeros, PaddingFits, PaddingHex, PaddingEnd, ErrorText, errorEnd};
-ghost use Rattle.reader.specs.Options.{MemberNameRead, Fronted, KnownStep, OtherFits, optionCode, OtherHex, OtherRead, MemberRead, RisingRead, OptionsStep, membersParse};
+ghost use Rattle.reader.specs.Values.{HexSpan, sizeOf, numeral?, numeralForm, numeralsParse, ValueStep, part?};
+ghost use Rattle.reader.specs.Values.{next-part, CookieStep, cookieParse, Zeros, PaddingFits, PaddingHex};
+ghost use Rattle.reader.specs.Values.{PaddingEnd, ErrorText, errorEnd};
+ghost use Rattle.reader.specs.Options.{MemberNameRead, Fronted, KnownStep, OtherFits, optionCode, OtherHex};
+ghost use Rattle.reader.specs.Options.{OtherRead, MemberRead, RisingRead, OptionsStep, membersParse};
 ghost use Rattle.reader.specs.Element.{RcodeRead, ednsFits?, OptFronted, EdnsStep};
 use crate::labels::string;
 use digits::put_octets;
@@ -77,7 +81,8 @@ pub fn put_hex(text: &[u8], h: Span, c: Cursor, out: &mut [u8]) -> Cursor
 // A number of two octets, or of one.
 fn numeral(text: &[u8], c: Cursor, wide: bool, out: &mut [u8]) -> Cursor
     requires { ⌜ Safe (now text) c ⌝ }
-    ensures { λ r. ⌜ Step (numeral? wide) (numeralForm wide) natural (now (text .entry)) c (now (out .entry)) r (now (out .exit)) ⌝ }
+    ensures { λ r. ⌜ Step (numeral? wide) (numeralForm wide) natural (now (text .entry)) c (now (out .entry)) r
+        (now (out .exit)) ⌝ }
 {
     let n = number(text, c);
     let d = n.cursor;
@@ -91,7 +96,8 @@ fn numeral(text: &[u8], c: Cursor, wide: bool, out: &mut [u8]) -> Cursor
 // Numbers with commas between, and the bracket after them.
 fn numerals(text: &[u8], c: Cursor, wide: bool, out: &mut [u8]) -> Cursor
     requires { ⌜ Safe (now text) c ⌝ }
-    ensures { λ r. ⌜ Step (all (numeral? wide)) (each (numeralForm wide)) numeralsParse (now (text .entry)) c (now (out .entry)) r (now (out .exit)) ⌝ }
+    ensures { λ r. ⌜ Step (all (numeral? wide)) (each (numeralForm wide)) numeralsParse (now (text .entry)) c
+        (now (out .entry)) r (now (out .exit)) ⌝ }
 {
     if !c.spelled {
         return c;
@@ -194,7 +200,8 @@ fn cookie_string(text: &[u8], c: Cursor, i: usize, out: &mut [u8]) -> Cursor
 // Strings with commas between, and the bracket after them.
 fn cookie_strings(text: &[u8], c: Cursor, out: &mut [u8]) -> Cursor
     requires { ⌜ Safe (now text) c ⌝ }
-    ensures { λ r. ⌜ Step cookie? (each (λ h. h)) cookieParse (now (text .entry)) c (now (out .entry)) r (now (out .exit)) ⌝ }
+    ensures { λ r. ⌜ Step cookie? (each (λ h. h)) cookieParse (now (text .entry)) c (now (out .entry)) r
+        (now (out .exit)) ⌝ }
 {
     if !c.spelled {
         return c;

@@ -74,7 +74,8 @@ boundaries =
     -- a form of 65,535 and of 65,536 octets
     ∷ record { message = pointed 65503; gives = taken }
     ∷ record { message = pointed 65504; gives = refuses 9 0 }
-    -- RDATA of NS: ends inside its name, as it should, one octet after it; top bits 01; RDLENGTH 0, and past the message
+    -- RDATA of NS: ends inside its name, as it should, one octet after it; top bits 01; RDLENGTH 0, and past the
+    -- message
     ∷ record { message = answers 2 2 (hexed "0161"); gives = refuses 7 12 }
     ∷ record { message = answers 2 3 (hexed "016100"); gives = taken }
     ∷ record { message = answers 2 4 (hexed "01610000"); gives = refuses 7 12 }
@@ -95,10 +96,13 @@ boundaries =
     -- a label and a pointer to a name of 253 octets, of 254: the count goes on after a jump
     ∷ record { message = counts 2 0 ++ long 59 ++ hexed "000100010162C00C00010001"; gives = taken }
     ∷ record { message = counts 2 0 ++ long 60 ++ hexed "000100010162C00C00010001"; gives = refuses 6 270 }
-    -- after a jump out of RDATA its end no longer counts: a run of labels across it; one past the message, reported at the
-    -- record being read
+    -- after a jump out of RDATA its end no longer counts: a run of labels across it; one past the message, reported at
+    -- the record being read
     ∷ record { message = counts 0 2 ++ hexed "0000020001000000000002C0160000010001000000000000"; gives = taken }
-    ∷ record { message = counts 0 2 ++ hexed "00001000010000000000013F0000020001000000000002C017"; gives = refuses 1 24 }
+    ∷ record {
+      message = counts 0 2 ++ hexed "00001000010000000000013F0000020001000000000002C017";
+      gives = refuses 1 24;
+    }
     -- MX: no name, a name; a pointer to its own two octets, and to the name itself
     ∷ record { message = answers 15 2 (hexed "0001"); gives = refuses 7 12 }
     ∷ record { message = answers 15 3 (hexed "000100"); gives = taken }
@@ -118,7 +122,8 @@ boundaries =
     ∷ []
 
 -- every row, computed
-pub boundaries-hold : map (λ (b : Boundary). verdict (decode (b .message))) boundaries ≡ map (λ (b : Boundary). b .gives) boundaries
+pub boundaries-hold : map (λ (b : Boundary). verdict (decode (b .message))) boundaries ≡ map
+    (λ (b : Boundary). b .gives) boundaries
 unfolding boundaries lookup nameForm walk nameFrom layouts layoutOf pieces rdataAt questionForm recordForm each headerForm form firstCut questionAt recordAt sectionAt sectionFrom headerOf sectionsOf messageRead decode
 boundaries-hold = refl
 
@@ -129,7 +134,8 @@ types =
     map (λ (type : ℕ). (type, taken)) (1 ∷ 10 ∷ 11 ∷ 13 ∷ 14 ∷ 16 ∷ 41 ∷ 258 ∷ 512 ∷ [])
     ++ map (λ (type : ℕ). (type, refuses 7 12)) (2 ∷ 3 ∷ 4 ∷ 5 ∷ 6 ∷ 7 ∷ 8 ∷ 9 ∷ 12 ∷ 15 ∷ [])
 
-pub types-hold : map (λ (t : ℕ × Verdict). verdict (decode (answers (t .0) 2 (hexed "0000")))) types ≡ map (λ (t : ℕ × Verdict). t .1) types
+pub types-hold : map (λ (t : ℕ × Verdict). verdict (decode (answers (t .0) 2 (hexed "0000")))) types ≡ map
+    (λ (t : ℕ × Verdict). t .1) types
 unfolding types lookup nameForm walk nameFrom layouts layoutOf pieces rdataAt questionForm recordForm each headerForm form firstCut questionAt recordAt sectionAt sectionFrom headerOf sectionsOf messageRead decode
 types-hold = refl
 
@@ -152,6 +158,7 @@ flagBits =
     ∷ (hexed "0001", 0 ∷ 0 ∷ 0 ∷ 0 ∷ 0 ∷ 0 ∷ 0 ∷ 0 ∷ 1 ∷ [])
     ∷ []
 
-pub flags-hold : map (λ (f : List ℕ × List ℕ). fields (headerOf (hexed "0000" ++ f .0 ++ replicate 8 0))) flagBits ≡ map (λ (f : List ℕ × List ℕ). f .1) flagBits
+pub flags-hold : map (λ (f : List ℕ × List ℕ). fields (headerOf (hexed "0000" ++ f .0 ++ replicate 8 0))) flagBits ≡ map
+    (λ (f : List ℕ × List ℕ). f .1) flagBits
 unfolding flagBits headerOf
 flags-hold = refl

@@ -1,5 +1,5 @@
--- What the uncompressed form keeps: the header, and of every entry all but names and RDLENGTH. Where no name in an entry meets
--- a pointer, its form is its own octets.
+-- What the uncompressed form keeps: the header, and of every entry all but names and RDLENGTH. Where no name in an
+-- entry meets a pointer, its form is its own octets.
 use mathlib.Core.Path.{_≡_, refl, sym, ap, ap₂, _∙_, subst}
 use mathlib.Core.Bool.{true, false}
 use mathlib.Core.List.{List, [], _∷_, _++_, append-assoc}
@@ -16,13 +16,16 @@ use Rattle.records.specs.Layout.{laid, rdataAt}
 use Rattle.records.specs.Message.{Message, Question, Record, questionForm, recordForm, headerForm, form}
 use Rattle.records.specs.Read.{entry, firstCut, questionAt, recordAt, reached, sectionAt, sectionFrom}
 use Rattle.records.specs.Decode.{headerOf, zOf, sectionsOf, messageRead, accepted, decode}
-use Rattle.records.specs.RecordLaws.{laid-octets, pieces-fill, pieces-same, pieces-whole, fields-room, entry-value, entry-next, with-name-back, with-fields-back, filled-back, room-back}
+use Rattle.records.specs.RecordLaws.{laid-octets, pieces-fill, pieces-same, pieces-whole, fields-room}
+use Rattle.records.specs.RecordLaws.{entry-value, entry-next, with-name-back, with-fields-back, filled-back}
+use Rattle.records.specs.RecordLaws.{room-back}
 use Rattle.records.proofs.MessageLaws.{section-count, from-count, from-reached, decode-back}
 use Rattle.records.specs.Parts.{layoutIn, rdata-pieces}
 
 -- ---- the header
 first-twelve : (s : List ℕ) → 12 ≤ length s
-    → take 12 s ≡ getD s 0 0 ∷ getD s 1 0 ∷ getD s 2 0 ∷ getD s 3 0 ∷ getD s 4 0 ∷ getD s 5 0 ∷ getD s 6 0 ∷ getD s 7 0 ∷ getD s 8 0 ∷ getD s 9 0 ∷ getD s 10 0 ∷ getD s 11 0 ∷ []
+    → take 12 s ≡ getD s 0 0 ∷ getD s 1 0 ∷ getD s 2 0 ∷ getD s 3 0 ∷ getD s 4 0 ∷ getD s 5 0 ∷ getD s 6 0 ∷ getD s 7
+    0 ∷ getD s 8 0 ∷ getD s 9 0 ∷ getD s 10 0 ∷ getD s 11 0 ∷ []
 first-twelve s h =
     rw (
       take-suc s 11 0 (omega arith),
@@ -42,7 +45,8 @@ first-twelve s h =
 -- in sections that are read to their end the counts are the header's
 sections-count : (s : List ℕ) (i : ℕ) → sectionsOf s .additional .end ≡ reached i
     → (length (sectionsOf s .questions .entries) ≡ twoAt s 4) × (length (sectionsOf s .answers .entries) ≡ twoAt s 6)
-    × (length (sectionsOf s .authority .entries) ≡ twoAt s 8) × (length (sectionsOf s .additional .entries) ≡ twoAt s 10)
+    × (length (sectionsOf s .authority .entries) ≡ twoAt s 8)
+    × (length (sectionsOf s .additional .entries) ≡ twoAt s 10)
 unfolding sectionsOf
 sections-count s i e =
     let f₁ = sectionAt questionAt s (twoAt s 4) 12 in
@@ -50,8 +54,12 @@ sections-count s i e =
     let f₃ = sectionFrom recordAt s (twoAt s 8) (f₂ .end) in
     let (i₃, p₃, g₄) = from-reached recordAt s (twoAt s 10) (f₃ .end) i e in
     let (i₂, p₂, g₃) = from-reached recordAt s (twoAt s 8) (f₂ .end) i₃ p₃ in
-    let (i₁, p₁, g₂) = from-reached recordAt s (twoAt s 6) (f₁ .end) i₂ p₂ in
-    (section-count questionAt s (twoAt s 4) 12 i₁ p₁, from-count recordAt s (twoAt s 6) (f₁ .end) i₂ p₂, from-count recordAt s (twoAt s 8) (f₂ .end) i₃ p₃, from-count recordAt s (twoAt s 10) (f₃ .end) i e)
+    let (i₁, p₁, g₂) = from-reached recordAt s (twoAt s 6) (f₁ .end) i₂ p₂ in (
+      section-count questionAt s (twoAt s 4) 12 i₁ p₁,
+      from-count recordAt s (twoAt s 6) (f₁ .end) i₂ p₂,
+      from-count recordAt s (twoAt s 8) (f₂ .end) i₃ p₃,
+      from-count recordAt s (twoAt s 10) (f₃ .end) i e,
+    )
 
 -- the flags' octets from their bits
 high-bits : (x : ℕ) → x / 128 * 128 + x / 8 % 16 * 8 + x / 4 % 2 * 4 + x / 2 % 2 * 2 + x % 2 ≡ x
@@ -75,13 +83,17 @@ low-bits x z =
     omega arith
 
 -- the first 12 octets of the form are the message's: Z is clear and the counts are those of the sections
-pub header-same : (s : List ℕ) (i : ℕ) → ((j : ℕ) → getD s j 0 < 256) → 12 ≤ length s → (zOf s ≡ 1 → ⊥) → sectionsOf s .additional .end ≡ reached i → headerForm (messageRead s) ≡ take 12 s
+pub header-same : (s : List ℕ) (i : ℕ) → ((j : ℕ) → getD s j 0 < 256) → 12 ≤ length s → (zOf s ≡ 1 → ⊥)
+    → sectionsOf s .additional .end ≡ reached i → headerForm (messageRead s) ≡ take 12 s
 unfolding headerForm messageRead headerOf
 header-same s i o h z e =
     let c = sections-count s i e in
     let clear : getD s 3 0 / 64 % 2 ≡ 0 = omega arith in
-    ap₂ (λ (x y : List ℕ). x ++ y) (ap₂ (λ (x y : List ℕ). x ++ y) (ap₂ (λ (x y : List ℕ). x ++ y) (ap₂ (λ (x y : List ℕ). x ++ y) (ap₂ (λ (x y : List ℕ). x ++ y)
-    (two-same (getD s 0 0) (getD s 1 0) (o 0) (o 1)) (ap₂ (λ (x y : ℕ). x ∷ y ∷ []) (high-bits (getD s 2 0)) (low-bits (getD s 3 0) clear)))
+    ap₂ (λ (x y : List ℕ). x ++ y)
+    (ap₂ (λ (x y : List ℕ). x ++ y)
+    (ap₂ (λ (x y : List ℕ). x ++ y) (ap₂ (λ (x y : List ℕ). x ++ y) (ap₂ (λ (x y : List ℕ). x ++ y)
+    (two-same (getD s 0 0) (getD s 1 0) (o 0) (o 1))
+    (ap₂ (λ (x y : ℕ). x ∷ y ∷ []) (high-bits (getD s 2 0)) (low-bits (getD s 3 0) clear)))
     (ap two (c .0) ∙ two-same (getD s 4 0) (getD s 5 0) (o 4) (o 5)))
     (ap two (c .1) ∙ two-same (getD s 6 0) (getD s 7 0) (o 6) (o 7)))
     (ap two (c .2) ∙ two-same (getD s 8 0) (getD s 9 0) (o 8) (o 9)))
@@ -128,11 +140,13 @@ question-fields : (s : List ℕ) (at : ℕ) → Octets s → at + 4 ≤ length s
 question-fields s at o h =
     let place : at + 2 + 2 ≡ at + 4 = omega arith in
     two-kept s at o (omega arith)
-    ∙ ap (λ l. two (twoAt s at) ++ l) (two-kept s (at + 2) o (omega arith) ∙ ap (λ i. two (twoAt s (at + 2)) ++ drop i s) place)
+    ∙ ap (λ l. two (twoAt s at) ++ l) (two-kept s (at + 2) o (omega arith)
+    ∙ ap (λ i. two (twoAt s (at + 2)) ++ drop i s) place)
 
 -- TTL and RDLENGTH after them
 record-fields : (s : List ℕ) (at : ℕ) → Octets s → at + 10 ≤ length s
-    → drop at s ≡ two (twoAt s at) ++ two (twoAt s (at + 2)) ++ four (fourAt s (at + 4)) ++ two (twoAt s (at + 8)) ++ drop (at + 10) s
+    → drop at s ≡ two (twoAt s at) ++ two (twoAt s (at + 2)) ++ four (fourAt s (at + 4)) ++ two (twoAt s (at + 8))
+    ++ drop (at + 10) s
 record-fields s at o h =
     let ttl : at + 4 + 4 ≡ at + 8 = omega arith in
     let rdata : at + 8 + 2 ≡ at + 10 = omega arith in
@@ -157,7 +171,8 @@ question-kept s at q next o e =
     let over = read-sized s message at at n i (omega arith) p .3 in
     let room = fields-room s i (2 ∷ 2 ∷ []) over u in
     let made : Question = record { name = n; type = twoAt s i; class = twoAt s (i + 2) } in
-    let kept : QuestionKept s at made (i + 4) = record { after = i; name = p; fields = question-fields s i o (omega arith) } in
+    let kept : QuestionKept s at made (i + 4) =
+    record { after = i; name = p; fields = question-fields s i o (omega arith) } in
     subst (λ q. QuestionKept s at q next) (entry-value g) (subst (QuestionKept s at made) (entry-next g) kept)
 
 -- a record: after its owner, TYPE, CLASS and TTL, then RDLENGTH, which is `size` here, and RDATA
@@ -179,7 +194,8 @@ record-kept s at r next o e =
     let over = read-sized s message at at n i (omega arith) p .3 in
     let space = fields-room s i (2 ∷ 2 ∷ 4 ∷ 2 ∷ []) over u in
     let size = twoAt s (i + 8) in
-    let made : List ℕ → Record = λ d. record { name = n; type = twoAt s i; class = twoAt s (i + 2); ttl = fourAt s (i + 4); rdata = d } in
+    let made : List ℕ → Record =
+    λ d. record { name = n; type = twoAt s i; class = twoAt s (i + 2); ttl = fourAt s (i + 4); rdata = d } in
     let (room, k) = room-back s (i + 10 + size) _ _ r next g in
     let w = rdataAt true s (twoAt s i) (i + 10) size in
     let (d, l, same, place) = filled-back made (i + 10 + size) w r next k in
@@ -196,7 +212,8 @@ record-kept s at r next o e =
 
 -- ---- entries without pointers
 -- a name that is read without meeting a pointer is its own form
-name-own : (s : List ℕ) (at : ℕ) {m n : Name} {j i : ℕ} → nameAt s message at ≡ named m j → nameFrom s message 0 at ≡ named n i
+name-own : (s : List ℕ) (at : ℕ) {m n : Name} {j i : ℕ} → nameAt s message at ≡ named m j
+    → nameFrom s message 0 at ≡ named n i
     → (drop at s ≡ nameForm m ++ drop j s) × (i ≡ j)
 name-own s at {m} {n} {j} {i} p q =
     let same = sym (read-plain s message at at n i (omega arith) q) ∙ p in
@@ -212,9 +229,11 @@ rdata-own s type at size {d} {e} h p q =
     let f = sym (rdata-pieces false s type at size) ∙ q in
     let own = pieces-whole layout s at end at d h (omega arith) f in
     let long : length s - at ≡ length d + (length s - end) =
-    sym (length-drop at s) ∙ ap length own ∙ length-append d (drop end s) ∙ ap (λ n. length d + n) (length-drop end s) in
+    sym (length-drop at s) ∙ ap length own ∙ length-append d (drop end s)
+    ∙ ap (λ n. length d + n) (length-drop end s) in
     let fills = pieces-fill false layout s at end at d h f in
-    let back = rdata-pieces true s type at size ∙ pieces-same true layout s (drop end s) at end at d fills own (omega arith) in
+    let back = rdata-pieces true s type at size ∙ pieces-same true layout s (drop end s) at end at d fills own
+    (omega arith) in
     let same : d ≡ e = laid-octets (sym back ∙ p) in
     (own ∙ ap (λ l. l ++ drop end s) same, ap length (sym same) ∙ omega arith)
 
@@ -237,7 +256,8 @@ record-own s at r next o e n i size d p h q =
     let same : size ≡ k .size = omega (arith, k .ends) in
     let inside : rdataAt false s (r .type) (k .after + 10) (k .size) ≡ laid d =
     ap₂ (λ i n. rdataAt false s (r .type) (i + 10) n) (sym place) (sym same) ∙ q in
-    let (whole, long) = rdata-own s (r .type) (k .after + 10) (k .size) (omega (arith, k .ends, k .within)) (k .rdata) inside in
+    let (whole, long) = rdata-own s (r .type) (k .after + 10) (k .size) (omega (arith, k .ends, k .within))
+    (k .rdata) inside in
     let head = two (r .type) ++ two (r .class) ++ four (r .ttl) in
     own
     ∙ ap (λ l. nameForm (r .name) ++ l) (k .fields

@@ -14,10 +14,14 @@ use Rattle.octets.specs.Bits.{both, and-left, and-right, All-append}
 use Rattle.octets.specs.Fields.{two, four, twoAt, drop-past, two-back, getD-octet, twoAt-word, two-octets, four-octets}
 use Rattle.names.specs.Name.{nameForm, Fault, refusalNumber}
 use Rattle.names.specs.NameLaws as N
-use Rattle.records.specs.Message.{Header, Question, Record, Message, flagsHigh, flagsLow, questionForm, recordForm, headerForm, form, header?, question?, record?, section?, valid?}
-use Rattle.records.specs.Read.{Entry, entry, bad, questionAt, recordAt, Reached, reached, stopped, add, sectionAt, sectionFrom}
-use Rattle.records.specs.Decode.{headerOf, zOf, sectionsOf, messageRead, Decoded, accepted, refused, afterReading, decode}
-use Rattle.records.specs.RecordLaws.{question-parts, record-parts, record-long, question-back, question-read, record-back, record-read}
+use Rattle.records.specs.Message.{Header, Question, Record, Message, flagsHigh, flagsLow, questionForm}
+use Rattle.records.specs.Message.{recordForm, headerForm, form, header?, question?, record?, section?, valid?}
+use Rattle.records.specs.Read.{Entry, entry, bad, questionAt, recordAt, Reached, reached, stopped, add, sectionAt}
+use Rattle.records.specs.Read.{sectionFrom}
+use Rattle.records.specs.Decode.{headerOf, zOf, sectionsOf, messageRead, Decoded, accepted, refused, afterReading}
+use Rattle.records.specs.Decode.{decode}
+use Rattle.records.specs.RecordLaws.{question-parts, record-parts, record-long, question-back, question-read}
+use Rattle.records.specs.RecordLaws.{record-back, record-read}
 
 -- ---- sections
 -- the offset that was reached
@@ -36,17 +40,20 @@ stopped≢reached e = subst Came (sym e) tt
 
 module _ {A : Type 0} (read : List ℕ → ℕ → Entry A) (s : List ℕ) where
   -- an entry that is read, and the entries after it
-  pub section-step : (n at : ℕ) (a : A) (next : ℕ) → read s at ≡ entry a next → sectionAt read s (suc n) at ≡ add a (sectionAt read s n next)
+  pub section-step : (n at : ℕ) (a : A) (next : ℕ) → read s at ≡ entry a next
+      → sectionAt read s (suc n) at ≡ add a (sectionAt read s n next)
   unfolding sectionAt
   section-step n at a next e = rw (e, sectionAt)
 
   -- a fault ends the section
-  pub section-stop : (n at : ℕ) (fault : Fault) → read s at ≡ bad fault → sectionAt read s (suc n) at ≡ record { entries = []; end = stopped at fault }
+  pub section-stop : (n at : ℕ) (fault : Fault) → read s at ≡ bad fault
+      → sectionAt read s (suc n) at ≡ record { entries = []; end = stopped at fault }
   unfolding sectionAt
   section-stop n at fault e = rw (e, sectionAt)
 
   -- the section before has come to its end
-  pub from-reached : (n : ℕ) (w : Reached) (i : ℕ) → sectionFrom read s n w .end ≡ reached i → (at : ℕ) × (w ≡ reached at) × (sectionAt read s n at .end ≡ reached i)
+  pub from-reached : (n : ℕ) (w : Reached) (i : ℕ) → sectionFrom read s n w .end ≡ reached i
+      → (at : ℕ) × (w ≡ reached at) × (sectionAt read s n at .end ≡ reached i)
   unfolding sectionFrom
   from-reached n (reached at) i e = (at, refl, e)
   from-reached n (stopped at fault) i e = absurd (stopped≢reached e)
@@ -60,7 +67,8 @@ module _ {A : Type 0} (read : List ℕ → ℕ → Entry A) (s : List ℕ) where
       section-valid zero at = tt
       section-valid (suc n) at = go (read s at) refl (section-valid n)
         where
-          go : (w : Entry A) → read s at ≡ w → ((i : ℕ) → T (all entry? (sectionAt read s n i .entries))) → T (all entry? (sectionAt read s (suc n) at .entries))
+          go : (w : Entry A) → read s at ≡ w → ((i : ℕ) → T (all entry? (sectionAt read s n i .entries)))
+              → T (all entry? (sectionAt read s (suc n) at .entries))
           go (entry a next) p f = rw (section-step n at a next p) (both (entry? a) _ (valid at a next p) (f next))
           go (bad fault) p f = rw (section-stop n at fault p) tt
 
@@ -71,8 +79,10 @@ module _ {A : Type 0} (read : List ℕ → ℕ → Entry A) (s : List ℕ) where
       from-valid n (stopped at fault) = tt
 
     -- where a section's form is, the section is read, if each entry is
-    pub section-back : (form : A → List ℕ) → ((a : A) (r : List ℕ) (at : ℕ) → T (entry? a) → length (form a) ≤ 65535 → drop at s ≡ form a ++ r → read s at ≡ entry a (at + length (form a)))
-        → (l : List A) (r : List ℕ) (at : ℕ) → T (all entry? l) → length (each form l) ≤ 65535 → drop at s ≡ each form l ++ r
+    pub section-back : (form : A → List ℕ) → ((a : A) (r : List ℕ) (at : ℕ) → T (entry? a) → length (form a) ≤ 65535
+        → drop at s ≡ form a ++ r → read s at ≡ entry a (at + length (form a)))
+        → (l : List A) (r : List ℕ) (at : ℕ) → T (all entry? l) → length (each form l) ≤ 65535
+        → drop at s ≡ each form l ++ r
         → sectionAt read s (length l) at ≡ record { entries = l; end = reached (at + length (each form l)) }
     unfolding sectionAt each
     section-back form back [] r at v h e = ap (λ (i : ℕ). record { entries = []; end = reached i }) (sym (add-zero at))
@@ -81,23 +91,28 @@ module _ {A : Type 0} (read : List ℕ → ℕ → Entry A) (s : List ℕ) where
         let here : drop at s ≡ form a ++ (each form l ++ r) = e ∙ append-assoc (form a) (each form l) r in
         let next = at + length (form a) in
         let place : next + length (each form l) ≡ at + length (form a ++ each form l) = omega arith in
-        section-step (length l) at a next (back a (each form l ++ r) at (and-left (entry? a) (all entry? l) v) (omega arith) here)
-        ∙ ap (add a) (section-back form back l r next (and-right (entry? a) (all entry? l) v) (omega arith) (drop-past s (form a) (each form l ++ r) at here))
+        section-step (length l) at a next
+        (back a (each form l ++ r) at (and-left (entry? a) (all entry? l) v) (omega arith) here)
+        ∙ ap (add a) (section-back form back l r next (and-right (entry? a) (all entry? l) v) (omega arith)
+        (drop-past s (form a) (each form l ++ r) at here))
         ∙ ap (λ (i : ℕ). record { entries = a ∷ l; end = reached i }) place
 
   -- a section that is read to its end has as many entries as were asked for
-  pub section-count : (n at i : ℕ) → sectionAt read s n at .end ≡ reached i → length (sectionAt read s n at .entries) ≡ n
+  pub section-count : (n at i : ℕ) → sectionAt read s n at .end ≡ reached i
+      → length (sectionAt read s n at .entries) ≡ n
   unfolding sectionAt
   section-count zero at i e = refl
   section-count (suc n) at i e = go (read s at) refl (section-count n)
     where
-      go : (w : Entry A) → read s at ≡ w → ((j k : ℕ) → sectionAt read s n j .end ≡ reached k → length (sectionAt read s n j .entries) ≡ n)
+      go : (w : Entry A) → read s at ≡ w
+          → ((j k : ℕ) → sectionAt read s n j .end ≡ reached k → length (sectionAt read s n j .entries) ≡ n)
           → length (sectionAt read s (suc n) at .entries) ≡ suc n
       go (entry a next) p f = rw (section-step n at a next p) (ap suc (f next i (rw (section-step n at a next p) at e)))
       go (bad fault) p f = absurd (stopped≢reached (rw (section-stop n at fault p) at e))
 
   -- the same of a section after another
-  pub from-count : (n : ℕ) (w : Reached) (i : ℕ) → sectionFrom read s n w .end ≡ reached i → length (sectionFrom read s n w .entries) ≡ n
+  pub from-count : (n : ℕ) (w : Reached) (i : ℕ) → sectionFrom read s n w .end ≡ reached i
+      → length (sectionFrom read s n w .entries) ≡ n
   unfolding sectionFrom
   from-count n (reached at) i e = section-count n at i e
   from-count n (stopped at fault) i e = absurd (stopped≢reached e)
@@ -165,7 +180,17 @@ header-made h k =
     let b7 = ltb (h .ad) 2 in
     let b8 = ltb (h .cd) 2 in
     let b9 = ltb (h .rcode) 16 in
-    both (b0 && b1 && b2 && b3 && b4 && b5 && b6 && b7 && b8) b9 (both (b0 && b1 && b2 && b3 && b4 && b5 && b6 && b7) b8 (both (b0 && b1 && b2 && b3 && b4 && b5 && b6) b7 (both (b0 && b1 && b2 && b3 && b4 && b5) b6 (both (b0 && b1 && b2 && b3 && b4) b5 (both (b0 && b1 && b2 && b3) b4 (both (b0 && b1 && b2) b3 (both (b0 && b1) b2 (both b0 b1 (lt→ltb (h .id) 65536 (k .id)) (lt→ltb (h .qr) 2 (k .qr))) (lt→ltb (h .opcode) 16 (k .opcode))) (lt→ltb (h .aa) 2 (k .aa))) (lt→ltb (h .tc) 2 (k .tc))) (lt→ltb (h .rd) 2 (k .rd))) (lt→ltb (h .ra) 2 (k .ra))) (lt→ltb (h .ad) 2 (k .ad))) (lt→ltb (h .cd) 2 (k .cd))) (lt→ltb (h .rcode) 16 (k .rcode))
+    both (b0 && b1 && b2 && b3 && b4 && b5 && b6 && b7 && b8) b9
+    (both (b0 && b1 && b2 && b3 && b4 && b5 && b6 && b7) b8
+    (both (b0 && b1 && b2 && b3 && b4 && b5 && b6) b7
+    (both (b0 && b1 && b2 && b3 && b4 && b5) b6
+    (both (b0 && b1 && b2 && b3 && b4) b5
+    (both (b0 && b1 && b2 && b3) b4
+    (both (b0 && b1 && b2) b3
+    (both (b0 && b1) b2 (both b0 b1 (lt→ltb (h .id) 65536 (k .id)) (lt→ltb (h .qr) 2 (k .qr)))
+    (lt→ltb (h .opcode) 16 (k .opcode))) (lt→ltb (h .aa) 2 (k .aa))) (lt→ltb (h .tc) 2 (k .tc)))
+    (lt→ltb (h .rd) 2 (k .rd))) (lt→ltb (h .ra) 2 (k .ra))) (lt→ltb (h .ad) 2 (k .ad))) (lt→ltb (h .cd) 2 (k .cd)))
+    (lt→ltb (h .rcode) 16 (k .rcode))
 
 -- the header of octets has those bounds
 header-octets : (s : List ℕ) → Octets s → Bounds (headerOf s)
@@ -202,7 +227,18 @@ header-back m k =
     let e₇ : flagsLow h / 32 % 2 ≡ h .ad = omega arith in
     let e₈ : flagsLow h / 16 % 2 ≡ h .cd = omega arith in
     let e₉ : flagsLow h % 16 ≡ h .rcode = omega arith in
-    λ i. record { id = e₀ i; qr = e₁ i; opcode = e₂ i; aa = e₃ i; tc = e₄ i; rd = e₅ i; ra = e₆ i; ad = e₇ i; cd = e₈ i; rcode = e₉ i }
+    λ i. record {
+      id = e₀ i;
+      qr = e₁ i;
+      opcode = e₂ i;
+      aa = e₃ i;
+      tc = e₄ i;
+      rd = e₅ i;
+      ra = e₆ i;
+      ad = e₇ i;
+      cd = e₈ i;
+      rcode = e₉ i;
+    }
 
 -- Z is clear in a form
 z-clear : (m : Message) → Bounds (m .header) → zOf (form m) ≡ 0
@@ -211,11 +247,16 @@ z-clear m k = let h = m .header in let e : flagsLow h / 64 % 2 ≡ 0 = omega ari
 
 -- ---- the parts of a valid message
 -- the count of a valid section is a number of 16 bits, and its entries are valid
-section-parts : {A : Type 0} (entry? : A → Bool) (l : List A) → T (section? entry? l) → (length l < 65536) × T (all entry? l)
-section-parts entry? l h = (ltb→lt (length l) 65536 (and-left (word? (length l)) (all entry? l) h), and-right (word? (length l)) (all entry? l) h)
+section-parts : {A : Type 0} (entry? : A → Bool) (l : List A) → T (section? entry? l)
+    → (length l < 65536) × T (all entry? l)
+section-parts entry? l h = (
+  ltb→lt (length l) 65536 (and-left (word? (length l)) (all entry? l) h),
+  and-right (word? (length l)) (all entry? l) h,
+)
 
 -- a section with both is valid
-section-made : {A : Type 0} (entry? : A → Bool) (l : List A) → length l < 65536 → T (all entry? l) → T (section? entry? l)
+section-made : {A : Type 0} (entry? : A → Bool) (l : List A) → length l < 65536 → T (all entry? l)
+    → T (section? entry? l)
 section-made entry? l h k = both (word? (length l)) (all entry? l) (lt→ltb (length l) 65536 h) k
 
 -- a valid message
@@ -258,7 +299,8 @@ valid-made m v =
     both (a && b && c && d) e
     (both (a && b && c) d
     (both (a && b) c
-    (both a b (header-made (m .header) (v .header)) (section-made question? (m .questions) (v .questions .0) (v .questions .1)))
+    (both a b (header-made (m .header) (v .header))
+    (section-made question? (m .questions) (v .questions .0) (v .questions .1)))
     (section-made record? (m .answers) (v .answers .0) (v .answers .1)))
     (section-made record? (m .authority) (v .authority .0) (v .authority .1)))
     (section-made record? (m .additional) (v .additional .0) (v .additional .1))
@@ -266,17 +308,20 @@ valid-made m v =
 -- ---- the form is read back
 module _ (s : List ℕ) where
   -- a record whose form is within the limit is read back
-  record-here : (a : Record) (r : List ℕ) (at : ℕ) → T (record? a) → length (recordForm a) ≤ 65535 → drop at s ≡ recordForm a ++ r → recordAt s at ≡ entry a (at + length (recordForm a))
+  record-here : (a : Record) (r : List ℕ) (at : ℕ) → T (record? a) → length (recordForm a) ≤ 65535
+      → drop at s ≡ recordForm a ++ r → recordAt s at ≡ entry a (at + length (recordForm a))
   record-here a r at v h e = let long = record-long a in record-back s r at a v (omega arith) e
 
   -- a question is read back
-  question-here : (a : Question) (r : List ℕ) (at : ℕ) → T (question? a) → length (questionForm a) ≤ 65535 → drop at s ≡ questionForm a ++ r
+  question-here : (a : Question) (r : List ℕ) (at : ℕ) → T (question? a) → length (questionForm a) ≤ 65535
+      → drop at s ≡ questionForm a ++ r
       → questionAt s at ≡ entry a (at + length (questionForm a))
   question-here a r at v h e = question-back s r at a v e
 
 -- the lengths of the form's parts
 pub form-long : (m : Message)
-    → length (form m) ≡ 12 + length (each questionForm (m .questions)) + length (each recordForm (m .answers)) + length (each recordForm (m .authority)) + length (each recordForm (m .additional))
+    → length (form m) ≡ 12 + length (each questionForm (m .questions)) + length (each recordForm (m .answers)) + length
+    (each recordForm (m .authority)) + length (each recordForm (m .additional))
 unfolding form headerForm
 form-long m =
     let q = each questionForm (m .questions) in
@@ -293,10 +338,14 @@ module _ (m : Message) (v : Valid m) (h : length (form m) ≤ 65535) where
   -- the sections read
   form-sections : sectionsOf (form m) ≡ record {
     questions = record { entries = m .questions; end = reached (12 + length (each questionForm (m .questions))) };
-    answers = record { entries = m .answers; end = reached (12 + length (each questionForm (m .questions)) + length (each recordForm (m .answers))) };
+    answers = record {
+      entries = m .answers;
+      end = reached (12 + length (each questionForm (m .questions)) + length (each recordForm (m .answers)));
+    };
     authority = record {
       entries = m .authority;
-      end = reached (12 + length (each questionForm (m .questions)) + length (each recordForm (m .answers)) + length (each recordForm (m .authority)));
+      end = reached (12 + length (each questionForm (m .questions)) + length (each recordForm (m .answers)) + length
+          (each recordForm (m .authority)));
     };
     additional = record { entries = m .additional; end = reached (length (form m)) };
   }
@@ -308,18 +357,27 @@ module _ (m : Message) (v : Valid m) (h : length (form m) ≤ 65535) where
       let n = each recordForm (m .authority) in
       let r = each recordForm (m .additional) in
       let long = form-long m in
-      let c₁ : twoAt s 4 ≡ length (m .questions) = unfold form headerForm in two-back (length (m .questions)) (v .questions .0) in
-      let c₂ : twoAt s 6 ≡ length (m .answers) = unfold form headerForm in two-back (length (m .answers)) (v .answers .0) in
-      let c₃ : twoAt s 8 ≡ length (m .authority) = unfold form headerForm in two-back (length (m .authority)) (v .authority .0) in
-      let c₄ : twoAt s 10 ≡ length (m .additional) = unfold form headerForm in two-back (length (m .additional)) (v .additional .0) in
-      let e₁ : drop 12 s ≡ q ++ (a ++ (n ++ r)) = unfold form headerForm in append-assoc (q ++ a) n r ∙ append-assoc q a (n ++ r) in
+      let c₁ : twoAt s 4 ≡ length (m .questions) =
+      unfold form headerForm in two-back (length (m .questions)) (v .questions .0) in
+      let c₂ : twoAt s 6 ≡ length (m .answers) =
+      unfold form headerForm in two-back (length (m .answers)) (v .answers .0) in
+      let c₃ : twoAt s 8 ≡ length (m .authority) =
+      unfold form headerForm in two-back (length (m .authority)) (v .authority .0) in
+      let c₄ : twoAt s 10 ≡ length (m .additional) =
+      unfold form headerForm in two-back (length (m .additional)) (v .additional .0) in
+      let e₁ : drop 12 s ≡ q ++ (a ++ (n ++ r)) = unfold form headerForm in append-assoc (q ++ a) n r
+      ∙ append-assoc q a (n ++ r) in
       let e₂ = drop-past s q (a ++ (n ++ r)) 12 e₁ in
       let e₃ = drop-past s a (n ++ r) (12 + length q) e₂ in
       let e₄ = drop-past s n r (12 + length q + length a) e₃ in
-      let d₁ = section-back questionAt s question? questionForm (question-here s) (m .questions) (a ++ (n ++ r)) 12 (v .questions .1) (omega arith) e₁ in
-      let d₂ = section-back recordAt s record? recordForm (record-here s) (m .answers) (n ++ r) (12 + length q) (v .answers .1) (omega arith) e₂ in
-      let d₃ = section-back recordAt s record? recordForm (record-here s) (m .authority) r (12 + length q + length a) (v .authority .1) (omega arith) e₃ in
-      let d₄ = section-back recordAt s record? recordForm (record-here s) (m .additional) [] (12 + length q + length a + length n) (v .additional .1) (omega arith) (e₄ ∙ sym (append-nil r)) in
+      let d₁ = section-back questionAt s question? questionForm (question-here s) (m .questions) (a ++ (n ++ r)) 12
+      (v .questions .1) (omega arith) e₁ in
+      let d₂ = section-back recordAt s record? recordForm (record-here s) (m .answers) (n ++ r) (12 + length q)
+      (v .answers .1) (omega arith) e₂ in
+      let d₃ = section-back recordAt s record? recordForm (record-here s) (m .authority) r (12 + length q + length a)
+      (v .authority .1) (omega arith) e₃ in
+      let d₄ = section-back recordAt s record? recordForm (record-here s) (m .additional) []
+      (12 + length q + length a + length n) (v .additional .1) (omega arith) (e₄ ∙ sym (append-nil r)) in
       rw (c₁, c₂, c₃, c₄, d₁, d₂, d₃, d₄, long)
 
   -- the message read
@@ -363,7 +421,8 @@ pub refused≢accepted : {k at : ℕ} {m : Message} → refused k at ≡ accepte
 refused≢accepted e = subst Accepted (sym e) tt
 
 -- a refusal that is not the answer was not due
-cond-back : (b : Bool) (k at : ℕ) (w : Decoded) (m : Message) → cond b (refused k at) w ≡ accepted m → (b ≡ false) × (w ≡ accepted m)
+cond-back : (b : Bool) (k at : ℕ) (w : Decoded) (m : Message) → cond b (refused k at) w ≡ accepted m
+    → (b ≡ false) × (w ≡ accepted m)
 cond-back true k at w m e = absurd (refused≢accepted e)
 cond-back false k at w m e = (refl, e)
 
@@ -425,20 +484,28 @@ sections-valid s i o e =
     let w₂ = twoAt-word s o 6 in
     let w₃ = twoAt-word s o 8 in
     let w₄ = twoAt-word s o 10 in
-    let each : (at : ℕ) (a : Record) (next : ℕ) → recordAt s at ≡ entry a next → T (record? a) = λ at a next k. record-read s at a next o k .0 in
+    let each : (at : ℕ) (a : Record) (next : ℕ) → recordAt s at ≡ entry a next
+    → T (record? a) = λ at a next k. record-read s at a next o k .0 in
     record {
       header = header-octets s o;
-      questions = (omega (arith, n₁, w₁), section-valid questionAt s question? (λ at a next k. question-read s at a next o k .0) (twoAt s 4) 12);
+      questions = (
+        omega (arith, n₁, w₁),
+        section-valid questionAt s question? (λ at a next k. question-read s at a next o k .0) (twoAt s 4) 12,
+      );
       answers = (omega (arith, n₂, w₂), from-valid recordAt s record? each (twoAt s 6) (f₁ .end));
       authority = (omega (arith, n₃, w₃), from-valid recordAt s record? each (twoAt s 8) (f₂ .end));
       additional = (omega (arith, n₄, w₄), from-valid recordAt s record? each (twoAt s 10) (f₃ .end));
     }
 
 -- a message that is accepted is valid, and its form is within the limit
-pub decode-valid : (s : List ℕ) (m : Message) → Octets s → decode s ≡ accepted m → T (valid? m) × (length (form m) ≤ 65535)
+pub decode-valid : (s : List ℕ) (m : Message) → Octets s → decode s ≡ accepted m
+    → T (valid? m) × (length (form m) ≤ 65535)
 decode-valid s m o e =
-    let k = decode-back s m e in
-    (subst (λ (n : Message). T (valid? n)) (k .same) (valid-made (messageRead s) (sections-valid s (k .last) o (k .came))), k .limit)
+    let k = decode-back s m e in (
+      subst (λ (n : Message). T (valid? n)) (k .same)
+          (valid-made (messageRead s) (sections-valid s (k .last) o (k .came))),
+      k .limit,
+    )
 
 -- ---- the form of a valid message is octets
 -- the form of a valid question is octets
@@ -465,17 +532,20 @@ record-octets r h =
     All-append P (n ++ a ++ b ++ c ++ d) (r .rdata)
     (All-append P (n ++ a ++ b ++ c) d
     (All-append P (n ++ a ++ b) c
-    (All-append P (n ++ a) b (All-append P n a (N.form-octets (r .name) (k .0)) (two-octets (r .type))) (two-octets (r .class)))
+    (All-append P (n ++ a) b (All-append P n a (N.form-octets (r .name) (k .0)) (two-octets (r .type)))
+    (two-octets (r .class)))
     (four-octets (r .ttl)))
     (two-octets (length (r .rdata))))
     (k .4)
 
 -- forms of octets, one after another, are octets
-forms-octets : {A : Type 0} (f : A → List ℕ) (entry? : A → Bool) → ((a : A) → T (entry? a) → Octets (f a)) → (l : List A) → T (all entry? l) → Octets (each f l)
+forms-octets : {A : Type 0} (f : A → List ℕ) (entry? : A → Bool) → ((a : A) → T (entry? a) → Octets (f a))
+    → (l : List A) → T (all entry? l) → Octets (each f l)
 unfolding each
 forms-octets f entry? g [] h = tt
 forms-octets f entry? g (a ∷ l) h =
-    All-append (λ x. x < 256) (f a) (each f l) (g a (and-left (entry? a) (all entry? l) h)) (forms-octets f entry? g l (and-right (entry? a) (all entry? l) h))
+    All-append (λ x. x < 256) (f a) (each f l) (g a (and-left (entry? a) (all entry? l) h))
+    (forms-octets f entry? g l (and-right (entry? a) (all entry? l) h))
 
 -- the form of a header within its bounds is octets
 header-form-octets : (m : Message) → Bounds (m .header) → Octets (headerForm m)
@@ -503,7 +573,8 @@ form-octets m h =
     All-append P (headerForm m ++ q ++ a ++ n) r
     (All-append P (headerForm m ++ q ++ a) n
     (All-append P (headerForm m ++ q) a
-    (All-append P (headerForm m) q (header-form-octets m (v .header)) (forms-octets questionForm question? question-octets (m .questions) (v .questions .1)))
+    (All-append P (headerForm m) q (header-form-octets m (v .header))
+    (forms-octets questionForm question? question-octets (m .questions) (v .questions .1)))
     (forms-octets recordForm record? record-octets (m .answers) (v .answers .1)))
     (forms-octets recordForm record? record-octets (m .authority) (v .authority .1)))
     (forms-octets recordForm record? record-octets (m .additional) (v .additional .1))
@@ -514,5 +585,7 @@ pub own-form : (s : List ℕ) (m : Message) → Octets s → decode s ≡ accept
 own-form s m o e = let (v, h) = decode-valid s m o e in decode-form m v h
 
 -- two valid messages within the limit have one form exactly if they are equal
-pub forms-equal : (m n : Message) → T (valid? m) → T (valid? n) → length (form m) ≤ 65535 → length (form n) ≤ 65535 → (form m ≡ form n) ↔ (m ≡ n)
-forms-equal m n v w h k = (λ e. accepted-message (sym (decode-form m v h) ∙ ap decode e ∙ decode-form n w k), λ e. ap form e)
+pub forms-equal : (m n : Message) → T (valid? m) → T (valid? n) → length (form m) ≤ 65535 → length (form n) ≤ 65535
+    → (form m ≡ form n) ↔ (m ≡ n)
+forms-equal m n v w h k =
+    (λ e. accepted-message (sym (decode-form m v h) ∙ ap decode e ∙ decode-form n w k), λ e. ap form e)

@@ -47,7 +47,8 @@ unfolding valueOf
 valued u v e = ap (valueOf u) e
 
 -- what holds of every row of a table holds of what it has under a key
-lookup-all : {A : Type 0} (P : A → Type 0) (rows : List (ℕ × A)) (k : ℕ) (v : A) → All (λ (row : ℕ × A). P (row .1)) rows → lookup k rows ≡ some v → P v
+lookup-all : {A : Type 0} (P : A → Type 0) (rows : List (ℕ × A)) (k : ℕ) (v : A)
+    → All (λ (row : ℕ × A). P (row .1)) rows → lookup k rows ≡ some v → P v
 unfolding lookup
 lookup-all P [] k v h e = absurd (Option·none-ne-some v e)
 lookup-all P (row ∷ rows) k v h e = go (eqb (row .0) k) e (lookup-all P rows k v (h .1))
@@ -65,15 +66,18 @@ unfolding layouts
 layouts-small = omega arith
 
 -- RDATA's layout has at most three pieces; its octets are at most RDATA's own, or 530
-pub layout-small : (type size : ℕ) → (length (layoutIn type size) ≤ 3) × (breadth (layoutIn type size) ≤ size + 530) × (size ≤ 65535 → breadth (layoutIn type size) ≤ 65535)
+pub layout-small : (type size : ℕ) → (length (layoutIn type size) ≤ 3) × (breadth (layoutIn type size) ≤ size + 530)
+    × (size ≤ 65535 → breadth (layoutIn type size) ≤ 65535)
 unfolding layoutIn
 layout-small type size = go (eqb size 0) (layoutOf type) refl
   where
     go : (b : Bool) (o : Option (List Piece)) → layoutOf type ≡ o
-        → (length (cond b [] (layoutOr size o)) ≤ 3) × (breadth (cond b [] (layoutOr size o)) ≤ size + 530) × (size ≤ 65535 → breadth (cond b [] (layoutOr size o)) ≤ 65535)
+        → (length (cond b [] (layoutOr size o)) ≤ 3) × (breadth (cond b [] (layoutOr size o)) ≤ size + 530)
+        × (size ≤ 65535 → breadth (cond b [] (layoutOr size o)) ≤ 65535)
     go true o q = omega arith
     go false none q = omega arith
-    go false (some l) q = let k = lookup-all Small layouts type l layouts-small (unfold layoutOf in q) in (k .0, omega (arith, k .1), λ h. omega (arith, k .1))
+    go false (some l) q = let k = lookup-all Small layouts type l layouts-small (unfold layoutOf in q) in
+        (k .0, omega (arith, k .1), λ h. omega (arith, k .1))
 
 -- ---- the i-th piece
 -- the first, the second, the third, and none after them
@@ -90,13 +94,15 @@ pub nth-none : (i : ℕ) (a b c : PieceRead) → (i ≡ 0 → ⊥) → (i ≡ 1 
 nth-none i a b c h k l = rw (ne-eqb i 0 h, ne-eqb i 1 k, ne-eqb i 2 l)
 
 -- by the layout
-nth-layout : (i : ℕ) (l : List Piece) → length l ≤ 3 → nthOf i (pieceRead l) (pieceRead (drop 1 l)) (pieceRead (drop 2 l)) ≡ pieceRead (drop i l)
+nth-layout : (i : ℕ) (l : List Piece) → length l ≤ 3
+    → nthOf i (pieceRead l) (pieceRead (drop 1 l)) (pieceRead (drop 2 l)) ≡ pieceRead (drop i l)
 nth-layout zero l h = refl
 nth-layout (suc zero) l h = refl
 nth-layout (suc (suc zero)) l h = refl
 nth-layout (suc (suc (suc i))) l h =
     let e : length l ≤ suc (suc (suc i)) = omega arith in
-    sym (nth-none (suc (suc (suc i))) (pieceRead l) (pieceRead (drop 1 l)) (pieceRead (drop 2 l)) (λ x. omega arith) (λ x. omega arith) (λ x. omega arith))
+    sym (nth-none (suc (suc (suc i))) (pieceRead l) (pieceRead (drop 1 l)) (pieceRead (drop 2 l)) (λ x. omega arith)
+    (λ x. omega arith) (λ x. omega arith))
     ∙ ap pieceRead (sym (drop-of-length-le l e))
 
 -- RDATA of no octets has no piece
@@ -105,8 +111,10 @@ unfolding layoutIn
 piece-none kind size i e = rw e (ap pieceRead (sym (drop-of-length-le {A = Piece} [] {i = i} (omega arith))))
 
 -- a listed TYPE
-pub piece-listed : (l : List Piece) (kind size i : ℕ) {r : PieceRead} → layoutOf kind ≡ some l → length l ≤ 3 → (size ≡ 0 → ⊥)
-    → r ≡ nthOf i (pieceRead l) (pieceRead (drop 1 l)) (pieceRead (drop 2 l)) → r ≡ pieceRead (drop i (layoutIn kind size))
+pub piece-listed : (l : List Piece) (kind size i : ℕ) {r : PieceRead} → layoutOf kind ≡ some l → length l ≤ 3
+    → (size ≡ 0 → ⊥)
+    → r ≡ nthOf i (pieceRead l) (pieceRead (drop 1 l)) (pieceRead (drop 2 l))
+    → r ≡ pieceRead (drop i (layoutIn kind size))
 unfolding layoutIn
 piece-listed l kind size i q n h p = p ∙ nth-layout i l n ∙ rw (ne-eqb size 0 h, q)
 
@@ -142,7 +150,8 @@ module _ (s : List ℕ) (l : List Piece) (start end at : ℕ) {p : PieceRead} (e
     empty = headed l piece.End (sym q ∙ e)
 
     -- octets are left over
-    pub step-surplus : {r : Stepped} → at < end → r ≡ plainly (step.Misfit (Surplus at)) → r ≡ stepRead (stepAt l s start end at)
+    pub step-surplus : {r : Stepped} → at < end → r ≡ plainly (step.Misfit (Surplus at))
+        → r ≡ stepRead (stepAt l s start end at)
     unfolding stepAt stepRead
     step-surplus h k = k ∙ rw (empty, lt-ltb at end h)
 
@@ -156,13 +165,17 @@ module _ (s : List ℕ) (l : List Piece) (start end at : ℕ) {p : PieceRead} (e
     octets = headed l (piece.Fixed n) (sym q ∙ e)
 
     -- RDATA ends before them
-    pub step-short : {r : Stepped} → at ≤ end → end - at < n → r ≡ plainly (step.Misfit (Short start)) → r ≡ stepRead (stepAt l s start end at)
+    pub step-short : {r : Stepped} → at ≤ end → end - at < n → r ≡ plainly (step.Misfit (Short start))
+        → r ≡ stepRead (stepAt l s start end at)
     unfolding stepAt stepRead
-    step-short i h k = k ∙ sym (ap (λ (m : List Piece). stepRead (stepAt m s start end at)) octets ∙ rw (lt-ltb end (at + n) (omega arith)))
+    step-short i h k = k ∙ sym (ap (λ (m : List Piece). stepRead (stepAt m s start end at)) octets
+        ∙ rw (lt-ltb end (at + n) (omega arith)))
 
-    pub step-part : {r : Stepped} → at ≤ end → n ≤ end - at → r ≡ plainly (step.Part (at + n)) → r ≡ stepRead (stepAt l s start end at)
+    pub step-part : {r : Stepped} → at ≤ end → n ≤ end - at → r ≡ plainly (step.Part (at + n))
+        → r ≡ stepRead (stepAt l s start end at)
     unfolding stepAt stepRead
-    step-part i h k = k ∙ sym (ap (λ (m : List Piece). stepRead (stepAt m s start end at)) octets ∙ rw (le-ltb end (at + n) (omega arith)))
+    step-part i h k = k ∙ sym (ap (λ (m : List Piece). stepRead (stepAt m s start end at)) octets
+        ∙ rw (le-ltb end (at + n) (omega arith)))
 
   module _ (q : p ≡ piece.Name) {r : NameRead} (k : r ≡ nameRead (nameAt s (rdata start end) at)) where
     naming : l ≡ name ∷ drop 1 l
@@ -172,19 +185,23 @@ module _ (s : List ℕ) (l : List Piece) (start end at : ℕ) {p : PieceRead} (e
     unfolding stepAt
     at-name = ap (λ (m : List Piece). stepRead (stepAt m s start end at)) naming
 
-    pub step-faulty : {f : Fault} {x : Step} {t : Stepped} → r .answer ≡ Faulty f → x ≡ faultStep (r .answer) → t ≡ plainly x
+    pub step-faulty : {f : Fault} {x : Step} {t : Stepped} → r .answer ≡ Faulty f → x ≡ faultStep (r .answer)
+        → t ≡ plainly x
         → t ≡ stepRead (stepAt l s start end at)
     unfolding stepRead
     step-faulty h u v =
         let (fault, e, a, b) = name-faulty (nameAt s (rdata start end) at) k h in
         v ∙ ap plainly (u ∙ ap faultStep h ∙ ap step.Misfit a) ∙ sym (at-name ∙ ap (λ w. stepRead (nameStep w)) e)
 
-    pub step-name : {next size : ℕ} → r .answer ≡ Read next size → record { step = step.Name size next; octets = r .octets } ≡ stepRead (stepAt l s start end at)
+    pub step-name : {next size : ℕ} → r .answer ≡ Read next size
+        → record { step = step.Name size next; octets = r .octets } ≡ stepRead (stepAt l s start end at)
     unfolding stepRead
     step-name {next} {size} h = go (name-read (nameAt s (rdata start end) at) k h) ∙ sym at-name
       where
-        go : (x : (n : Name) × (nameAt s (rdata start end) at ≡ named n next) × (size ≡ length (nameForm n)) × (r .octets ≡ padded (nameForm n)))
-            → record { step = step.Name size next; octets = r .octets } ≡ stepRead (nameStep (nameAt s (rdata start end) at))
+        go : (x : (n : Name) × (nameAt s (rdata start end) at ≡ named n next) × (size ≡ length (nameForm n))
+            × (r .octets ≡ padded (nameForm n)))
+            → record { step = step.Name size next; octets = r .octets } ≡ stepRead
+            (nameStep (nameAt s (rdata start end) at))
         go (n, u, a, b) = rw (u, a, b)
 
 -- ---- the bounds of a step
@@ -193,18 +210,21 @@ module _ (s : List ℕ) (start end at i : ℕ) (h : end ≤ length s) (k : at �
   unfolding stepAt stepRead plainly
   step-within [] f = go (ltb at end) refl
     where
-      go : (b : Bool) → ltb at end ≡ b → Steps (stepRead (cond b (stops (record { kind = surplus; octet = at })) done) .step) i at end
+      go : (b : Bool) → ltb at end ≡ b
+          → Steps (stepRead (cond b (stops (record { kind = surplus; octet = at })) done) .step) i at end
       go true p = tt
       go false p = let q = ltb-false at end p in omega arith
   step-within (fixed n ∷ l) f = go (ltb end (at + n)) refl
     where
-      go : (b : Bool) → ltb end (at + n) ≡ b → Steps (stepRead (cond b (stops (record { kind = short; octet = start })) (part-to (at + n))) .step) i at end
+      go : (b : Bool) → ltb end (at + n) ≡ b
+          → Steps (stepRead (cond b (stops (record { kind = short; octet = start })) (part-to (at + n))) .step) i at end
       go true p = tt
       go false p = let q = ltb-false end (at + n) p in (f (omega arith), omega arith, omega arith)
   step-within (name ∷ l) f = go (nameAt s (rdata start end) at) refl
     where
       go : (w : walk.Named) → nameAt s (rdata start end) at ≡ w → Steps (stepRead (nameStep w) .step) i at end
-      go (named n next) p = let q = read-sized s (rdata start end) at at n next h p in (f (omega arith), q .2, q .3, q .1)
+      go (named n next) p = let q = read-sized s (rdata start end) at at n next h p in
+          (f (omega arith), q .2, q .3, q .1)
       go (faulty fault) p = tt
 
   -- a step of RDATA, with its bounds
@@ -217,10 +237,12 @@ module _ (s : List ℕ) (start end at i : ℕ) (h : end ≤ length s) (k : at �
       (e, subst (λ (x : Stepped). Steps (x .step) i at end) (sym e) (step-within (drop i l) (λ j. omega arith)))
 
 -- by the code's step
-pub part-within : (x : Step) {i at end next : ℕ} → Steps x i at end → x ≡ step.Part next → (i < 3) × (at ≤ next) × (next ≤ end)
+pub part-within : (x : Step) {i at end next : ℕ} → Steps x i at end → x ≡ step.Part next
+    → (i < 3) × (at ≤ next) × (next ≤ end)
 part-within x h e = rw e at h
 
-pub name-within : (x : Step) {i at end size next : ℕ} → Steps x i at end → x ≡ step.Name size next → (i < 3) × (at < next) × (next ≤ end) × (size ≤ 255)
+pub name-within : (x : Step) {i at end size next : ℕ} → Steps x i at end → x ≡ step.Name size next
+    → (i < 3) × (at < next) × (next ≤ end) × (size ≤ 255)
 name-within x h e = rw e at h
 
 pub done-within : (x : Step) (i : ℕ) {at end : ℕ} → Steps x i at end → x ≡ step.Done → at ≡ end

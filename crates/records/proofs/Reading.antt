@@ -82,34 +82,42 @@ module _ {s widths : List ℕ} {next place i : ℕ} (f : FieldsLoop s widths nex
   first h = rw (add-one, drop-cons widths i 0)
 
   -- it fits
-  pub fields-more : {width : ℕ} → i < length widths → width ≡ getD widths i 0 → place + width ≤ length s → FieldsLoop s widths next (place + width) (i + 1)
+  pub fields-more : {width : ℕ} → i < length widths → width ≡ getD widths i 0 → place + width ≤ length s
+      → FieldsLoop s widths next (place + width) (i + 1)
   unfolding firstCut
   fields-more {width} h e k =
       record {
         same = f .same ∙ rw (first h, ← e, le-leb (place + width) (length s) k);
-        long = let p : sum (drop i widths) ≡ width + sum (drop (i + 1) widths) = rw (first h, ← e) in omega (arith, f .long);
+        long = let p : sum (drop i widths) ≡ width + sum (drop (i + 1) widths) =
+            rw (first h, ← e) in omega (arith, f .long);
       }
 
   -- it does not
-  fields-cut : {width : ℕ} → i < length widths → width ≡ getD widths i 0 → length s < place + width → firstCut s next widths ≡ some place
+  fields-cut : {width : ℕ} → i < length widths → width ≡ getD widths i 0 → length s < place + width
+      → firstCut s next widths ≡ some place
   unfolding firstCut
   fields-cut {width} h e k = f .same ∙ rw (first h, ← e, lt-leb (place + width) (length s) k)
 
   -- there is no i-th field
   fields-end : length widths ≤ i → (firstCut s next widths ≡ none) × (place ≡ next + sum widths)
   unfolding firstCut
-  fields-end h = (f .same ∙ rw (drop-of-length-le widths h), let p : sum (drop i widths) ≡ 0 = rw (drop-of-length-le widths h) in omega (arith, f .long))
+  fields-end h = (
+    f .same ∙ rw (drop-of-length-le widths h),
+    let p : sum (drop i widths) ≡ 0 = rw (drop-of-length-le widths h) in omega (arith, f .long),
+  )
 
 -- ---- a name with fields after it
 -- where a name that is read ends
-name-ends : (s : List ℕ) (at : ℕ) {r : NameRead} → r ≡ nameRead (nameAt s message at) → {next size : ℕ} → r .answer ≡ Read next size
+name-ends : (s : List ℕ) (at : ℕ) {r : NameRead} → r ≡ nameRead (nameAt s message at) → {next size : ℕ}
+    → r .answer ≡ Read next size
     → (at < next) × (next ≤ length s) × (size ≤ 255)
 name-ends s at e {next} p =
     let (n, q, a, b) = name-read (nameAt s message at) e p in
     let k = read-sized s message at at n next (omega arith) q in
     (k .2, k .3, omega (arith, k .1))
 
-pub name-within : (s : List ℕ) (at : ℕ) {r : NameRead} → r ≡ nameRead (nameAt s message at) → {next size : ℕ} → r .answer ≡ Read next size → next ≤ length s
+pub name-within : (s : List ℕ) (at : ℕ) {r : NameRead} → r ≡ nameRead (nameAt s message at) → {next size : ℕ}
+    → r .answer ≡ Read next size → next ≤ length s
 name-within s at e p = name-ends s at e p .1
 
 module _ (s widths : List ℕ) (at : ℕ) {r : NameRead} (e : r ≡ nameRead (nameAt s message at)) where
@@ -120,69 +128,96 @@ module _ (s widths : List ℕ) (at : ℕ) {r : NameRead} (e : r ≡ nameRead (na
       e ∙ rw (q)
 
   module _ {next size : ℕ} (p : r .answer ≡ Read next size) where
-    pub begun-cut : {place i width : ℕ} → FieldsLoop s widths next place i → i < length widths → width ≡ getD widths i 0 → length s < place + width
+    pub begun-cut : {place i width : ℕ} → FieldsLoop s widths next place i → i < length widths → width ≡ getD widths i 0
+        → length s < place + width
         → record { answer = Faulty (Cut place); octets = replicate 255 0 } ≡ nameRead (begunAt s at widths)
     unfolding begunAt nameRead failed
     begun-cut f h k l =
         let (n, q, a, b) = name-read (nameAt s message at) e p in
         rw (q, fields-cut f h k l)
 
-    pub begun-whole : {place i : ℕ} → FieldsLoop s widths next place i → length widths ≤ i → r ≡ nameRead (begunAt s at widths)
+    pub begun-whole : {place i : ℕ} → FieldsLoop s widths next place i → length widths ≤ i
+        → r ≡ nameRead (begunAt s at widths)
     unfolding begunAt
     begun-whole f h =
         let (n, q, a, b) = name-read (nameAt s message at) e p in
         e ∙ rw (q, fields-end f h .0)
 
-    pub begun-fits : {place i : ℕ} → FieldsLoop s widths next place i → length widths ≤ i → place ≤ length s → Begins (r .answer) at widths (length s)
+    pub begun-fits : {place i : ℕ} → FieldsLoop s widths next place i → length widths ≤ i → place ≤ length s
+        → Begins (r .answer) at widths (length s)
     begun-fits f h k = let (a, b, c) = name-ends s at e p in rw p (a, omega (arith, fields-end f h .1), c)
 
 -- the bounds of a name that is read
-pub begins : (w : Named) (widths : List ℕ) {at end next size : ℕ} → Begins w at widths end → w ≡ Read next size → (at < next) × (next + sum widths ≤ end) × (size ≤ 255)
+pub begins : (w : Named) (widths : List ℕ) {at end next size : ℕ} → Begins w at widths end → w ≡ Read next size
+    → (at < next) × (next + sum widths ≤ end) × (size ≤ 255)
 begins w widths h e = rw e at h
 
 -- ---- questions
 module _ (s : List ℕ) (at : ℕ) {r : NameRead} (e : r ≡ nameRead (begunAt s at (2 ∷ 2 ∷ []))) where
-  pub question-faulty : {f : Fault} → r .answer ≡ Faulty f → record { answer = question.Faulty f; name = r .octets } ≡ questionRead (questionAt s at)
+  pub question-faulty : {f : Fault} → r .answer ≡ Faulty f
+      → record { answer = question.Faulty f; name = r .octets } ≡ questionRead (questionAt s at)
   unfolding questionRead
   question-faulty {f} p = go (name-faulty (begunAt s at (2 ∷ 2 ∷ [])) e p)
     where
-      go : (x : (fault : name.Fault) × (begunAt s at (2 ∷ 2 ∷ []) ≡ faulty fault) × (f ≡ faultOf fault) × (r .octets ≡ replicate 255 0))
+      go : (x : (fault : name.Fault) × (begunAt s at (2 ∷ 2 ∷ []) ≡ faulty fault) × (f ≡ faultOf fault)
+          × (r .octets ≡ replicate 255 0))
           → record { answer = question.Faulty f; name = r .octets } ≡ questionRead (questionAt s at)
       go (fault, q, a, b) = rw (question-begun s at, q, a, b)
 
-  pub question-whole : {next size kind class : ℕ} → r .answer ≡ Read next size → kind ≡ twoAt s next → class ≡ twoAt s (next + 2)
-      → record { answer = question.Read (record { size = size; kind = kind; class = class; next = next + 4 }); name = r .octets } ≡ questionRead (questionAt s at)
+  pub question-whole : {next size kind class : ℕ} → r .answer ≡ Read next size → kind ≡ twoAt s next
+      → class ≡ twoAt s (next + 2)
+      → record {
+        answer = question.Read (record { size = size; kind = kind; class = class; next = next + 4 });
+        name = r .octets;
+      } ≡ questionRead (questionAt s at)
   unfolding questionRead
   question-whole {next} {size} {kind} {class} p k c = go (name-read (begunAt s at (2 ∷ 2 ∷ [])) e p)
     where
-      go : (x : (n : Name) × (begunAt s at (2 ∷ 2 ∷ []) ≡ named n next) × (size ≡ length (nameForm n)) × (r .octets ≡ padded (nameForm n)))
-          → record { answer = question.Read (record { size = size; kind = kind; class = class; next = next + 4 }); name = r .octets } ≡ questionRead (questionAt s at)
+      go : (x : (n : Name) × (begunAt s at (2 ∷ 2 ∷ []) ≡ named n next) × (size ≡ length (nameForm n))
+          × (r .octets ≡ padded (nameForm n)))
+          → record {
+            answer = question.Read (record { size = size; kind = kind; class = class; next = next + 4 });
+            name = r .octets;
+          } ≡ questionRead (questionAt s at)
       go (n, q, a, b) = rw (question-begun s at, q, a, b, k, c)
 
 -- ---- heads of records
 module _ (s : List ℕ) (at : ℕ) {r : NameRead} (e : r ≡ nameRead (begunAt s at (2 ∷ 2 ∷ 4 ∷ 2 ∷ []))) where
-  pub head-faulty : {f : Fault} → r .answer ≡ Faulty f → record { answer = record′.Faulty f; name = r .octets } ≡ recordRead (recordHeadAt s at)
+  pub head-faulty : {f : Fault} → r .answer ≡ Faulty f
+      → record { answer = record′.Faulty f; name = r .octets } ≡ recordRead (recordHeadAt s at)
   unfolding recordRead recordHeadAt
   head-faulty {f} p = go (name-faulty (begunAt s at (2 ∷ 2 ∷ 4 ∷ 2 ∷ [])) e p)
     where
-      go : (x : (fault : name.Fault) × (begunAt s at (2 ∷ 2 ∷ 4 ∷ 2 ∷ []) ≡ faulty fault) × (f ≡ faultOf fault) × (r .octets ≡ replicate 255 0))
+      go : (x : (fault : name.Fault) × (begunAt s at (2 ∷ 2 ∷ 4 ∷ 2 ∷ []) ≡ faulty fault) × (f ≡ faultOf fault)
+          × (r .octets ≡ replicate 255 0))
           → record { answer = record′.Faulty f; name = r .octets } ≡ recordRead (recordHeadAt s at)
       go (fault, q, a, b) = rw (q, a, b)
 
   module _ {next size : ℕ} (p : r .answer ≡ Read next size) {rdlength : ℕ} (l : rdlength ≡ twoAt s (next + 8)) where
-    pub head-cut : length s < next + 10 + rdlength → record { answer = record′.Faulty (Cut (next + 10)); name = replicate 255 0 } ≡ recordRead (recordHeadAt s at)
+    pub head-cut : length s < next + 10 + rdlength
+        → record { answer = record′.Faulty (Cut (next + 10)); name = replicate 255 0 } ≡ recordRead (recordHeadAt s at)
     unfolding recordRead recordHeadAt
     head-cut h =
         let (n, q, a, b) = name-read (begunAt s at (2 ∷ 2 ∷ 4 ∷ 2 ∷ [])) e p in
         rw (q, ← l, lt-ltb (length s) (next + 10 + rdlength) h)
 
-    pub head-whole : {kind class ttl : ℕ} → next + 10 + rdlength ≤ length s → kind ≡ twoAt s next → class ≡ twoAt s (next + 2) → ttl ≡ fourAt s (next + 4)
-        → record { answer = record′.Read (record { size = size; kind = kind; class = class; ttl = ttl; rdata = next + 10; rdlength = rdlength }); name = r .octets }
+    pub head-whole : {kind class ttl : ℕ} → next + 10 + rdlength ≤ length s → kind ≡ twoAt s next
+        → class ≡ twoAt s (next + 2) → ttl ≡ fourAt s (next + 4)
+        → record {
+          answer = record′.Read
+              (record { size = size; kind = kind; class = class; ttl = ttl; rdata = next + 10; rdlength = rdlength });
+          name = r .octets;
+        }
         ≡ recordRead (recordHeadAt s at)
     unfolding recordRead recordHeadAt
     head-whole {kind} {class} {ttl} h k c t = go (name-read (begunAt s at (2 ∷ 2 ∷ 4 ∷ 2 ∷ [])) e p)
       where
-        go : (x : (n : Name) × (begunAt s at (2 ∷ 2 ∷ 4 ∷ 2 ∷ []) ≡ named n next) × (size ≡ length (nameForm n)) × (r .octets ≡ padded (nameForm n)))
-            → record { answer = record′.Read (record { size = size; kind = kind; class = class; ttl = ttl; rdata = next + 10; rdlength = rdlength }); name = r .octets }
+        go : (x : (n : Name) × (begunAt s at (2 ∷ 2 ∷ 4 ∷ 2 ∷ []) ≡ named n next) × (size ≡ length (nameForm n))
+            × (r .octets ≡ padded (nameForm n)))
+            → record {
+              answer = record′.Read
+                  (record { size = size; kind = kind; class = class; ttl = ttl; rdata = next + 10; rdlength = rdlength });
+              name = r .octets;
+            }
             ≡ recordRead (recordHeadAt s at)
         go (n, q, a, b) = rw (q, a, b, k, c, t, ← l, le-ltb (length s) (next + 10 + rdlength) h)

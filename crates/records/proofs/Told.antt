@@ -11,8 +11,10 @@ use Rattle.names.specs.Answer.{faultOf}
 use Rattle.records.specs.Layout.{Piece, pieces}
 use Rattle.records.specs.Message.{Question}
 use Rattle.records.specs.Read.{Entry, entry, bad, questionAt}
-use Rattle.records.specs.Parts.{HeadOf, recordHeadAt, StepOf, stepAt, follow, pieces-step, part-to, name-to, done, stops}
-use Rattle.records.specs.Answer.{padded, askedOf, questionRead, Asks, headRead, recordRead, Heads, plainly, stepRead}
+use Rattle.records.specs.Parts.{HeadOf, recordHeadAt, StepOf, stepAt, follow, pieces-step, part-to, name-to, done}
+use Rattle.records.specs.Parts.{stops}
+use Rattle.records.specs.Answer.{padded, askedOf, questionRead, Asks, headRead, recordRead, Heads, plainly}
+use Rattle.records.specs.Answer.{stepRead}
 use Rattle.records.specs.declared.Asked.{Asked}
 use Rattle.records.specs.declared.Head.{Head}
 use Rattle.records.specs.declared.Question.{Question as QuestionAnswer}
@@ -27,15 +29,18 @@ use Rattle.records.specs.declared.Stepped.{Stepped}
 
 -- ---- a form in the first octets of an array
 pub form-part : (l o : List ℕ) (size : ℕ) → size ≡ length l → o ≡ padded l → take (size - 0) o ≡ l
-form-part l o size e p = let z : size - 0 ≡ length l = omega arith in rw (z, p) (take-append-seam l (replicate (255 - length l) 0))
+form-part l o size e p = let z : size - 0 ≡ length l =
+    omega arith in rw (z, p) (take-append-seam l (replicate (255 - length l) 0))
 
 -- the array has room for it
 pub form-room : (l o : List ℕ) (size : ℕ) → size ≡ length l → o ≡ padded l → size ≤ length o
-form-room l o size e p = let q : length o ≡ length l + length (replicate {A = ℕ} (255 - length l) 0) = ap length p ∙ length-append l (replicate (255 - length l) 0) in omega arith
+form-room l o size e p = let q : length o ≡ length l + length (replicate {A = ℕ} (255 - length l) 0) =
+    ap length p ∙ length-append l (replicate (255 - length l) 0) in omega arith
 
 -- ---- questions
 abbrev Asking : QuestionAnswer → List ℕ → Entry Question → Type 0
-Asking (question.Read a) l e = (q : Question) × (next : ℕ) × (e ≡ entry q next) × (a ≡ askedOf q next) × (l ≡ padded (nameForm (q .name)))
+Asking (question.Read a) l e = (q : Question) × (next : ℕ) × (e ≡ entry q next) × (a ≡ askedOf q next)
+    × (l ≡ padded (nameForm (q .name)))
 Asking (question.Faulty f) l e = (fault : Fault) × (e ≡ bad fault) × (f ≡ faultOf fault)
 
 asking : (e : Entry Question) → Asking (questionRead e .answer) (questionRead e .name) e
@@ -43,12 +48,16 @@ unfolding questionRead
 asking (entry q next) = (q, next, refl, refl, refl)
 asking (bad fault) = (fault, refl, refl)
 
-pub asked : (e : Entry Question) {r : QuestionRead} {y : QuestionAnswer} → r ≡ questionRead e → r .answer ≡ y → Asking y (r .name) e
-asked e {r} {y} p q = subst (λ (z : QuestionAnswer). Asking z (r .name) e) q (subst (λ (z : QuestionRead). Asking (z .answer) (z .name) e) (sym p) (asking e))
+pub asked : (e : Entry Question) {r : QuestionRead} {y : QuestionAnswer} → r ≡ questionRead e → r .answer ≡ y
+    → Asking y (r .name) e
+asked e {r} {y} p q =
+    subst (λ (z : QuestionAnswer). Asking z (r .name) e) q
+    (subst (λ (z : QuestionRead). Asking (z .answer) (z .name) e) (sym p) (asking e))
 
 -- ---- records
 abbrev Heading : RecordAnswer → List ℕ → Entry HeadOf → Type 0
-Heading (record′.Read h) l e = (k : HeadOf) × (next : ℕ) × (e ≡ entry k next) × (h ≡ headRead k) × (l ≡ padded (nameForm (k .name)))
+Heading (record′.Read h) l e = (k : HeadOf) × (next : ℕ) × (e ≡ entry k next) × (h ≡ headRead k)
+    × (l ≡ padded (nameForm (k .name)))
 Heading (record′.Faulty f) l e = (fault : Fault) × (e ≡ bad fault) × (f ≡ faultOf fault)
 
 heading : (e : Entry HeadOf) → Heading (recordRead e .answer) (recordRead e .name) e
@@ -56,13 +65,17 @@ unfolding recordRead
 heading (entry k next) = (k, next, refl, refl, refl)
 heading (bad fault) = (fault, refl, refl)
 
-pub headed : (e : Entry HeadOf) {r : RecordRead} {y : RecordAnswer} → r ≡ recordRead e → r .answer ≡ y → Heading y (r .name) e
-headed e {r} {y} p q = subst (λ (z : RecordAnswer). Heading z (r .name) e) q (subst (λ (z : RecordRead). Heading (z .answer) (z .name) e) (sym p) (heading e))
+pub headed : (e : Entry HeadOf) {r : RecordRead} {y : RecordAnswer} → r ≡ recordRead e → r .answer ≡ y
+    → Heading y (r .name) e
+headed e {r} {y} p q =
+    subst (λ (z : RecordAnswer). Heading z (r .name) e) q
+    (subst (λ (z : RecordRead). Heading (z .answer) (z .name) e) (sym p) (heading e))
 
 -- ---- steps through RDATA
 abbrev Tells : Step → List ℕ → StepOf → Type 0
 Tells (step.Part next) o x = x ≡ part-to next
-Tells (step.Name size next) o x = (n : Name) × (x ≡ name-to n next) × (size ≡ length (nameForm n)) × (o ≡ padded (nameForm n))
+Tells (step.Name size next) o x = (n : Name) × (x ≡ name-to n next) × (size ≡ length (nameForm n))
+    × (o ≡ padded (nameForm n))
 Tells step.Done o x = x ≡ done
 Tells (step.Misfit f) o x = (fault : Fault) × (x ≡ stops fault) × (f ≡ faultOf fault)
 
@@ -74,10 +87,13 @@ told done = refl
 told (stops fault) = (fault, refl, refl)
 
 pub tells : (x : StepOf) {r : Stepped} {y : Step} → r ≡ stepRead x → r .step ≡ y → Tells y (r .octets) x
-tells x {r} {y} e q = subst (λ (z : Step). Tells z (r .octets) x) q (subst (λ (z : Stepped). Tells (z .step) (z .octets) x) (sym e) (told x))
+tells x {r} {y} e q =
+    subst (λ (z : Step). Tells z (r .octets) x) q
+    (subst (λ (z : Stepped). Tells (z .step) (z .octets) x) (sym e) (told x))
 
 -- the array has room for the name of a step
-pub name-room : (x : StepOf) {r : Stepped} {size n : ℕ} → r ≡ stepRead x → r .step ≡ step.Name size n → size ≤ length (r .octets)
+pub name-room : (x : StepOf) {r : Stepped} {size n : ℕ} → r ≡ stepRead x → r .step ≡ step.Name size n
+    → size ≤ length (r .octets)
 name-room x {r} {size} e q = let (m, u, y, z) = tells x e q in form-room (nameForm m) (r .octets) size y z
 
 -- the i-th piece of a layout, then those after it
@@ -85,7 +101,8 @@ pub pieces-next : (s : List ℕ) (l : List Piece) (start end at i : ℕ) {x : St
     → pieces true (drop i l) s start end at ≡ follow s at (λ (n : ℕ). pieces true (drop (i + 1) l) s start end n) x
 pieces-next s l start end at i q =
     pieces-step (drop i l) s start end at
-    ∙ ap (λ (m : List Piece). follow s at (pieces true m s start end) (stepAt (drop i l) s start end at)) (drop-drop 1 i l)
+    ∙ ap (λ (m : List Piece). follow s at (pieces true m s start end) (stepAt (drop i l) s start end at))
+    (drop-drop 1 i l)
     ∙ ap (follow s at (λ (n : ℕ). pieces true (drop (i + 1) l) s start end n)) q
 
 -- ---- the bounds of answers
@@ -94,16 +111,19 @@ pub asks-within : (x : QuestionAnswer) (at : ℕ) {end : ℕ} {a : Asked} → As
 asks-within x at {end} h e = subst (λ (y : QuestionAnswer). Asks y at end) e h
 
 pub heads-within : (x : RecordAnswer) (at : ℕ) {end : ℕ} {a : Head} → Heads x at end → x ≡ record′.Read a
-    → (a .size ≤ 255) × (a .kind < 65536) × (a .class < 65536) × (at + 11 ≤ a .rdata) × (a .rdata + a .rdlength ≤ end) × (a .rdlength < 65536)
+    → (a .size ≤ 255) × (a .kind < 65536) × (a .class < 65536) × (at + 11 ≤ a .rdata) × (a .rdata + a .rdlength ≤ end)
+    × (a .rdlength < 65536)
 heads-within x at {end} h e = subst (λ (y : RecordAnswer). Heads y at end) e h
 
 -- the arrays have room for the names
-pub question-room : (s : List ℕ) (at : ℕ) {r : QuestionRead} {a : Asked} → r ≡ questionRead (questionAt s at) → r .answer ≡ question.Read a → a .size ≤ length (r .name)
+pub question-room : (s : List ℕ) (at : ℕ) {r : QuestionRead} {a : Asked} → r ≡ questionRead (questionAt s at)
+    → r .answer ≡ question.Read a → a .size ≤ length (r .name)
 question-room s at {r} {a} e p =
     let (q, next, u, v, l) = asked (questionAt s at) e p in
     form-room (nameForm (q .name)) (r .name) (a .size) (ap (λ (c : Asked). c .size) v) l
 
-pub record-room : (s : List ℕ) (at : ℕ) {r : RecordRead} {a : Head} → r ≡ recordRead (recordHeadAt s at) → r .answer ≡ record′.Read a → a .size ≤ length (r .name)
+pub record-room : (s : List ℕ) (at : ℕ) {r : RecordRead} {a : Head} → r ≡ recordRead (recordHeadAt s at)
+    → r .answer ≡ record′.Read a → a .size ≤ length (r .name)
 record-room s at {r} {a} e p =
     let (k, next, u, v, l) = headed (recordHeadAt s at) e p in
     form-room (nameForm (k .name)) (r .name) (a .size) (ap (λ (c : Head). c .size) v) l

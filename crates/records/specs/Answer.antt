@@ -47,12 +47,20 @@ questionRead (entry q next) = record { answer = question.Read (askedOf q next); 
 questionRead (bad fault) = record { answer = question.Faulty (faultOf fault); name = replicate 255 0 }
 
 abbrev pub Asks : Question → ℕ → ℕ → Type 0
-Asks (question.Read a) at end = (a .size ≤ 255) × (a .kind < 65536) × (a .class < 65536) × (at + 5 ≤ a .next) × (a .next ≤ end)
+Asks (question.Read a) at end = (a .size ≤ 255) × (a .kind < 65536) × (a .class < 65536) × (at + 5 ≤ a .next)
+    × (a .next ≤ end)
 Asks (question.Faulty fault) at end = Unit {0}
 
 -- ---- records without what is inside RDATA
 abbrev pub headRead : HeadOf → Head
-headRead h = record { size = length (nameForm (h .name)); kind = h .type; class = h .class; ttl = h .ttl; rdata = h .rdata; rdlength = h .rdlength }
+headRead h = record {
+  size = length (nameForm (h .name));
+  kind = h .type;
+  class = h .class;
+  ttl = h .ttl;
+  rdata = h .rdata;
+  rdlength = h .rdlength;
+}
 
 unfoldable pub recordRead : Entry HeadOf → RecordRead
 recordRead (entry h next) = record { answer = record′.Read (headRead h); name = padded (nameForm (h .name)) }
@@ -60,7 +68,8 @@ recordRead (bad fault) = record { answer = record′.Faulty (faultOf fault); nam
 
 abbrev pub Heads : Record → ℕ → ℕ → Type 0
 Heads (record′.Read h) at end =
-    (h .size ≤ 255) × (h .kind < 65536) × (h .class < 65536) × (at + 11 ≤ h .rdata) × (h .rdata + h .rdlength ≤ end) × (h .rdlength < 65536)
+    (h .size ≤ 255) × (h .kind < 65536) × (h .class < 65536) × (at + 11 ≤ h .rdata) × (h .rdata + h .rdlength ≤ end)
+    × (h .rdlength < 65536)
 Heads (record′.Faulty fault) at end = Unit {0}
 
 -- ---- RDATA, piece by piece

@@ -14,7 +14,8 @@ pub data Piece : Type 0 where
   fixed : ℕ → Piece
   name : Piece
 
--- NS 2, MD 3, MF 4, CNAME 5, MB 7, MG 8, MR 9, PTR 12: one name; SOA 6: two names, 20 octets; MINFO 14: two names; MX 15: 2 octets, a name
+-- NS 2, MD 3, MF 4, CNAME 5, MB 7, MG 8, MR 9, PTR 12: one name; SOA 6: two names, 20 octets; MINFO 14: two names; MX
+-- 15: 2 octets, a name
 unfoldable pub layouts : List (ℕ × List Piece)
 layouts =
     (2, name ∷ [])
@@ -44,8 +45,9 @@ abbrev pub before : List ℕ → Laid → Laid
 before l (laid m) = laid (l ++ m)
 before l (misfit fault) = misfit fault
 
--- The pieces of a layout from an offset on, in RDATA from `start` to `end`: `pieces jumps layout s start end at`. RDATA must end
--- where the layout ends. `jumps` says whether names may have pointers: a name is read with run 0 where they may not.
+-- The pieces of a layout from an offset on, in RDATA from `start` to `end`: `pieces jumps layout s start end at`. RDATA
+-- must end where the layout ends. `jumps` says whether names may have pointers: a name is read with run 0 where they
+-- may not.
 unfoldable pub pieces : Bool → List Piece → List ℕ → ℕ → ℕ → ℕ → Laid
 pieces jumps [] s start end at = cond (ltb at end) (misfit (record { kind = surplus; octet = at })) (laid [])
 pieces jumps (fixed n ∷ layout) s start end at =
@@ -57,11 +59,15 @@ pieces jumps (name ∷ layout) s start end at =
       | faulty fault ↦ misfit fault
     ]
 
--- RDATA of `size` octets at an offset, `rdataAt jumps s type at size`: RDLENGTH 0 is accepted for every type; RDATA of a TYPE
--- that is not listed is carried octet for octet
+-- RDATA of `size` octets at an offset, `rdataAt jumps s type at size`: RDLENGTH 0 is accepted for every type; RDATA of
+-- a TYPE that is not listed is carried octet for octet
 unfoldable pub rdataAt : Bool → List ℕ → ℕ → ℕ → ℕ → Laid
 rdataAt jumps s type at size =
-    let read : Laid = elim (layoutOf type) [ none ↦ laid (part s at size) | some layout ↦ pieces jumps layout s at (at + size) at ] in
+    let read : Laid = elim (layoutOf type) [
+      | none ↦ laid (part s at size)
+      | some layout ↦ pieces jumps layout s at
+          (at + size) at
+    ] in
     cond (eqb size 0) (laid []) read
 
 abbrev pub laid? : Laid → Bool

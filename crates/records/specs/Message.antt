@@ -58,7 +58,8 @@ unfoldable pub questionForm : Question → List ℕ
 questionForm q = nameForm (q .name) ++ two (q .type) ++ two (q .class)
 
 unfoldable pub recordForm : Record → List ℕ
-recordForm r = nameForm (r .name) ++ two (r .type) ++ two (r .class) ++ four (r .ttl) ++ two (length (r .rdata)) ++ r .rdata
+recordForm r = nameForm (r .name) ++ two (r .type) ++ two (r .class) ++ four (r .ttl) ++ two (length (r .rdata))
+    ++ r .rdata
 
 unfoldable pub headerForm : Message → List ℕ
 headerForm m =
@@ -101,7 +102,8 @@ unfoldable pub question? : Question → Bool
 question? q = name? (q .name) && word? (q .type) && word? (q .class)
 
 unfoldable pub record? : Record → Bool
-record? r = name? (r .name) && word? (r .type) && word? (r .class) && long? (r .ttl) && all octet? (r .rdata) && rdataFits? (r .type) (r .rdata)
+record? r = name? (r .name) && word? (r .type) && word? (r .class) && long? (r .ttl) && all octet? (r .rdata)
+    && rdataFits? (r .type) (r .rdata)
 
 -- the number of entries of a section is a number of 16 bits
 abbrev pub section? : {A : Type 0} → (A → Bool) → List A → Bool

@@ -1,5 +1,5 @@
--- Questions, records and RDATA in the parts that the code reads: a name with the fields after it, a record without what is inside RDATA,
--- and RDATA piece by piece.
+-- Questions, records and RDATA in the parts that the code reads: a name with the fields after it, a record without what
+-- is inside RDATA, and RDATA piece by piece.
 use mathlib.Core.Path.{_≡_, refl, sym, ap, _∙_}
 use mathlib.Core.Bool.{Bool, true, false, cond}
 use mathlib.Core.Option.{Option, none, some}
@@ -15,7 +15,8 @@ use Rattle.names.specs.Walk.{part, message, rdata, Named, named, faulty, nameAt
 use Rattle.records.specs.Layout.{Piece, fixed, name, layoutOf, Laid, laid, misfit, before, pieces, rdataAt}
 use Rattle.records.specs.Message.{Record}
 use Rattle.records.specs.RecordLaws.{bad≢entry, entry-value, entry-next}
-use Rattle.records.specs.Read.{Entry, entry, bad, past-end, firstCut, with-name, with-fields, filled, questionAt, recordAt}
+use Rattle.records.specs.Read.{Entry, entry, bad, past-end, firstCut, with-name, with-fields, filled, questionAt}
+use Rattle.records.specs.Read.{recordAt}
 
 -- ---- a name and the fields after it
 -- the name, or the first field that runs past the message's end
@@ -36,13 +37,15 @@ module _ {A : Type 0} (s : List ℕ) (widths : List ℕ) (e : Name → ℕ → E
   fitted-fields n next none = refl
   fitted-fields n next (some at) = refl
 
-  begun-fields : (w : Named) → with-name w (λ n next. with-fields (firstCut s next widths) (e n next)) ≡ with-name (begun s widths w) e
+  begun-fields : (w : Named)
+      → with-name w (λ n next. with-fields (firstCut s next widths) (e n next)) ≡ with-name (begun s widths w) e
   begun-fields (named n next) = fitted-fields n next (firstCut s next widths)
   begun-fields (faulty fault) = refl
 
 -- a question is a name with TYPE and CLASS after it
 pub question-begun : (s : List ℕ) (at : ℕ)
-    → questionAt s at ≡ with-name (begunAt s at (2 ∷ 2 ∷ [])) λ n next. entry (record { name = n; type = twoAt s next; class = twoAt s (next + 2) }) (next + 4)
+    → questionAt s at ≡ with-name (begunAt s at (2 ∷ 2 ∷ [])) λ n next. entry
+    (record { name = n; type = twoAt s next; class = twoAt s (next + 2) }) (next + 4)
 unfolding questionAt begunAt
 question-begun s at = begun-fields s (2 ∷ 2 ∷ []) _ (nameAt s message at)
 
@@ -65,7 +68,14 @@ abbrev pub headed : List ℕ → Name → ℕ → Entry HeadOf
 headed s n next =
     let size = twoAt s (next + 8) in
     cond (ltb (length s) (next + 10 + size)) (past-end (next + 10))
-    (entry (record { name = n; type = twoAt s next; class = twoAt s (next + 2); ttl = fourAt s (next + 4); rdata = next + 10; rdlength = size }) (next + 10 + size))
+    (entry (record {
+      name = n;
+      type = twoAt s next;
+      class = twoAt s (next + 2);
+      ttl = fourAt s (next + 4);
+      rdata = next + 10;
+      rdlength = size;
+    }) (next + 10 + size))
 
 unfoldable pub recordHeadAt : List ℕ → ℕ → Entry HeadOf
 recordHeadAt s at = with-name (begunAt s at (2 ∷ 2 ∷ 4 ∷ 2 ∷ [])) (headed s)
@@ -84,7 +94,8 @@ layoutOr size (some layout) = layout
 unfoldable pub layoutIn : ℕ → ℕ → List Piece
 layoutIn type size = cond (eqb size 0) [] (layoutOr size (layoutOf type))
 
--- what is done at the first of the pieces: octets are carried as they are up to an offset, a name ends at an offset, the layout ends, or a fault
+-- what is done at the first of the pieces: octets are carried as they are up to an offset, a name ends at an offset,
+-- the layout ends, or a fault
 pub data StepOf : Type 0 where
   part-to : ℕ → StepOf
   name-to : Name → ℕ → StepOf
@@ -97,20 +108,28 @@ nameStep (faulty fault) = stops fault
 
 unfoldable pub stepAt : List Piece → List ℕ → ℕ → ℕ → ℕ → StepOf
 stepAt [] s start end at = cond (ltb at end) (stops (record { kind = surplus; octet = at })) done
-stepAt (fixed n ∷ layout) s start end at = cond (ltb end (at + n)) (stops (record { kind = short; octet = start })) (part-to (at + n))
+stepAt (fixed n ∷ layout) s start end at =
+    cond (ltb end (at + n)) (stops (record { kind = short; octet = start })) (part-to (at + n))
 stepAt (name ∷ layout) s start end at = nameStep (nameAt s (rdata start end) at)
 
 -- ---- a record by its head
 -- a record is its head, then its RDATA
 pub record-head : (s : List ℕ) (at : ℕ) → recordAt s at ≡ with-rdata s (recordHeadAt s at)
 unfolding recordAt recordHeadAt begunAt
-record-head s at = begun-fields s (2 ∷ 2 ∷ 4 ∷ 2 ∷ []) read (nameAt s message at) ∙ go (begun s (2 ∷ 2 ∷ 4 ∷ 2 ∷ []) (nameAt s message at))
+record-head s at = begun-fields s (2 ∷ 2 ∷ 4 ∷ 2 ∷ []) read (nameAt s message at)
+    ∙ go (begun s (2 ∷ 2 ∷ 4 ∷ 2 ∷ []) (nameAt s message at))
   where
     inside : Name → ℕ → Laid
     inside n next = rdataAt true s (twoAt s next) (next + 10) (twoAt s (next + 8))
 
     made : Name → ℕ → List ℕ → Record
-    made n next d = record { name = n; type = twoAt s next; class = twoAt s (next + 2); ttl = fourAt s (next + 4); rdata = d }
+    made n next d = record {
+      name = n;
+      type = twoAt s next;
+      class = twoAt s (next + 2);
+      ttl = fourAt s (next + 4);
+      rdata = d;
+    }
 
     read : Name → ℕ → Entry Record
     read n next = cond (ltb (length s) (next + 10 + twoAt s (next + 8))) (past-end (next + 10))
@@ -119,7 +138,14 @@ record-head s at = begun-fields s (2 ∷ 2 ∷ 4 ∷ 2 ∷ []) read (nameAt s me
     room : (b : Bool) (n : Name) (next : ℕ)
         → cond b (past-end (next + 10)) (filled (made n next) (next + 10 + twoAt s (next + 8)) (inside n next))
         ≡ with-rdata s (cond b (past-end (next + 10))
-        (entry (record { name = n; type = twoAt s next; class = twoAt s (next + 2); ttl = fourAt s (next + 4); rdata = next + 10; rdlength = twoAt s (next + 8) }) (next + 10 + twoAt s (next + 8))))
+        (entry (record {
+          name = n;
+          type = twoAt s next;
+          class = twoAt s (next + 2);
+          ttl = fourAt s (next + 4);
+          rdata = next + 10;
+          rdlength = twoAt s (next + 8);
+        }) (next + 10 + twoAt s (next + 8))))
     room true n next = refl
     room false n next = refl
 
@@ -128,11 +154,13 @@ record-head s at = begun-fields s (2 ∷ 2 ∷ 4 ∷ 2 ∷ []) read (nameAt s me
     go (faulty fault) = refl
 
 -- a record ends after its RDATA
-pub head-next : (s : List ℕ) (at : ℕ) (h : HeadOf) (next : ℕ) → recordHeadAt s at ≡ entry h next → next ≡ h .rdata + h .rdlength
+pub head-next : (s : List ℕ) (at : ℕ) (h : HeadOf) (next : ℕ) → recordHeadAt s at ≡ entry h next
+    → next ≡ h .rdata + h .rdlength
 unfolding recordHeadAt
 head-next s at h next e = go (begunAt s at (2 ∷ 2 ∷ 4 ∷ 2 ∷ [])) e
   where
-    room : (b : Bool) (i : ℕ) (k : HeadOf) → cond b (past-end i) (entry k (k .rdata + k .rdlength)) ≡ entry h next → next ≡ h .rdata + h .rdlength
+    room : (b : Bool) (i : ℕ) (k : HeadOf) → cond b (past-end i) (entry k (k .rdata + k .rdlength)) ≡ entry h next
+        → next ≡ h .rdata + h .rdlength
     room true i k q = absurd (bad≢entry q)
     room false i k q = sym (entry-next q) ∙ ap (λ (x : HeadOf). x .rdata + x .rdlength) (entry-value q)
 
@@ -141,13 +169,16 @@ head-next s at h next e = go (begunAt s at (2 ∷ 2 ∷ 4 ∷ 2 ∷ [])) e
     go (faulty fault) q = absurd (bad≢entry q)
 
 -- ---- RDATA by its pieces
-pub rdata-pieces : (jumps : Bool) (s : List ℕ) (type at size : ℕ) → rdataAt jumps s type at size ≡ pieces jumps (layoutIn type size) s at (at + size) at
+pub rdata-pieces : (jumps : Bool) (s : List ℕ) (type at size : ℕ)
+    → rdataAt jumps s type at size ≡ pieces jumps (layoutIn type size) s at (at + size) at
 unfolding rdataAt layoutIn pieces
 rdata-pieces jumps s type at size = go (eqb size 0) refl (layoutOf type) refl
   where
-    go : (b : Bool) → eqb size 0 ≡ b → (o : Option (List Piece)) → layoutOf type ≡ o → rdataAt jumps s type at size ≡ pieces jumps (layoutIn type size) s at (at + size) at
+    go : (b : Bool) → eqb size 0 ≡ b → (o : Option (List Piece)) → layoutOf type ≡ o
+        → rdataAt jumps s type at size ≡ pieces jumps (layoutIn type size) s at (at + size) at
     go true p o q = let z = eqb-true size 0 p in rw (p, le-ltb at (at + size) (omega arith))
-    go false p none q = rw (p, q, rdataAt, le-ltb (at + size) (at + size) (omega arith)) (ap laid (sym (append-nil (part s at size))))
+    go false p none q = rw (p, q, rdataAt, le-ltb (at + size) (at + size) (omega arith))
+        (ap laid (sym (append-nil (part s at size))))
     go false p (some layout) q = rw (p, q, rdataAt)
 
 -- what a step puts before what comes after it
@@ -159,7 +190,8 @@ follow s at later (stops fault) = misfit fault
 
 -- the pieces are the step at the first of them, then the pieces after it
 pub pieces-step : (layout : List Piece) (s : List ℕ) (start end at : ℕ)
-    → pieces true layout s start end at ≡ follow s at (pieces true (drop 1 layout) s start end) (stepAt layout s start end at)
+    → pieces true layout s start end at ≡ follow s at (pieces true (drop 1 layout) s start end)
+    (stepAt layout s start end at)
 unfolding pieces stepAt
 pieces-step [] s start end at = go (ltb at end)
   where
@@ -181,7 +213,8 @@ pieces-step (name ∷ layout) s start end at = go (nameAt s (rdata start end) at
     later : ℕ → Laid
     later = pieces true layout s start end
 
-    go : (w : Named) → (elim w as (λ x. Laid) [ named labels next ↦ before (nameForm labels) (later next) | faulty fault ↦ misfit fault ])
+    go : (w : Named) → (elim w as
+        (λ x. Laid) [ named labels next ↦ before (nameForm labels) (later next) | faulty fault ↦ misfit fault ])
         ≡ follow s at later (nameStep w)
     go (named n next) = refl
     go (faulty fault) = refl

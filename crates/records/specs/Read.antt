@@ -23,7 +23,8 @@ past-end at = bad (record { kind = cut; octet = at })
 -- fields of these widths from an offset on: the offset of the first that runs past the message's end, if one does
 unfoldable pub firstCut : List ℕ → ℕ → List ℕ → Option ℕ
 firstCut s at [] = none
-firstCut s at (width ∷ widths) = let later = firstCut s (at + width) widths in cond (leb (at + width) (length s)) later (some at)
+firstCut s at (width ∷ widths) = let later = firstCut s (at + width) widths in
+    cond (leb (at + width) (length s)) later (some at)
 
 -- a name, then what its fields, at the offset after it, give; a fault met in the name is at once the answer
 abbrev pub with-name : {A : Type 0} → Named → (Name → ℕ → Entry A) → Entry A
@@ -42,7 +43,8 @@ filled made next (misfit fault) = bad fault
 -- TYPE and CLASS after the name
 unfoldable pub questionAt : List ℕ → ℕ → Entry Question
 questionAt s at = with-name (nameAt s message at) λ name next.
-    with-fields (firstCut s next (2 ∷ 2 ∷ [])) (entry (record { name = name; type = twoAt s next; class = twoAt s (next + 2) }) (next + 4))
+    with-fields (firstCut s next (2 ∷ 2 ∷ []))
+    (entry (record { name = name; type = twoAt s next; class = twoAt s (next + 2) }) (next + 4))
 
 -- TYPE, CLASS, TTL, RDLENGTH after the name, then RDATA; RDATA past the message is found before anything inside it
 unfoldable pub recordAt : List ℕ → ℕ → Entry Record

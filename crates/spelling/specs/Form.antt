@@ -13,7 +13,8 @@ use Rattle.names.specs.Name.{Name, nameForm, name?}
 use Rattle.names.specs.NameLaws.{Sized, name-sized}
 use Rattle.spelling.specs.Spelling.{spelled, labelText, nameText}
 
--- the text from within a label on: the label's next `left` octets and its dot, the labels after it, and the quote at the root octet or where the octets end
+-- the text from within a label on: the label's next `left` octets and its dot, the labels after it, and the quote at
+-- the root octet or where the octets end
 unfoldable pub within : List ℕ → ℕ → List ℕ
 within [] left = 46 ∷ 34 ∷ []
 within (x ∷ s) zero = 46 ∷ cond (eqb x 0) (34 ∷ []) (within s x)
@@ -44,7 +45,14 @@ unfolding labels nameForm
 labels-text [] r h = refl
 labels-text (l ∷ n) r h =
     let some = h .0 in
-    rw (ne-eqb (length l) 0 (omega arith), within-label, append-assoc l (nameForm n) r, take-append-seam, drop-append-seam, labels-text n r (h .2))
+    rw (
+      ne-eqb (length l) 0 (omega arith),
+      within-label,
+      append-assoc l (nameForm n) r,
+      take-append-seam,
+      drop-append-seam,
+      labels-text n r (h .2),
+    )
 
 -- whatever follows them
 pub form-text-more : (n : Name) (r : List ℕ) → T (name? n) → formText (nameForm n ++ r) ≡ nameText n

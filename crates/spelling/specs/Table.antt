@@ -1,4 +1,5 @@
--- A table by its rule: the list of the rule's values. Where the table is written out, antt computes the two to the same list.
+-- A table by its rule: the list of the rule's values. Where the table is written out, antt computes the two to the same
+-- list.
 use mathlib.Core.Path.{_≡_, ap, _∙_}
 use mathlib.Core.List.{List, [], _∷_}
 use Prim.Native.Nat.{ℕ, zero, suc, _+_, _<_}

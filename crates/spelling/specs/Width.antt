@@ -29,7 +29,8 @@ unfolding spelled width
 spelled-width x = by (plain? x) (eqb x 46) (eqb x 92)
   where
     by : (a b c : Bool)
-        → length (cond a (x ∷ []) (cond b (ascii "\\\\.") (cond c (ascii "\\\\\\\\") (ascii "\\\\" ++ three-digits x)))) ≡ cond a 1 (cond b 3 (cond c 4 5))
+        → length (cond a (x ∷ []) (cond b (ascii "\\\\.") (cond c (ascii "\\\\\\\\") (ascii "\\\\" ++ three-digits x))))
+        ≡ cond a 1 (cond b 3 (cond c 4 5))
     by true b c = refl
     by false true c = refl
     by false false true = refl

@@ -1,4 +1,5 @@
--- Laws of the meaning of a document: a valid view's document means that view, and a document that means a view is that view's.
+-- Laws of the meaning of a document: a valid view's document means that view, and a document that means a view is that
+-- view's.
 use mathlib.Core.Path.{_≡_, refl, sym, _∙_, ap, ap₂, subst}
 use mathlib.Core.Bool.{Bool, true, false, not, _&&_, cond}
 use mathlib.Core.Option.{some}
@@ -23,8 +24,10 @@ use Rattle.json.specs.Text.{recordItem, item, documentOf}
 use Rattle.json.specs.View as view
 use Rattle.json.specs.Document as doc
 use Rattle.strict.specs.Members.{optionOf, member?}
-use Rattle.strict.specs.Grammar.{Label, Labels, SignedNumber, QuestionIn, RecordIn, MemberIn, EdnsIn, ItemIn, DocumentIn}
-use Rattle.strict.specs.Meaning.{unsigned, itemRecord, itemEdns, itemAdditional, documentView, ttl?, recordItem?, ednsItem?, item?, counts?, agrees?, meaning}
+use Rattle.strict.specs.Grammar.{Label, Labels, SignedNumber, QuestionIn, RecordIn, MemberIn, EdnsIn, ItemIn}
+use Rattle.strict.specs.Grammar.{DocumentIn}
+use Rattle.strict.specs.Meaning.{unsigned, itemRecord, itemEdns, itemAdditional, documentView, ttl?, recordItem?}
+use Rattle.strict.specs.Meaning.{ednsItem?, item?, counts?, agrees?, meaning}
 use Rattle.strict.proofs.OptionLaws.{one-some, member-option, option-member}
 
 -- ---- TTL
@@ -66,7 +69,8 @@ module _ {A B : Type 0} (f : A → B) (g : B → A) (I : B → Type 0) (p : A �
   all-back : ((b : B) → I b → T (q b) → f (g b) ≡ b) → (l : List B) → All I l → T (all q l) → map f (map g l) ≡ l
   all-back step [] i h = refl
   all-back step (b ∷ l) i h =
-      ap₂ (λ (x : B) (t : List B). x ∷ t) (step b (i .0) (and-left (q b) (all q l) h)) (all-back step l (i .1) (and-right (q b) (all q l) h))
+      ap₂ (λ (x : B) (t : List B). x ∷ t) (step b (i .0) (and-left (q b) (all q l) h))
+      (all-back step l (i .1) (and-right (q b) (all q l) h))
 
 -- ---- names
 -- a valid label has octets, and at least one
@@ -82,7 +86,11 @@ name-in n h = All-map label-in n (all→All label? n (name-labels n h))
 -- a valid question is in the grammar
 question-in : (q : Question) → T (question? q) → QuestionIn q
 unfolding question?
-question-in q h = (name-in (q .name) (and-left (name? (q .name)) (word? (q .type)) (and-left (name? (q .name) && word? (q .type)) (word? (q .class)) h)), (tt, tt))
+question-in q h = (
+  name-in (q .name)
+      (and-left (name? (q .name)) (word? (q .type)) (and-left (name? (q .name) && word? (q .type)) (word? (q .class)) h)),
+  (tt, tt),
+)
 
 -- ---- records
 -- the parts of a valid record that the grammar speaks of
@@ -99,7 +107,8 @@ record-parts r h =
     )
 
 -- a valid record's members are in the grammar and in range, and are read back
-record-forth : (r : Record) → T (record? r) → RecordIn (recordItem r) × T (recordItem? (recordItem r)) × (itemRecord (recordItem r) ≡ r)
+record-forth : (r : Record) → T (record? r)
+    → RecordIn (recordItem r) × T (recordItem? (recordItem r)) × (itemRecord (recordItem r) ≡ r)
 unfolding recordItem itemRecord
 record-forth r h =
     let parts = record-parts r h in
@@ -118,10 +127,12 @@ record-back r i h =
 
 -- ---- the EDNS element
 -- a valid option's member is in the grammar, and the option is its own
-option-forth : (o : EdnsOption) → T (option? o) → MemberIn (memberOf o) × T (member? (memberOf o)) × (optionOf (memberOf o) ≡ o)
+option-forth : (o : EdnsOption) → T (option? o)
+    → MemberIn (memberOf o) × T (member? (memberOf o)) × (optionOf (memberOf o) ≡ o)
 unfolding option?
 option-forth o h =
-    let w = member-option o (octets-in (o .value) (and-right (word? (o .code)) (all octet? (o .value)) h)) (ltb→lt (o .code) 65536 (and-left (word? (o .code)) (all octet? (o .value)) h)) in
+    let w = member-option o (octets-in (o .value) (and-right (word? (o .code)) (all octet? (o .value)) h))
+    (ltb→lt (o .code) 65536 (and-left (word? (o .code)) (all octet? (o .value)) h)) in
     (w .2, w .1, w .0)
 
 -- 0 and 1 have a spelling of FLAGS
@@ -132,7 +143,8 @@ bit-flags (suc zero) h = tt
 bit-flags (suc (suc n)) h = absurd (omega arith)
 
 -- the parts of a valid EDNS element that the grammar and its members speak of
-edns-parts : (rcode : ℕ) (e : Edns) → T (edns? rcode e) → T (bit? (e .dnssecOk)) × T (key? (fullRcode rcode (e .extended)) rcodes) × T (all option? (e .options))
+edns-parts : (rcode : ℕ) (e : Edns) → T (edns? rcode e)
+    → T (bit? (e .dnssecOk)) × T (key? (fullRcode rcode (e .extended)) rcodes) × T (all option? (e .options))
 unfolding edns?
 edns-parts rcode e h =
     let a = word? (e .size) && octet? (e .extended) in
@@ -155,7 +167,8 @@ edns-forth rcode k e h =
     let low : (e .extended * 16 + rcode) % 16 ≡ rcode = omega arith in
     let high : (e .extended * 16 + rcode) / 16 ≡ e .extended = omega arith in (
       (tt, (bit-flags (e .dnssecOk) (ltb→lt (e .dnssecOk) 2 (parts .0)), (parts .1, (tt, w .0)))),
-      both (eqb ((e .extended * 16 + rcode) % 16) rcode) (all member? (map memberOf (e .options))) (rw low (eqb-refl rcode)) (w .1),
+      both (eqb ((e .extended * 16 + rcode) % 16) rcode) (all member? (map memberOf (e .options)))
+          (rw low (eqb-refl rcode)) (w .1),
       λ i. record { size = e .size; extended = high i; dnssecOk = e .dnssecOk; options = w .2 i },
     )
 
@@ -165,10 +178,12 @@ unfolding ednsItem ednsItem? itemEdns
 edns-back rcode e i h =
     let a = eqb (e .version) 0 && eqb (e .rcode % 16) rcode in
     let t = and-left a (all member? (e .options)) h in
-    let zeroth : 0 ≡ e .version = sym (eqb→eq (e .version) 0 (and-left (eqb (e .version) 0) (eqb (e .rcode % 16) rcode) t)) in
+    let zeroth : 0 ≡ e .version =
+    sym (eqb→eq (e .version) 0 (and-left (eqb (e .version) 0) (eqb (e .rcode % 16) rcode) t)) in
     let low = eqb→eq (e .rcode % 16) rcode (and-right (eqb (e .version) 0) (eqb (e .rcode % 16) rcode) t) in
     let whole : e .rcode / 16 * 16 + rcode ≡ e .rcode = omega arith in
-    let w = all-back memberOf optionOf MemberIn option? member? (λ m i t. option-member m i t .0) (e .options) (i .1 .1 .1 .1) (and-right a (all member? (e .options)) h) in
+    let w = all-back memberOf optionOf MemberIn option? member? (λ m i t. option-member m i t .0) (e .options)
+    (i .1 .1 .1 .1) (and-right a (all member? (e .options)) h) in
     λ i. record { version = zeroth i; flags = e .flags; rcode = whole i; size = e .size; options = w i }
 
 -- ---- the additional section
@@ -190,12 +205,14 @@ item-back rcode (doc.edns e) i h = ap doc.edns (edns-back rcode e i h)
 header-rcode : (h : Header) → T (header? h) → h .rcode < 16
 unfolding header?
 header-rcode h t =
-    let bits = word? (h .id) && bit? (h .qr) && four-bits? (h .opcode) && bit? (h .aa) && bit? (h .tc) && bit? (h .rd) && bit? (h .ra) && bit? (h .ad) && bit? (h .cd) in
+    let bits = word? (h .id) && bit? (h .qr) && four-bits? (h .opcode) && bit? (h .aa) && bit? (h .tc) && bit? (h .rd)
+    && bit? (h .ra) && bit? (h .ad) && bit? (h .cd) in
     ltb→lt (h .rcode) 16 (and-right bits (four-bits? (h .rcode)) t)
 
 -- the parts of a valid view: the header's RCODE, and the entries of the sections
 view-parts : (v : View) → T (view? v)
-    → (v .header .rcode < 16) × T (all question? (v .questions)) × T (all record? (v .answers)) × T (all record? (v .authority)) × T (all (additional? (v .header .rcode)) (v .additional))
+    → (v .header .rcode < 16) × T (all question? (v .questions)) × T (all record? (v .answers))
+    × T (all record? (v .authority)) × T (all (additional? (v .header .rcode)) (v .additional))
 unfolding view? additionals?
 view-parts v h =
     let a = header? (v .header) in
@@ -208,21 +225,28 @@ view-parts v h =
     let j = and-left c (section? record? (v .authority)) i in
     let k = and-left b (section? record? (v .answers)) j in (
       header-rcode (v .header) (and-left a (section? question? (v .questions)) k),
-      and-right (word? (length (v .questions))) (all question? (v .questions)) (and-right a (section? question? (v .questions)) k),
-      and-right (word? (length (v .answers))) (all record? (v .answers)) (and-right b (section? record? (v .answers)) j),
-      and-right (word? (length (v .authority))) (all record? (v .authority)) (and-right c (section? record? (v .authority)) i),
+      and-right (word? (length (v .questions))) (all question? (v .questions))
+          (and-right a (section? question? (v .questions)) k),
+      and-right (word? (length (v .answers))) (all record? (v .answers))
+          (and-right b (section? record? (v .answers)) j),
+      and-right (word? (length (v .authority))) (all record? (v .authority))
+          (and-right c (section? record? (v .authority)) i),
       and-right (word? (length (v .additional))) (all (additional? rcode) (v .additional))
-          (and-left last (all (settled? rcode (count opt-entry? (v .additional))) (v .additional)) (and-right d (additionals? rcode (v .additional)) h)),
+          (and-left last (all (settled? rcode (count opt-entry? (v .additional))) (v .additional))
+          (and-right d (additionals? rcode (v .additional)) h)),
     )
 
 -- a section of records of a valid view
-records-forth : (l : List Record) → T (all record? l) → All RecordIn (map recordItem l) × T (all recordItem? (map recordItem l)) × (map itemRecord (map recordItem l) ≡ l)
+records-forth : (l : List Record) → T (all record? l)
+    → All RecordIn (map recordItem l) × T (all recordItem? (map recordItem l)) × (map itemRecord (map recordItem l) ≡ l)
 records-forth = all-forth recordItem itemRecord RecordIn record? recordItem? record-forth
 
 -- the additional section of a valid view
 items-forth : (rcode : ℕ) → rcode < 16 → (l : List Additional) → T (all (additional? rcode) l)
-    → All ItemIn (map (item rcode) l) × T (all (item? rcode) (map (item rcode) l)) × (map itemAdditional (map (item rcode) l) ≡ l)
-items-forth rcode k = all-forth (item rcode) itemAdditional ItemIn (additional? rcode) (item? rcode) (item-forth rcode k)
+    → All ItemIn (map (item rcode) l) × T (all (item? rcode) (map (item rcode) l))
+    × (map itemAdditional (map (item rcode) l) ≡ l)
+items-forth rcode k =
+    all-forth (item rcode) itemAdditional ItemIn (additional? rcode) (item? rcode) (item-forth rcode k)
 
 -- a valid view's document is in the grammar
 pub view-in : (v : View) → T (view? v) → DocumentIn (documentOf v)
@@ -230,7 +254,13 @@ unfolding documentOf
 view-in v h =
     let parts = view-parts v h in (
       All-map question-in (v .questions) (all→All question? (v .questions) (parts .1)),
-      (records-forth (v .answers) (parts .2) .0, (records-forth (v .authority) (parts .3) .0, items-forth (v .header .rcode) (parts .0) (v .additional) (parts .4) .0)),
+      (
+        records-forth (v .answers) (parts .2) .0,
+        (
+          records-forth (v .authority) (parts .3) .0,
+          items-forth (v .header .rcode) (parts .0) (v .additional) (parts .4) .0,
+        ),
+      ),
     )
 
 -- as many entries are written as there are
@@ -246,7 +276,8 @@ view-counts v =
     let n = eqb (length (v .authority)) (length (map recordItem (v .authority))) in
     let r = eqb (length (v .additional)) (length (map (item (v .header .rcode)) (v .additional))) in
     both (q && a && n) r
-    (both (q && a) n (both q a (eqb-refl (length (v .questions))) (same-count recordItem (v .answers))) (same-count recordItem (v .authority)))
+    (both (q && a) n (both q a (eqb-refl (length (v .questions))) (same-count recordItem (v .answers)))
+    (same-count recordItem (v .authority)))
     (same-count (item (v .header .rcode)) (v .additional))
 
 -- a valid view's document agrees with the view
@@ -258,7 +289,8 @@ view-agrees v h =
     let tests = counts? d && all recordItem? (d .answers) in
     both (tests && all recordItem? (d .authority)) (all (item? (d .header .rcode)) (d .additional))
     (both tests (all recordItem? (d .authority))
-    (both (counts? d) (all recordItem? (d .answers)) (view-counts v) (records-forth (v .answers) (parts .2) .1)) (records-forth (v .authority) (parts .3) .1))
+    (both (counts? d) (all recordItem? (d .answers)) (view-counts v) (records-forth (v .answers) (parts .2) .1))
+    (records-forth (v .authority) (parts .3) .1))
     (items-forth (v .header .rcode) (parts .0) (v .additional) (parts .4) .1)
 
 -- the view is read back
@@ -269,7 +301,13 @@ view-back v h =
     let answers = records-forth (v .answers) (parts .2) .2 in
     let authority = records-forth (v .authority) (parts .3) .2 in
     let additional = items-forth (v .header .rcode) (parts .0) (v .additional) (parts .4) .2 in
-    λ i. record { header = v .header; questions = v .questions; answers = answers i; authority = authority i; additional = additional i }
+    λ i. record {
+      header = v .header;
+      questions = v .questions;
+      answers = answers i;
+      authority = authority i;
+      additional = additional i;
+    }
 
 -- a valid view's document means that view
 pub meaning-document : (v : View) → T (view? v) → meaning (documentOf v) ≡ some v
@@ -277,7 +315,9 @@ unfolding meaning
 meaning-document v h =
     let d = documentOf v in
     let e = view-back v h in
-    rw (is-true (agrees? d && view? (documentView d)) (both (agrees? d) (view? (documentView d)) (view-agrees v h) (subst (λ (w : View). T (view? w)) (sym e) h))) (ap some e)
+    rw (is-true (agrees? d && view? (documentView d))
+    (both (agrees? d) (view? (documentView d)) (view-agrees v h) (subst (λ (w : View). T (view? w)) (sym e) h)))
+    (ap some e)
 
 -- a document that agrees with its view is that view's
 document-back : (d : Document) → DocumentIn d → T (agrees? d) → documentOf (documentView d) ≡ d
@@ -296,12 +336,15 @@ document-back d i h =
     let c″ = and-left (q && a) n c′ in
     let qd = sym (eqb→eq (d .qdcount) (length (d .questions)) (and-left q a c″)) in
     let an = length-map (d .answers) itemRecord ∙ sym (eqb→eq (d .ancount) (length (d .answers)) (and-right q a c″)) in
-    let ns = length-map (d .authority) itemRecord ∙ sym (eqb→eq (d .nscount) (length (d .authority)) (and-right (q && a) n c′)) in
-    let ar = length-map (d .additional) itemAdditional ∙ sym (eqb→eq (d .arcount) (length (d .additional)) (and-right (q && a && n) r c)) in
+    let ns = length-map (d .authority) itemRecord
+    ∙ sym (eqb→eq (d .nscount) (length (d .authority)) (and-right (q && a) n c′)) in
+    let ar = length-map (d .additional) itemAdditional
+    ∙ sym (eqb→eq (d .arcount) (length (d .additional)) (and-right (q && a && n) r c)) in
     let records = all-back recordItem itemRecord RecordIn record? recordItem? record-back in
     let answers = records (d .answers) (i .1 .0) (and-right (counts? d) (all recordItem? (d .answers)) u) in
     let authority = records (d .authority) (i .1 .1 .0) (and-right tests (all recordItem? (d .authority)) t) in
-    let additional = all-back (item rcode) itemAdditional ItemIn (additional? rcode) (item? rcode) (item-back rcode) (d .additional) (i .1 .1 .1)
+    let additional = all-back (item rcode) itemAdditional ItemIn (additional? rcode) (item? rcode) (item-back rcode)
+    (d .additional) (i .1 .1 .1)
     (and-right (tests && all recordItem? (d .authority)) (all (item? rcode) (d .additional)) h) in
     λ i. record {
       header = d .header;
@@ -318,5 +361,9 @@ document-back d i h =
 -- what a document means is valid, and the document is its
 pub document-meaning : (d : Document) (v : View) → DocumentIn d → meaning d ≡ some v → (documentOf v ≡ d) × T (view? v)
 unfolding meaning
-document-meaning d v i e = one-some (λ (w : View). (documentOf w ≡ d) × T (view? w)) (agrees? d && view? (documentView d)) (documentView d) v
-    (λ h. (document-back d i (and-left (agrees? d) (view? (documentView d)) h), and-right (agrees? d) (view? (documentView d)) h)) e
+document-meaning d v i e =
+    one-some (λ (w : View). (documentOf w ≡ d) × T (view? w)) (agrees? d && view? (documentView d)) (documentView d) v
+    (λ h. (
+      document-back d i (and-left (agrees? d) (view? (documentView d)) h),
+      and-right (agrees? d) (view? (documentView d)) h,
+    )) e

@@ -11,11 +11,15 @@ use lib.Dec.{T, leb, eqb, leb→le, ltb→lt, lt→ltb, eqb→eq, eqb-refl}
 use lib.ListN.{length, take, drop, replicate, length-append, length-drop, length-replicate, take-append-drop}
 use lib.Seq.{length-take-le, take-at, drop-at}
 use Rattle.octets.specs.Lists.{all, All, octet?, Octets, word?, lookup, key?, each, present?}
-use Rattle.octets.specs.Bits.{is-true, is-false, both, and-left, and-right, all→All, All→all, All-map, All-append, octets-in, octets-test}
-use Rattle.octets.specs.Fields.{two, four, twoAt, fourAt, two-back, four-at, two-octets, four-octets, twoAt-word, fourAt-long, two-same}
+use Rattle.octets.specs.Bits.{is-true, is-false, both, and-left, and-right, all→All, All→all, All-map, All-append}
+use Rattle.octets.specs.Bits.{octets-in, octets-test}
+use Rattle.octets.specs.Fields.{two, four, twoAt, fourAt, two-back, four-at, two-octets, four-octets, twoAt-word}
+use Rattle.octets.specs.Fields.{fourAt-long, two-same}
 use Rattle.names.specs.NameLaws.{drop-octets, take-octets}
 use Rattle.spelling.specs.Spelling.{printable?}
-use Rattle.options.specs.Options.{Form, hexObject, octetList, expiry, hexList, word, padding, wordList, extendedError, unlisted, Value, Row, rows, members, row-form, formOf, zero?, words, present, shape, EdnsOption, Member, known, other, chosen, memberOf}
+use Rattle.options.specs.Options.{Form, hexObject, octetList, expiry, hexList, word, padding, wordList, extendedError}
+use Rattle.options.specs.Options.{unlisted, Value, Row, rows, members, row-form, formOf, zero?, words, present, shape}
+use Rattle.options.specs.Options.{EdnsOption, Member, known, other, chosen, memberOf}
 use Rattle.strict.specs.Members.{octetsOf, value?, optionOf, member?}
 use Rattle.strict.specs.Grammar.{Number, StringIn, Maybe, ValueIn, MemberIn}
 use Rattle.edns.specs.Edns.{option?}
@@ -56,7 +60,8 @@ words-forms : (l : List ℕ) → length l % 2 ≡ 0 → Octets l → each two (w
 unfolding words each
 words-forms [] h o = refl
 words-forms (x ∷ []) h o = absurd (omega arith)
-words-forms (x ∷ y ∷ l) h o = ap₂ (λ (t u : List ℕ). t ++ u) (two-same x y (o .0) (o .1 .0)) (words-forms l (omega arith) (o .1 .1))
+words-forms (x ∷ y ∷ l) h o =
+    ap₂ (λ (t u : List ℕ). t ++ u) (two-same x y (o .0) (o .1 .0)) (words-forms l (omega arith) (o .1 .1))
 
 -- those numbers have 16 bits
 words-word : (l : List ℕ) → Octets l → T (all word? (words l))
@@ -73,7 +78,8 @@ forms-words : (l : List ℕ) → T (all word? l) → words (each two l) ≡ l
 unfolding words each
 forms-words [] h = refl
 forms-words (n ∷ l) h =
-    ap₂ (λ (k : ℕ) (t : List ℕ). k ∷ t) (two-back n (ltb→lt n 65536 (and-left (word? n) (all word? l) h))) (forms-words l (and-right (word? n) (all word? l) h))
+    ap₂ (λ (k : ℕ) (t : List ℕ). k ∷ t) (two-back n (ltb→lt n 65536 (and-left (word? n) (all word? l) h)))
+    (forms-words l (and-right (word? n) (all word? l) h))
 
 -- their octets are an even number
 forms-even : (l : List ℕ) → length (each two l) % 2 ≡ 0
@@ -97,7 +103,8 @@ numbers (n ∷ l) = (tt, numbers l)
 zeros-same : (l : List ℕ) → T (all zero? l) → replicate (length l) 0 ≡ l
 zeros-same [] h = refl
 zeros-same (x ∷ l) h =
-    ap₂ (λ (y : ℕ) (t : List ℕ). y ∷ t) (sym (eqb→eq x 0 (and-left (zero? x) (all zero? l) h))) (zeros-same l (and-right (zero? x) (all zero? l) h))
+    ap₂ (λ (y : ℕ) (t : List ℕ). y ∷ t) (sym (eqb→eq x 0 (and-left (zero? x) (all zero? l) h)))
+    (zeros-same l (and-right (zero? x) (all zero? l) h))
 
 -- n zeros are all zero
 zeros-zero : (n : ℕ) → T (all zero? (replicate n 0))
@@ -117,7 +124,8 @@ module _ {A : Type 0} (P : A → Type 0) where
   one-some false x v f e = absurd (Option·none-ne-some v e)
 
   -- the same with two tests
-  either-some : (b c : Bool) (x y v : A) → (T b → P x) → (T c → P y) → cond b (some x) (cond c (some y) none) ≡ some v → P v
+  either-some : (b c : Bool) (x y v : A) → (T b → P x) → (T c → P y) → cond b (some x) (cond c (some y) none) ≡ some v
+      → P v
   either-some true c x y v f g e = subst P (Option·some-injective x v e) (f tt)
   either-some false c x y v f g e = one-some c y v g e
 
@@ -131,7 +139,8 @@ empty [] h = refl
 empty (x ∷ l) h = absurd (omega arith)
 
 -- a cookie of two parts
-cookie-stands : (l : List ℕ) → Octets l → T (leb 16 (length l) && leb (length l) 40) → Stands hexList l (take 8 l ∷ drop 8 l ∷ [])
+cookie-stands : (l : List ℕ) → Octets l → T (leb 16 (length l) && leb (length l) 40)
+    → Stands hexList l (take 8 l ∷ drop 8 l ∷ [])
 unfolding value? octetsOf each
 cookie-stands l o h =
     let a = leb→le 16 (length l) (and-left (leb 16 (length l)) (leb (length l) 40) h) in
@@ -144,16 +153,23 @@ cookie-stands l o h =
     )
 
 -- padding: zeros go by their number
-padding-stands : (l : List ℕ) (b : Bool) → all zero? l ≡ b → Octets l → Stands padding l (length l, cond b none (some l))
+padding-stands : (l : List ℕ) (b : Bool) → all zero? l ≡ b → Octets l
+    → Stands padding l (length l, cond b none (some l))
 unfolding value? octetsOf
 padding-stands l true h o = (tt, (tt, tt), zeros-same l (subst T (sym h) tt))
-padding-stands l false h o = (both (eqb (length l) (length l)) (not (all zero? l)) (eqb-refl (length l)) (subst (λ b. T (not b)) (sym h) tt), (tt, o), refl)
+padding-stands l false h o = (
+  both (eqb (length l) (length l)) (not (all zero? l)) (eqb-refl (length l)) (subst (λ b. T (not b)) (sym h) tt),
+  (tt, o),
+  refl,
+)
 
 -- an extended error: a text that is there is not empty
-error-stands : (l : List ℕ) → Octets l → T (leb 2 (length l) && all printable? (drop 2 l)) → Stands extendedError l (twoAt l 0, present (drop 2 l))
+error-stands : (l : List ℕ) → Octets l → T (leb 2 (length l) && all printable? (drop 2 l))
+    → Stands extendedError l (twoAt l 0, present (drop 2 l))
 unfolding value? octetsOf
 error-stands l o h =
-    go (drop 2 l) (and-right (leb 2 (length l)) (all printable? (drop 2 l)) h) (front-two l (leb→le 2 (length l) (and-left (leb 2 (length l)) (all printable? (drop 2 l)) h)) o)
+    go (drop 2 l) (and-right (leb 2 (length l)) (all printable? (drop 2 l)) h)
+    (front-two l (leb→le 2 (length l) (and-left (leb 2 (length l)) (all printable? (drop 2 l)) h)) o)
   where
     range : T (word? (twoAt l 0))
     range = lt→ltb (twoAt l 0) 65536 (twoAt-word l o 0)
@@ -166,18 +182,23 @@ error-stands l o h =
 pub shape-value : (form : Form) (l : List ℕ) (v : Value form) → Octets l → shape form l ≡ some v → Stands form l v
 unfolding shape value? octetsOf each
 shape-value hexObject l v o e = subst (Stands hexObject l) (Option·some-injective l v e) (tt, o, refl)
-shape-value octetList l v o e = subst (Stands octetList l) (Option·some-injective l v e) (octets-test l o, numbers l, refl)
-shape-value expiry l v o e = either-some (Stands expiry l) (eqb (length l) 0) (eqb (length l) 4) none (some (fourAt l 0)) v
+shape-value octetList l v o e =
+    subst (Stands octetList l) (Option·some-injective l v e) (octets-test l o, numbers l, refl)
+shape-value expiry l v o e =
+    either-some (Stands expiry l) (eqb (length l) 0) (eqb (length l) 4) none (some (fourAt l 0)) v
     (λ h. (tt, tt, empty l (eqb→eq (length l) 0 h)))
     (λ h. (lt→ltb (fourAt l 0) 4294967296 (fourAt-long l o 0), tt, four-whole l (eqb→eq (length l) 4 h) o)) e
-shape-value hexList l v o e = either-some (Stands hexList l) (eqb (length l) 8) (leb 16 (length l) && leb (length l) 40) (l ∷ []) (take 8 l ∷ drop 8 l ∷ []) v
+shape-value hexList l v o e = either-some (Stands hexList l) (eqb (length l) 8) (leb 16 (length l) && leb (length l) 40)
+    (l ∷ []) (take 8 l ∷ drop 8 l ∷ []) v
     (λ h. (h, (o, tt), append-nil l)) (λ h. cookie-stands l o h) e
 shape-value word l v o e = one-some (Stands word l) (eqb (length l) 2) (twoAt l 0) v
     (λ h. (lt→ltb (twoAt l 0) 65536 (twoAt-word l o 0), tt, two-whole l (eqb→eq (length l) 2 h) o)) e
-shape-value padding l v o e = subst (Stands padding l) (Option·some-injective _ v e) (padding-stands l (all zero? l) refl o)
+shape-value padding l v o e =
+    subst (Stands padding l) (Option·some-injective _ v e) (padding-stands l (all zero? l) refl o)
 shape-value wordList l v o e = one-some (Stands wordList l) (eqb (length l % 2) 0) (words l) v
     (λ h. (words-word l o, numbers (words l), words-forms l (eqb→eq (length l % 2) 0 h) o)) e
-shape-value extendedError l v o e = one-some (Stands extendedError l) (leb 2 (length l) && all printable? (drop 2 l)) (twoAt l 0, present (drop 2 l)) v
+shape-value extendedError l v o e =
+    one-some (Stands extendedError l) (leb 2 (length l) && all printable? (drop 2 l)) (twoAt l 0, present (drop 2 l)) v
     (λ h. error-stands l o h) e
 shape-value unlisted l v o e = absurd (Option·none-ne-some v e)
 
@@ -190,7 +211,11 @@ ShapedBy form v = (shape form (octetsOf form v) ≡ some v) × Octets (octetsOf 
 expiry-shaped : (n : Option ℕ) → T (value? expiry n) → ShapedBy expiry n
 unfolding shape value? octetsOf
 expiry-shaped none h = (refl, tt)
-expiry-shaped (some n) h = (let k = ltb→lt n 4294967296 h in let e : fourAt (four n) 0 ≡ n = four-at (four n) [] 0 n k refl in ap (λ (m : ℕ). some (some m)) e, four-octets n)
+expiry-shaped (some n) h = (
+  let k = ltb→lt n 4294967296 h in let e : fourAt (four n) 0 ≡ n = four-at (four n) [] 0 n k refl in
+      ap (λ (m : ℕ). some (some m)) e,
+  four-octets n,
+)
 
 -- a cookie of one part or of two
 cookie-shaped : (l : List (List ℕ)) → T (value? hexList l) → All Octets l → ShapedBy hexList l
@@ -199,12 +224,20 @@ cookie-shaped [] h o = absurd h
 cookie-shaped (client ∷ []) h o = rw (append-nil client, is-true (eqb (length client) 8) h) (refl, o .0)
 cookie-shaped (client ∷ server ∷ []) h o =
     let t = eqb (length client) 8 && leb 8 (length server) in
-    let a = eqb→eq (length client) 8 (and-left (eqb (length client) 8) (leb 8 (length server)) (and-left t (leb (length server) 32) h)) in
-    let b = leb→le 8 (length server) (and-right (eqb (length client) 8) (leb 8 (length server)) (and-left t (leb (length server) 32) h)) in
+    let a = eqb→eq (length client) 8
+    (and-left (eqb (length client) 8) (leb 8 (length server)) (and-left t (leb (length server) 32) h)) in
+    let b = leb→le 8 (length server)
+    (and-right (eqb (length client) 8) (leb 8 (length server)) (and-left t (leb (length server) 32) h)) in
     let c = leb→le (length server) 32 (and-right t (leb (length server) 32) h) in
     let d = length-append client server in
     rw (append-nil server) (
-      rw (ne-eqb (length (client ++ server)) 8 (λ e. omega arith), le-leb 16 (length (client ++ server)) (omega arith), le-leb (length (client ++ server)) 40 (omega arith), take-at client server 8 a, drop-at client server 8 a) refl,
+      rw (
+        ne-eqb (length (client ++ server)) 8 (λ e. omega arith),
+        le-leb 16 (length (client ++ server)) (omega arith),
+        le-leb (length (client ++ server)) 40 (omega arith),
+        take-at client server 8 a,
+        drop-at client server 8 a,
+      ) refl,
       All-append (λ x. x < 256) client server (o .0) (o .1 .0),
     )
 cookie-shaped (client ∷ server ∷ more ∷ l) h o = absurd h
@@ -212,9 +245,15 @@ cookie-shaped (client ∷ server ∷ more ∷ l) h o = absurd h
 -- padding: zeros, or octets that are not all zero
 padding-shaped : (n : ℕ) (x : Option (List ℕ)) → T (value? padding (n, x)) → Maybe Octets x → ShapedBy padding (n, x)
 unfolding shape value? octetsOf
-padding-shaped n none h o = (rw (is-true (all zero? (replicate n 0)) (zeros-zero n), length-replicate {A = ℕ} n 0) refl, zeros-octets n)
-padding-shaped n (some hex) h o =
-    (rw (is-false (all zero? hex) (and-right (eqb (length hex) n) (not (all zero? hex)) h), eqb→eq (length hex) n (and-left (eqb (length hex) n) (not (all zero? hex)) h)) refl, o)
+padding-shaped n none h o =
+    (rw (is-true (all zero? (replicate n 0)) (zeros-zero n), length-replicate {A = ℕ} n 0) refl, zeros-octets n)
+padding-shaped n (some hex) h o = (
+  rw (
+    is-false (all zero? hex) (and-right (eqb (length hex) n) (not (all zero? hex)) h),
+    eqb→eq (length hex) n (and-left (eqb (length hex) n) (not (all zero? hex)) h),
+  ) refl,
+  o,
+)
 
 -- printable octets are octets
 printable-octets : (l : List ℕ) → StringIn l → Octets l
@@ -222,13 +261,18 @@ unfolding printable?
 printable-octets l h = All-map (λ x t. let k = leb→le x 126 (and-right (leb 32 x) (leb x 126) t) in omega arith) l h
 
 -- an extended error, with its text or without
-error-shaped : (n : ℕ) (x : Option (List ℕ)) → T (value? extendedError (n, x)) → Maybe StringIn x → ShapedBy extendedError (n, x)
+error-shaped : (n : ℕ) (x : Option (List ℕ)) → T (value? extendedError (n, x)) → Maybe StringIn x
+    → ShapedBy extendedError (n, x)
 unfolding shape value? octetsOf
-error-shaped n none h o = (ap (λ (m : ℕ). some (m, none)) (two-back n (ltb→lt n 65536 (and-left (word? n) true h))), two-octets n)
+error-shaped n none h o =
+    (ap (λ (m : ℕ). some (m, none)) (two-back n (ltb→lt n 65536 (and-left (word? n) true h))), two-octets n)
 error-shaped n (some []) h o = absurd (and-right (word? n) false h)
 error-shaped n (some (x ∷ l)) h o =
     let e = two-back n (ltb→lt n 65536 (and-left (word? n) true h)) in (
-      rw (le-leb 2 (suc (suc (suc (length l)))) (omega arith), is-true (all printable? (x ∷ l)) (All→all printable? (x ∷ l) o)) (ap (λ (m : ℕ). some (m, some (x ∷ l))) e),
+      rw (
+        le-leb 2 (suc (suc (suc (length l)))) (omega arith),
+        is-true (all printable? (x ∷ l)) (All→all printable? (x ∷ l) o),
+      ) (ap (λ (m : ℕ). some (m, some (x ∷ l))) e),
       All-append (λ x. x < 256) (two n) (x ∷ l) (two-octets n) (printable-octets (x ∷ l) o),
     )
 
@@ -241,20 +285,24 @@ value-shape expiry v h i = expiry-shaped v h
 value-shape hexList v h i = cookie-shaped v h i
 value-shape word v h i = (ap some (two-back v (ltb→lt v 65536 h)), two-octets v)
 value-shape padding v h i = padding-shaped (v .0) (v .1) h (i .1)
-value-shape wordList v h i = (rw (eq-eqb (length (each two v) % 2) 0 (forms-even v), forms-words v h) refl, forms-octets v)
+value-shape wordList v h i =
+    (rw (eq-eqb (length (each two v) % 2) 0 (forms-even v), forms-words v h) refl, forms-octets v)
 value-shape extendedError v h i = error-shaped (v .0) (v .1) h (i .1)
 value-shape unlisted v h i = absurd h
 
 -- ---- codes
 -- what a test finds of all keys of a table holds of a key
-pub key-holds : (p : ℕ → Bool) (rows : List (ℕ × String)) (n : ℕ) → T (all (λ (row : ℕ × String). p (row .0)) rows) → T (key? n rows) → T (p n)
+pub key-holds : (p : ℕ → Bool) (rows : List (ℕ × String)) (n : ℕ) → T (all (λ (row : ℕ × String). p (row .0)) rows)
+    → T (key? n rows) → T (p n)
 unfolding key?
 key-holds p [] n h k = absurd k
 key-holds p (row ∷ rows) n h k =
-    go (eqb (row .0) n) refl k (λ k. key-holds p rows n (and-right (p (row .0)) (all (λ (row : ℕ × String). p (row .0)) rows) h) k)
+    go (eqb (row .0) n) refl k
+    (λ k. key-holds p rows n (and-right (p (row .0)) (all (λ (row : ℕ × String). p (row .0)) rows) h) k)
   where
     go : (b : Bool) → eqb (row .0) n ≡ b → T (cond b true (key? n rows)) → (T (key? n rows) → T (p n)) → T (p n)
-    go true e k f = subst (λ (m : ℕ). T (p m)) (eqb-true (row .0) n e) (and-left (p (row .0)) (all (λ (row : ℕ × String). p (row .0)) rows) h)
+    go true e k f = subst (λ (m : ℕ). T (p m)) (eqb-true (row .0) n e)
+        (and-left (p (row .0)) (all (λ (row : ℕ × String). p (row .0)) rows) h)
     go false e k f = f k
 
 -- the form of a row
@@ -270,7 +318,8 @@ Listed extendedError = Unit {0}
 Listed unlisted = ⊥
 
 -- a code with a row in a table is a key of the table of members
-rows-key : (table : List (ℕ × Row)) (code : ℕ) → Listed (row-form (lookup code table)) → T (key? code (map (λ (row : ℕ × Row). (row .0, row .1 .member)) table))
+rows-key : (table : List (ℕ × Row)) (code : ℕ) → Listed (row-form (lookup code table))
+    → T (key? code (map (λ (row : ℕ × Row). (row .0, row .1 .member)) table))
 unfolding lookup key?
 rows-key [] code h = absurd h
 rows-key (row ∷ table) code h = go (eqb (row .0) code) h (λ h. rows-key table code h)
@@ -278,7 +327,8 @@ rows-key (row ∷ table) code h = go (eqb (row .0) code) h (λ h. rows-key table
     rest : List (ℕ × String)
     rest = map (λ (row : ℕ × Row). (row .0, row .1 .member)) table
 
-    go : (b : Bool) → Listed (row-form (cond b (some (row .1)) (lookup code table))) → (Listed (row-form (lookup code table)) → T (key? code rest))
+    go : (b : Bool) → Listed (row-form (cond b (some (row .1)) (lookup code table)))
+        → (Listed (row-form (lookup code table)) → T (key? code rest))
         → T (cond b true (key? code rest))
     go true h f = tt
     go false h f = f h
@@ -308,7 +358,8 @@ shape-listed unlisted l v e = Option·none-ne-some v e
 
 -- ---- options and members
 -- the option of an option's member is that option
-pub member-option : (o : EdnsOption) → Octets (o .value) → o .code < 65536 → (optionOf (memberOf o) ≡ o) × T (member? (memberOf o)) × MemberIn (memberOf o)
+pub member-option : (o : EdnsOption) → Octets (o .value) → o .code < 65536
+    → (optionOf (memberOf o) ≡ o) × T (member? (memberOf o)) × MemberIn (memberOf o)
 unfolding memberOf optionOf member?
 member-option o i h = go (shape (formOf (o .code)) (o .value)) refl
   where
@@ -317,10 +368,18 @@ member-option o i h = go (shape (formOf (o .code)) (o .value)) refl
 
     go : (x : Option (Value (formOf (o .code)))) → shape (formOf (o .code)) (o .value) ≡ x
         → (optionOf (chosen-of x) ≡ o) × T (member? (chosen-of x)) × MemberIn (chosen-of x)
-    go none e = (refl, both (word? (o .code)) (not (present? (shape (formOf (o .code)) (o .value)))) (lt→ltb (o .code) 65536 h) (rw e tt), (tt, i))
+    go none e = (
+      refl,
+      both (word? (o .code)) (not (present? (shape (formOf (o .code)) (o .value))))
+          (lt→ltb (o .code) 65536 h) (rw e tt),
+      (tt, i),
+    )
     go (some v) e =
-        let s = shape-value (formOf (o .code)) (o .value) v i e in
-        (λ i. record { code = o .code; value = s .2 i }, s .0, (listed-key (o .code) (shape-listed (formOf (o .code)) (o .value) v e), s .1))
+        let s = shape-value (formOf (o .code)) (o .value) v i e in (
+          λ i. record { code = o .code; value = s .2 i },
+          s .0,
+          (listed-key (o .code) (shape-listed (formOf (o .code)) (o .value) v e), s .1),
+        )
 
 -- an answer that is absent
 absent-none : {A : Type 0} (x : Option A) → T (not (present? x)) → x ≡ none
@@ -333,9 +392,12 @@ unfolding memberOf optionOf member? option?
 option-member (known code v) i h =
     let w = value-shape (formOf code) v h (i .1) in (
       ap (chosen code (octetsOf (formOf code) v)) (w .0),
-      both (word? code) (all octet? (octetsOf (formOf code) v)) (lt→ltb code 65536 (key-word code (i .0))) (octets-test (octetsOf (formOf code) v) (w .1)),
+      both (word? code) (all octet? (octetsOf (formOf code) v)) (lt→ltb code 65536 (key-word code (i .0)))
+          (octets-test (octetsOf (formOf code) v) (w .1)),
     )
 option-member (other code hex) i h = (
-  ap (chosen code hex) (absent-none (shape (formOf code) hex) (and-right (word? code) (not (present? (shape (formOf code) hex))) h)),
-  both (word? code) (all octet? hex) (and-left (word? code) (not (present? (shape (formOf code) hex))) h) (octets-test hex (i .1)),
+  ap (chosen code hex) (absent-none (shape (formOf code) hex)
+      (and-right (word? code) (not (present? (shape (formOf code) hex))) h)),
+  both (word? code) (all octet? hex) (and-left (word? code) (not (present? (shape (formOf code) hex))) h)
+      (octets-test hex (i .1)),
 )

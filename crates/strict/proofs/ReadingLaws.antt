@@ -1,4 +1,5 @@
--- Texts and the messages they say: each text is that of one message, and the reader takes just the texts of messages within the limits.
+-- Texts and the messages they say: each text is that of one message, and the reader takes just the texts of messages
+-- within the limits.
 use mathlib.Core.Path.{_≡_, refl, sym, _∙_, ap}
 use mathlib.Core.Logic.{_↔_}
 use mathlib.Core.Bool.{Bool, true, false, cond}
@@ -46,7 +47,11 @@ means-text t v = (forward, backward)
         (k .1, ap documentText (k .0) ∙ e .1)
 
     backward : T (view? v) × (documentText (documentOf v) ≡ t) → Means t v
-    backward h = record { document = documentOf v; spelled = parse-exact t (documentOf v) .1 (view-in v (h .0), h .1); meant = meaning-document v (h .0) }
+    backward h = record {
+      document = documentOf v;
+      spelled = parse-exact t (documentOf v) .1 (view-in v (h .0), h .1);
+      meant = meaning-document v (h .0);
+    }
 
 -- the texts of views split in one way only
 pub view-splits : Splits (λ v. T (view? v)) viewText
@@ -120,7 +125,8 @@ pub read-only : (t o : List ℕ) → reading t ≡ output o → Read t o
 unfolding reading text
 read-only t o e = first (parse t) refl e
   where
-    third : (v : View) → Means t v → (b : Bool) → within? v ≡ b → cond b (output (form (messageOf v))) (refused 22 0) ≡ output o → Read t o
+    third : (v : View) → Means t v → (b : Bool) → within? v ≡ b
+        → cond b (output (form (messageOf v))) (refused 22 0) ≡ output o → Read t o
     third v m true w e =
         let k = means-text t v .0 m in
         let s = within-small v (rw w tt) in

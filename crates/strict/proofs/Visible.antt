@@ -13,12 +13,17 @@ use Rattle.octets.specs.Decimal.{decimal, decimal-digits}
 use Rattle.octets.specs.Hexadecimal.{hexText, hexText-visible}
 use Rattle.records.specs.Message.{Question}
 use Rattle.names.specs.Name.{Name}
-use Rattle.spelling.specs.Spelling.{plain?, three-digits, spelled, labelText, nameText, Signed, plus, minus, signedText, printable?, stringOctet, stringText}
-use Rattle.options.specs.Options.{rows, members, Form, hexObject, octetList, expiry, hexList, word, padding, wordList, extendedError, unlisted, formOf, Value}
-use Rattle.options.specs.Options.{paddingTail, errorTail, expiryText, hexString, valueText, Member, known, other, memberText}
+use Rattle.spelling.specs.Spelling.{plain?, three-digits, spelled, labelText, nameText, Signed, plus, minus, signedText}
+use Rattle.spelling.specs.Spelling.{printable?, stringOctet, stringText}
+use Rattle.options.specs.Options.{rows, members, Form, hexObject, octetList, expiry, hexList, word, padding, wordList}
+use Rattle.options.specs.Options.{extendedError, unlisted, formOf, Value}
+use Rattle.options.specs.Options.{paddingTail, errorTail, expiryText, hexString, valueText, Member, known, other}
+use Rattle.options.specs.Options.{memberText}
 use Rattle.edns.specs.Edns.{rcodes, EdnsItem, flags, ednsText}
-use Rattle.json.specs.Document.{RecordItem, Item, ordinary, edns, Document, questionText, recordText, itemText, headText, documentText}
-use Rattle.strict.specs.Grammar.{Label, Labels, QuestionIn, RecordIn, Maybe, StringIn, ValueIn, MemberIn, EdnsIn, ItemIn, DocumentIn}
+use Rattle.json.specs.Document.{RecordItem, Item, ordinary, edns, Document, questionText, recordText, itemText}
+use Rattle.json.specs.Document.{headText, documentText}
+use Rattle.strict.specs.Grammar.{Label, Labels, QuestionIn, RecordIn, Maybe, StringIn, ValueIn, MemberIn, EdnsIn}
+use Rattle.strict.specs.Grammar.{ItemIn, DocumentIn}
 use Rattle.strict.specs.Spelt.{plain-in}
 
 -- ---- texts
@@ -48,19 +53,24 @@ unfolding printable?
 quote l h = record { seen = All-map printable-in (ascii l) (all→All printable? (ascii l) h) }
 
 -- the texts of a list
-ended-seen : {A : Type 0} {I : A → Type 0} (f : A → List ℕ) (stop : ℕ) → Seen (stop ∷ []) → ((a : A) → I a → Seen (f a)) → (l : List A) → All I l → Seen (ended f stop l)
+ended-seen : {A : Type 0} {I : A → Type 0} (f : A → List ℕ) (stop : ℕ) → Seen (stop ∷ []) → ((a : A) → I a → Seen (f a))
+    → (l : List A) → All I l → Seen (ended f stop l)
 ended-seen f stop s g [] h = s
 ended-seen f stop s g (a ∷ l) h = g a (h .0) ⊕ ended-seen f stop s g l (h .1)
 
-listed-seen : {A : Type 0} {I : A → Type 0} (f : A → List ℕ) → ((a : A) → I a → Seen (f a)) → (l : List A) → All I l → Seen (listed f l)
+listed-seen : {A : Type 0} {I : A → Type 0} (f : A → List ℕ) → ((a : A) → I a → Seen (f a)) → (l : List A) → All I l
+    → Seen (listed f l)
 listed-seen f g [] h = quote "[]" tt
-listed-seen f g (a ∷ l) h = quote "[" tt ⊕ (g a (h .0) ⊕ ended-seen (λ b. 44 ∷ f b) 93 (quote "]" tt) (λ b k. quote "," tt ⊕ g b k) l (h .1))
+listed-seen f g (a ∷ l) h =
+    quote "[" tt ⊕ (g a (h .0) ⊕ ended-seen (λ b. 44 ∷ f b) 93 (quote "]" tt) (λ b k. quote "," tt ⊕ g b k) l (h .1))
 
 -- the texts of a table
-textOf-seen : (table : List (ℕ × String)) → T (all (λ row. all visible? (ascii (row .1))) table) → (n : ℕ) → Seen (rowText n table)
+textOf-seen : (table : List (ℕ × String)) → T (all (λ row. all visible? (ascii (row .1))) table) → (n : ℕ)
+    → Seen (rowText n table)
 unfolding rowText
 textOf-seen [] h n = record { seen = tt }
-textOf-seen (row ∷ table) h n = go (eqb (row .0) n) (textOf-seen table (and-right (all visible? (ascii (row .1))) _ h) n)
+textOf-seen (row ∷ table) h n =
+    go (eqb (row .0) n) (textOf-seen table (and-right (all visible? (ascii (row .1))) _ h) n)
   where
     go : (b : Bool) → Seen (rowText n table) → Seen (cond b (ascii (row .1)) (rowText n table))
     go true k = quote (row .1) (and-left (all visible? (ascii (row .1))) _ h)
@@ -83,9 +93,15 @@ unfolding spelled
 spelled-seen x h = go (plain? x) (eqb x 46) (eqb x 92) refl
   where
     digits : Seen (three-digits x)
-    digits = record { seen = ((omega arith, omega arith), ((omega arith, omega arith), ((omega arith, omega arith), tt))) }
+    digits = record {
+      seen = (
+        (omega arith, omega arith),
+        ((omega arith, omega arith), ((omega arith, omega arith), tt)),
+      );
+    }
 
-    go : (a b c : Bool) → plain? x ≡ a → Seen (cond a (x ∷ []) (cond b (ascii "\\\\.") (cond c (ascii "\\\\\\\\") (ascii "\\\\" ++ three-digits x))))
+    go : (a b c : Bool) → plain? x ≡ a
+        → Seen (cond a (x ∷ []) (cond b (ascii "\\\\.") (cond c (ascii "\\\\\\\\") (ascii "\\\\" ++ three-digits x))))
     go true b c e = let k = plain-in x (subst T (sym e) tt) in one x (omega arith) (k .1)
     go false true c e = quote "\\\\." tt
     go false false true e = quote "\\\\\\\\" tt
@@ -142,7 +158,8 @@ value-seen unlisted v h = absurd h
 
 member-seen : (m : Member) → MemberIn m → Seen (memberText m)
 unfolding memberText members rows
-member-seen (known code v) h = quote "\"" tt ⊕ textOf-seen members tt code ⊕ quote "\":" tt ⊕ value-seen (formOf code) v (h .1)
+member-seen (known code v) h =
+    quote "\"" tt ⊕ textOf-seen members tt code ⊕ quote "\":" tt ⊕ value-seen (formOf code) v (h .1)
 member-seen (other n l) h = quote "\"OPT" tt ⊕ decimal-seen n ⊕ quote "\":\"" tt ⊕ hex-seen l (h .1)
 
 -- ---- the document
@@ -171,7 +188,8 @@ edns-seen e h =
     ⊕ quote ",\"FLAGS\":" tt ⊕ textOf-seen flags tt (e .flags)
     ⊕ quote ",\"RCODE\":\"" tt ⊕ textOf-seen rcodes tt (e .rcode)
     ⊕ quote "\",\"UDPSIZE\":" tt ⊕ decimal-seen (e .size)
-    ⊕ ended-seen (λ m. 44 ∷ memberText m) 125 (quote "}" tt) (λ m k. quote "," tt ⊕ member-seen m k) (e .options) (h .1 .1 .1 .1)
+    ⊕ ended-seen (λ m. 44 ∷ memberText m) 125 (quote "}" tt) (λ m k. quote "," tt ⊕ member-seen m k) (e .options)
+    (h .1 .1 .1 .1)
     ⊕ quote "}" tt
 
 item-seen : (i : Item) → ItemIn i → Seen (itemText i)

@@ -8,7 +8,8 @@ use Rattle.octets.specs.Codec.{OneOrMore}
 use Rattle.names.specs.Name.{Name}
 use Rattle.records.specs.Message.{Question}
 use Rattle.spelling.specs.Spelling.{Signed, plus, minus, printable?}
-use Rattle.options.specs.Options.{Form, hexObject, octetList, expiry, hexList, word, padding, wordList, extendedError, unlisted, Value, formOf, members, Member, known, other}
+use Rattle.options.specs.Options.{Form, hexObject, octetList, expiry, hexList, word, padding, wordList, extendedError}
+use Rattle.options.specs.Options.{unlisted, Value, formOf, members, Member, known, other}
 use Rattle.edns.specs.Edns.{rcodes, EdnsItem, flags}
 use Rattle.json.specs.Document.{RecordItem, Item, ordinary, edns, Document}
 
@@ -59,7 +60,8 @@ MemberIn (known code v) = T (key? code members) × ValueIn (formOf code) v
 MemberIn (other n hex) = Number n × Octets hex
 
 abbrev pub EdnsIn : EdnsItem → Type 0
-EdnsIn e = Number (e .version) × (T (key? (e .flags) flags) × (T (key? (e .rcode) rcodes) × (Number (e .size) × All MemberIn (e .options))))
+EdnsIn e = Number (e .version)
+    × (T (key? (e .flags) flags) × (T (key? (e .rcode) rcodes) × (Number (e .size) × All MemberIn (e .options))))
 
 abbrev pub ItemIn : Item → Type 0
 ItemIn (ordinary r) = RecordIn r
@@ -67,4 +69,5 @@ ItemIn (edns e) = EdnsIn e
 
 -- numbers of the header and counts are of any size
 abbrev pub DocumentIn : Document → Type 0
-DocumentIn d = All QuestionIn (d .questions) × (All RecordIn (d .answers) × (All RecordIn (d .authority) × All ItemIn (d .additional)))
+DocumentIn d = All QuestionIn (d .questions)
+    × (All RecordIn (d .answers) × (All RecordIn (d .authority) × All ItemIn (d .additional)))

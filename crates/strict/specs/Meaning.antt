@@ -24,7 +24,12 @@ unfoldable pub itemRecord : RecordItem → Record
 itemRecord r = record { name = r .name; type = r .type; class = r .class; ttl = unsigned (r .ttl); rdata = r .rdata }
 
 unfoldable pub itemEdns : EdnsItem → Edns
-itemEdns e = record { size = e .size; extended = e .rcode / 16; dnssecOk = e .flags; options = map optionOf (e .options) }
+itemEdns e = record {
+  size = e .size;
+  extended = e .rcode / 16;
+  dnssecOk = e .flags;
+  options = map optionOf (e .options);
+}
 
 unfoldable pub itemAdditional : Item → Additional
 itemAdditional (doc.ordinary r) = view.ordinary (itemRecord r)
@@ -65,7 +70,8 @@ counts? d =
     && eqb (d .arcount) (length (d .additional))
 
 unfoldable pub agrees? : Document → Bool
-agrees? d = counts? d && all recordItem? (d .answers) && all recordItem? (d .authority) && all (item? (d .header .rcode)) (d .additional)
+agrees? d = counts? d && all recordItem? (d .answers) && all recordItem? (d .authority)
+    && all (item? (d .header .rcode)) (d .additional)
 
 -- The meaning, whose absence is refusal 21. Its clauses, by document 01's list:
 -- a number out of range: header?, word?, octet?, long?, ttl?, value?, member?, and counts over 65,535: section?;

@@ -7,7 +7,8 @@ use lib.Dec.{leb, eqb}
 use lib.ListN.{length, replicate}
 use Rattle.octets.specs.Lists.{all, none?, octet?, word?, long?, each, present?}
 use Rattle.octets.specs.Fields.{two, four}
-use Rattle.options.specs.Options.{Form, hexObject, octetList, expiry, hexList, word, padding, wordList, extendedError, unlisted, Value, formOf, zero?, shape, EdnsOption, Member, known, other}
+use Rattle.options.specs.Options.{Form, hexObject, octetList, expiry, hexList, word, padding, wordList, extendedError}
+use Rattle.options.specs.Options.{unlisted, Value, formOf, zero?, shape, EdnsOption, Member, known, other}
 
 -- the octets of a value
 abbrev pub optional : Option (List ℕ) → List ℕ
@@ -33,8 +34,8 @@ octetsOf wordList l = each two l
 octetsOf extendedError e = two (e .0) ++ optional (e .1)
 octetsOf unlisted u = []
 
--- Whether a value in the grammar can be that of an option: numbers in range; COOKIE 8 octets, then none or one of 8 to 32;
--- a PADDING `LENGTH` that agrees with its `HEX`, which is not all zero; a `TEXT` that is not empty.
+-- Whether a value in the grammar can be that of an option: numbers in range; COOKIE 8 octets, then none or one of 8 to
+-- 32; a PADDING `LENGTH` that agrees with its `HEX`, which is not all zero; a `TEXT` that is not empty.
 abbrev pub expiry? : Option ℕ → Bool
 expiry? none = true
 expiry? (some n) = long? n

@@ -10,18 +10,23 @@ use lib.Dec.{T, eqb}
 use Rattle.octets.specs.Lists.{ascii, all, All, ended, key?, rowText}
 use Rattle.octets.specs.Bits.{and-left, and-right}
 use Rattle.octets.specs.Parsed.{Parsed, took, stuck, missed}
-use Rattle.octets.specs.Codec.{Avoids, Any, Codec, fronts, unique, whole, whole-exact, whole-ends, joined, on, titled, weaken, ranged, only, many, array, pair-by}
+use Rattle.octets.specs.Codec.{Avoids, Any, Codec, fronts, unique, whole, whole-exact, whole-ends, joined, on, titled}
+use Rattle.octets.specs.Codec.{weaken, ranged, only, many, array, pair-by}
 use Rattle.octets.specs.Codec.{tried, apart?, apart-texts, distinct, table, _▷_, _◁_, _⊗_}
 use Rattle.octets.specs.Decimal.{decimal, NoDigit, natural, number, number-avoids, decimal-avoids, till}
 use Rattle.octets.specs.Hexadecimal.{hexText, unhex, hex}
 use Rattle.records.specs.Message.{Header}
 use Rattle.spelling.specs.Spelling.{plain?, stringText}
-use Rattle.options.specs.Options.{rows, members, Form, hexObject, octetList, expiry, hexList, word, padding, wordList, extendedError, unlisted, formOf, Value}
+use Rattle.options.specs.Options.{rows, members, Form, hexObject, octetList, expiry, hexList, word, padding, wordList}
+use Rattle.options.specs.Options.{extendedError, unlisted, formOf, Value}
 use Rattle.options.specs.Options.{paddingTail, errorTail, expiryText, valueText, Member, known, other, memberText}
 use Rattle.edns.specs.Edns.{rcodes, EdnsItem, flags, ednsText}
-use Rattle.json.specs.Document.{RecordItem, Item, ordinary, edns, Document, questionText, recordText, itemText, headText, documentText}
-use Rattle.strict.specs.Grammar.{Number, QuestionIn, RecordIn, Maybe, ValueIn, MemberIn, EdnsIn, ItemIn, DocumentIn}
-use Rattle.strict.specs.Spelt.{made, kinds, coded?, coded-from?, leads?, ddd, escape, spelledAt, spelledOctet, label, name, signedNumber, string}
+use Rattle.json.specs.Document.{RecordItem, Item, ordinary, edns, Document, questionText, recordText, itemText}
+use Rattle.json.specs.Document.{headText, documentText}
+use Rattle.strict.specs.Grammar.{Number, QuestionIn, RecordIn, Maybe, ValueIn, MemberIn, EdnsIn, ItemIn}
+use Rattle.strict.specs.Grammar.{DocumentIn}
+use Rattle.strict.specs.Spelt.{made, kinds, coded?, coded-from?, leads?, ddd, escape, spelledAt, spelledOctet}
+use Rattle.strict.specs.Spelt.{label, name, signedNumber, string}
 
 -- ---- values of options
 -- a text that ends by itself may stand before anything
@@ -59,10 +64,13 @@ abbrev pub endText : {A : Type 0} → String → (A → List ℕ) → Option A �
 endText l f = maybeText "}" (λ a. ascii "," ++ (ascii l ++ (f a ++ ascii "}")))
 
 -- a number and such an end
-abbrev pub numbered : {A : Type 0} {I : A → Type 0} {f : A → List ℕ} {g : Option A → List ℕ} (l : String) → ((n : Option A) → g n ≡ endText l f n)
-    → Codec I f Any → Codec {A = ℕ × Option A} (λ u. Number (u .0) × Maybe I (u .1)) (λ u. decimal (u .0) ++ g (u .1)) Any
+abbrev pub numbered : {A : Type 0} {I : A → Type 0} {f : A → List ℕ} {g : Option A → List ℕ} (l : String)
+    → ((n : Option A) → g n ≡ endText l f n)
+    → Codec I f Any → Codec {A = ℕ × Option A} (λ u. Number (u .0) × Maybe I (u .1)) (λ u. decimal (u .0)
+    ++ g (u .1)) Any
 numbered {A} {f} l same p =
-    joined number (titled same (maybe "}" ("," ▷ l ▷ p ◁ "}") (λ a r s h e. fronts tt e))) (λ n r h m. rw (same n) (fits n r))
+    joined number (titled same (maybe "}" ("," ▷ l ▷ p ◁ "}") (λ a r s h e. fronts tt e)))
+    (λ n r h m. rw (same n) (fits n r))
   where
     fits : (n : Option A) (r : List ℕ) → NoDigit (endText l f n ++ r)
     fits none r = tt
@@ -96,27 +104,33 @@ unfolding members rows
 members-distinct = tt
 
 -- a text apart from that of every row is apart from that of every key
-row-apart : (l : List ℕ) (table : List (ℕ × String)) (n : ℕ) → T (all (λ row. apart? (ascii (row .1)) l) table) → T (key? n table) → T (apart? (rowText n table) l)
+row-apart : (l : List ℕ) (table : List (ℕ × String)) (n : ℕ) → T (all (λ row. apart? (ascii (row .1)) l) table)
+    → T (key? n table) → T (apart? (rowText n table) l)
 unfolding key? rowText
 row-apart l [] n h k = absurd k
-row-apart l (row ∷ table) n h k = go (eqb (row .0) n) k (row-apart l table n (and-right (apart? (ascii (row .1)) l) _ h))
+row-apart l (row ∷ table) n h k =
+    go (eqb (row .0) n) k (row-apart l table n (and-right (apart? (ascii (row .1)) l) _ h))
   where
-    go : (b : Bool) → T (cond b true (key? n table)) → (T (key? n table) → T (apart? (rowText n table) l)) → T (apart? (cond b (ascii (row .1)) (rowText n table)) l)
+    go : (b : Bool) → T (cond b true (key? n table)) → (T (key? n table) → T (apart? (rowText n table) l))
+        → T (apart? (cond b (ascii (row .1)) (rowText n table)) l)
     go true k f = and-left (apart? (ascii (row .1)) l) _ h
     go false k f = f k
 
 -- no member of the table begins as `OPT`
 pub member-apart : (code : ℕ) (r s : List ℕ) → T (key? code members) → rowText code members ++ r ≡ ascii "OPT" ++ s → ⊥
 unfolding members rows
-member-apart code r s h = apart-texts (rowText code members) (ascii "OPT") r s (row-apart (ascii "OPT") members code tt h)
+member-apart code r s h =
+    apart-texts (rowText code members) (ascii "OPT") r s (row-apart (ascii "OPT") members code tt h)
 
 -- a member of the table, whose code decides the form of its value
-unfoldable pub knownMember : Codec {A = (code : ℕ) × Value (formOf code)} (λ u. MemberIn (known (u .0) (u .1))) (λ u. memberText (known (u .0) (u .1))) NoDigit
+unfoldable pub knownMember : Codec {A = (code : ℕ) × Value (formOf code)} (λ u. MemberIn (known (u .0) (u .1)))
+    (λ u. memberText (known (u .0) (u .1))) NoDigit
 unfolding memberText
 knownMember = pair-by ("\"" ▷ table members members-distinct ◁ "\":") (λ code. value (formOf code))
 
 -- `OPTn` and hex
-unfoldable pub otherMember : Codec {A = ℕ × List ℕ} (λ u. MemberIn (other (u .0) (u .1))) (λ u. memberText (other (u .0) (u .1))) NoDigit
+unfoldable pub otherMember : Codec {A = ℕ × List ℕ} (λ u. MemberIn (other (u .0) (u .1)))
+    (λ u. memberText (other (u .0) (u .1))) NoDigit
 unfolding memberText
 otherMember = titled (λ u. simp append-assoc) (free ("\"OPT" ▷ till "\":\"" tt number ⊗ hex))
 
@@ -131,7 +145,8 @@ memberKind (known code v) = inl (code, v)
 memberKind (other n hex) = inr (n, hex)
 
 unfoldable pub member : Codec MemberIn memberText NoDigit
-member = kinds (λ u. known (u .0) (u .1)) (λ u. other (u .0) (u .1)) memberKind whole (λ u. refl) (λ u. refl) knownMember otherMember
+member = kinds (λ u. known (u .0) (u .1)) (λ u. other (u .0) (u .1)) memberKind whole (λ u. refl)
+    (λ u. refl) knownMember otherMember
     (λ u v r s h k e. members-apart u v r s (h .0) e)
   where
     whole : (m : Member) → made (λ u. known (u .0) (u .1)) (λ u. other (u .0) (u .1)) (memberKind m) ≡ m
@@ -150,7 +165,8 @@ questionCodec = titled (λ q. simp append-assoc) (on (λ q. (q .name, (q .type, 
 unfoldable pub recordCodec : Codec RecordIn recordText Any
 unfolding recordText
 recordCodec = titled (λ r. simp append-assoc) (on (λ r. (r .name, (r .type, (r .class, (r .ttl, r .rdata)))))
-    (λ (n, (t, (c, (l, d)))). record { name = n; type = t; class = c; ttl = l; rdata = d }) (λ r h. (h, refl)) (λ r h. (h, refl))
+    (λ (n, (t, (c, (l, d)))). record { name = n; type = t; class = c; ttl = l; rdata = d }) (λ r h. (h, refl))
+    (λ r h. (h, refl))
     ("{\"NAME\":\"" ▷ name
     ⊗ ",\"TYPE\":" ▷ till ",\"CLASS\":" tt number
     ⊗ till ",\"TTL\":" tt number
@@ -181,7 +197,8 @@ optionMembers = many (λ a r s h e. fronts tt e) (λ r. tt) (λ b r h. tt) ("," 
 unfoldable pub ednsElement : Codec EdnsIn ednsText Any
 unfolding ednsText
 ednsElement = titled (λ e. simp append-assoc) (on (λ e. (e .version, (e .flags, (e .rcode, (e .size, e .options)))))
-    (λ (v, (f, (c, (s, o)))). record { version = v; flags = f; rcode = c; size = s; options = o }) (λ e h. (h, refl)) (λ e h. (h, refl))
+    (λ (v, (f, (c, (s, o)))). record { version = v; flags = f; rcode = c; size = s; options = o }) (λ e h. (h, refl))
+    (λ e h. (h, refl))
     ("{\"EDNS\":{\"Version\":" ▷ till ",\"FLAGS\":" tt number
     ⊗ table flags flags-distinct
     ⊗ ",\"RCODE\":\"" ▷ table rcodes rcodes-distinct ◁ "\",\"UDPSIZE\":"
@@ -191,7 +208,8 @@ ednsElement = titled (λ e. simp append-assoc) (on (λ e. (e .version, (e .flags
 -- the two kinds differ at the third octet
 pub item-apart : (a : RecordItem) (b : EdnsItem) (r s : List ℕ) → recordText a ++ r ≡ ednsText b ++ s → ⊥
 unfolding recordText ednsText
-item-apart a b r s e = apart-texts (ascii "{\"NAME\":\"") (ascii "{\"EDNS\":{\"Version\":") _ _ tt (simp append-assoc at e)
+item-apart a b r s e =
+    apart-texts (ascii "{\"NAME\":\"") (ascii "{\"EDNS\":{\"Version\":") _ _ tt (simp append-assoc at e)
 
 abbrev itemKind : Item → RecordItem ⊎ EdnsItem
 itemKind (ordinary r) = inl r
@@ -199,7 +217,8 @@ itemKind (edns e) = inr e
 
 unfoldable pub itemCodec : Codec ItemIn itemText Any
 unfolding itemText
-itemCodec = kinds ordinary edns itemKind whole (λ r. refl) (λ e. refl) recordCodec ednsElement (λ a b r s h k e. item-apart a b r s e)
+itemCodec = kinds ordinary edns itemKind whole (λ r. refl) (λ e. refl) recordCodec ednsElement
+    (λ a b r s h k e. item-apart a b r s e)
   where
     whole : (i : Item) → made ordinary edns (itemKind i) ≡ i
     whole (ordinary r) = refl
@@ -225,7 +244,18 @@ abbrev pub Head : Type 0
 Head = Header × (ℕ × (ℕ × (ℕ × ℕ)))
 
 abbrev pub bareDocument : Head → Document
-bareDocument (h, (qn, (an, (nn, rn)))) = record { header = h; qdcount = qn; ancount = an; nscount = nn; arcount = rn; questions = []; answers = []; authority = []; additional = [] }
+bareDocument (h, (qn, (an, (nn, rn)))) =
+    record {
+      header = h;
+      qdcount = qn;
+      ancount = an;
+      nscount = nn;
+      arcount = rn;
+      questions = [];
+      answers = [];
+      authority = [];
+      additional = [];
+    }
 
 abbrev pub headOf : Document → Head
 headOf d = (d .header, (d .qdcount, (d .ancount, (d .nscount, d .arcount))))
@@ -235,12 +265,28 @@ unfoldable pub head : Codec {A = Head} (λ h. Unit {0}) (λ h. headText (bareDoc
 unfolding headText
 head = titled (λ h. simp append-assoc) (on
     (λ (h, n). (h .id, ((h .qr, (h .opcode, (h .aa, (h .tc, h .rd)))), ((h .ra, (h .ad, (h .cd, h .rcode))), n))))
-    (λ (id, ((qr, (opcode, (aa, (tc, rd)))), ((ra, (ad, (cd, rcode))), n))). (record { id = id; qr = qr; opcode = opcode; aa = aa; tc = tc; rd = rd; ra = ra; ad = ad; cd = cd; rcode = rcode }, n))
+    (λ (id, ((qr, (opcode, (aa, (tc, rd)))), ((ra, (ad, (cd, rcode))), n))). (
+      record {
+        id = id;
+        qr = qr;
+        opcode = opcode;
+        aa = aa;
+        tc = tc;
+        rd = rd;
+        ra = ra;
+        ad = ad;
+        cd = cd;
+        rcode = rcode;
+      },
+      n,
+    ))
     (λ h i. ((tt, ((tt, (tt, (tt, (tt, tt)))), ((tt, (tt, (tt, tt))), (tt, (tt, (tt, tt)))))), refl))
     (λ u i. (tt, refl))
     ("{\"ID\":" ▷ till ",\"QR\":" tt number
-    ⊗ (till ",\"Opcode\":" tt number ⊗ till ",\"AA\":" tt number ⊗ till ",\"TC\":" tt number ⊗ till ",\"RD\":" tt number ⊗ till ",\"RA\":" tt number)
-    ⊗ (till ",\"AD\":" tt number ⊗ till ",\"CD\":" tt number ⊗ till ",\"RCODE\":" tt number ⊗ till ",\"QDCOUNT\":" tt number)
+    ⊗ (till ",\"Opcode\":" tt number ⊗ till ",\"AA\":" tt number ⊗ till ",\"TC\":" tt number ⊗ till ",\"RD\":" tt number
+    ⊗ till ",\"RA\":" tt number)
+    ⊗ (till ",\"AD\":" tt number ⊗ till ",\"CD\":" tt number ⊗ till ",\"RCODE\":" tt number ⊗ till ",\"QDCOUNT\":" tt
+    number)
     ⊗ till ",\"ANCOUNT\":" tt number ⊗ till ",\"NSCOUNT\":" tt number ⊗ till ",\"ARCOUNT\":" tt number ⊗ number))
 
 -- the text of a document's head is that of its header and counts alone
@@ -254,7 +300,17 @@ unfolding documentText
 document = titled (λ d. rw (head-same d) (simp append-assoc)) (on
     (λ d. (headOf d, (d .questions, (d .answers, (d .authority, d .additional)))))
     (λ ((h, (qn, (an, (nn, rn)))), (qs, (ans, (auth, add)))).
-    record { header = h; qdcount = qn; ancount = an; nscount = nn; arcount = rn; questions = qs; answers = ans; authority = auth; additional = add })
+    record {
+      header = h;
+      qdcount = qn;
+      ancount = an;
+      nscount = nn;
+      arcount = rn;
+      questions = qs;
+      answers = ans;
+      authority = auth;
+      additional = add;
+    })
     (λ d h. ((tt, h), refl)) (λ u h. (h .1, refl))
     (joined head
     (",\"questionRRs\":" ▷ array question-avoids (λ r. tt) (λ r. tt) questionCodec
@@ -277,7 +333,8 @@ unfolding parse
 parse-ends = whole-ends document
 
 -- a document's text and what follows it determine the document
-pub document-unique : (d e : Document) (r s : List ℕ) → DocumentIn d → DocumentIn e → documentText d ++ r ≡ documentText e ++ s → (d ≡ e) × (r ≡ s)
+pub document-unique : (d e : Document) (r s : List ℕ) → DocumentIn d → DocumentIn e
+    → documentText d ++ r ≡ documentText e ++ s → (d ≡ e) × (r ≡ s)
 document-unique d e r s h k = unique document d e r s h k tt tt
 
 -- it is not empty

@@ -9,11 +9,14 @@ use borrow.Author.Tests.{eqb-true, eqb-false}
 use lib.Dec.{T, T-not, leb, ltb, eqb, leb→le, ltb→lt, lt→ltb}
 use Rattle.octets.specs.Lists.{ascii, ended}
 use Rattle.octets.specs.Bits.{is-true, is-false, unequal, both, and-left, and-right}
-use Rattle.octets.specs.Parsed.{Parsed, took, stuck, and-then, strip, Holds, missed, found, map-holds, then-holds, strip-sound}
-use Rattle.octets.specs.Codec.{Avoids, OneOrMore, Any, Codec, fronts, some-avoids, on, titled, only, either, Either, eitherText, many, several, _▷_}
+use Rattle.octets.specs.Parsed.{Parsed, took, stuck, and-then, strip, Holds, missed, found, map-holds, then-holds}
+use Rattle.octets.specs.Parsed.{strip-sound}
+use Rattle.octets.specs.Codec.{Avoids, OneOrMore, Any, Codec, fronts, some-avoids, on, titled, only, either, Either}
+use Rattle.octets.specs.Codec.{eitherText, many, several, _▷_}
 use Rattle.octets.specs.Decimal.{digit?, digit-in, digit-test, NoDigit, number, positiveNumber, decimal-avoids}
 use Rattle.names.specs.Name.{Name}
-use Rattle.spelling.specs.Spelling.{plain?, three-digits, spelled, labelText, nameText, Signed, plus, minus, signedText, printable?, stringOctet, stringText}
+use Rattle.spelling.specs.Spelling.{plain?, three-digits, spelled, labelText, nameText, Signed, plus, minus, signedText}
+use Rattle.spelling.specs.Spelling.{printable?, stringOctet, stringText}
 use Rattle.strict.specs.Grammar.{Label, Labels, SignedNumber, StringIn}
 
 -- ---- a thing of two kinds, each made in its own way
@@ -21,13 +24,18 @@ abbrev pub made : {A B C : Type 0} → (A → C) → (B → C) → A ⊎ B → C
 made left right (inl a) = left a
 made left right (inr b) = right b
 
-module _ {A B C : Type 0} {J : C → Type 0} {g : C → List ℕ} {F : List ℕ → Type 0} (left : A → C) (right : B → C) (kind : C → A ⊎ B) where
+module _ {A B C : Type 0} {J : C → Type 0} {g : C → List ℕ} {F : List ℕ → Type 0} (left : A → C) (right : B
+    → C) (kind : C → A ⊎ B) where
   -- a codec for each kind, whose texts never begin alike
-  abbrev pub kinds : ((c : C) → made left right (kind c) ≡ c) → ((a : A) → kind (left a) ≡ inl a) → ((b : B) → kind (right b) ≡ inr b)
+  abbrev pub kinds : ((c : C) → made left right (kind c) ≡ c) → ((a : A) → kind (left a) ≡ inl a)
+      → ((b : B) → kind (right b) ≡ inr b)
       → Codec (λ a. J (left a)) (λ a. g (left a)) F → Codec (λ b. J (right b)) (λ b. g (right b)) F
-      → ((a : A) (b : B) (r s : List ℕ) → J (left a) → J (right b) → g (left a) ++ r ≡ g (right b) ++ s → ⊥) → Codec J g F
+      → ((a : A) (b : B) (r s : List ℕ) → J (left a) → J (right b) → g (left a) ++ r ≡ g (right b) ++ s → ⊥)
+      → Codec J g F
   kinds whole at-left at-right p q apart =
-      titled (λ c. ap g (sym (whole c)) ∙ text (kind c)) (on kind (made left right) (λ c h. (range (kind c) (subst J (sym (whole c)) h), whole c)) back (either p q apart))
+      titled (λ c. ap g (sym (whole c)) ∙ text (kind c))
+      (on kind (made left right) (λ c h. (range (kind c) (subst J (sym (whole c)) h), whole c)) back
+      (either p q apart))
     where
       text : (u : A ⊎ B) → g (made left right u) ≡ eitherText (λ a. g (left a)) (λ b. g (right b)) u
       text (inl a) = refl
@@ -37,7 +45,8 @@ module _ {A B C : Type 0} {J : C → Type 0} {g : C → List ℕ} {F : List ℕ 
       range (inl a) h = h
       range (inr b) h = h
 
-      back : (u : A ⊎ B) → Either (λ a. J (left a)) (λ b. J (right b)) u → J (made left right u) × (kind (made left right u) ≡ u)
+      back : (u : A ⊎ B) → Either (λ a. J (left a)) (λ b. J (right b)) u
+          → J (made left right u) × (kind (made left right u) ≡ u)
       back (inl a) h = (h, at-left a)
       back (inr b) h = (h, at-right b)
 
@@ -72,7 +81,11 @@ escape (c ∷ t) = elim (eqb c 46) [
 -- an octet as `spelled` writes it
 unfoldable pub spelledAt : List ℕ → Parsed ℕ
 spelledAt [] = stuck []
-spelledAt (c ∷ t) = elim (plain? c) [ true ↦ took c t | false ↦ and-then (strip (ascii "\\\\") (c ∷ t)) (λ u r. escape r) ]
+spelledAt (c ∷ t) = elim (plain? c) [
+  | true ↦ took c t
+  | false ↦ and-then (strip (ascii "\\\\") (c ∷ t))
+      (λ u r. escape r)
+]
 
 -- an octet among the numbers counts
 coded-among : (lo n x : ℕ) → T (coded? x) → lo ≤ x → x < lo + n → T (coded-from? lo n)
@@ -105,11 +118,17 @@ coded-alone x h = go (coded? x) h
     go false t = t
 
 -- one digit, where it leads to an octet
-ddd-digit : (k n d : ℕ) (t : List ℕ) → d < 10 → T (coded-from? ((n * 10 + d) * 10 ^ k) (10 ^ k)) → ddd (suc k) n ((48 + d) ∷ t) ≡ ddd k (n * 10 + d) t
+ddd-digit : (k n d : ℕ) (t : List ℕ) → d < 10 → T (coded-from? ((n * 10 + d) * 10 ^ k) (10 ^ k))
+    → ddd (suc k) n ((48 + d) ∷ t) ≡ ddd k (n * 10 + d) t
 unfolding ddd leads?
 ddd-digit k n d t h c =
     let z : 48 + d - 48 ≡ d = omega arith in
-    rw (is-true (leads? k n (48 + d)) (both (digit? (48 + d)) _ (digit-test (48 + d) (omega arith) (omega arith)) (rw z c)), ddd, z)
+    rw (
+      is-true (leads? k n (48 + d)) (both (digit? (48 + d)) _ (digit-test (48 + d) (omega arith) (omega arith))
+          (rw z c)),
+      ddd,
+      z,
+    )
 
 -- three digits of an octet that is written so
 ddd-back : (x : ℕ) (r : List ℕ) → T (coded? x) → x < 256 → ddd 3 0 (three-digits x ++ r) ≡ took x r
@@ -123,7 +142,8 @@ ddd-back x r c h =
 
 -- what holds of the answer for each digit that leads to an octet holds of the answer
 ddd-holds : {P : ℕ → List ℕ → Type 0} (k n : ℕ) (t : List ℕ)
-    → ((d : ℕ) (u : List ℕ) → d < 10 → T (coded-from? ((n * 10 + d) * 10 ^ k) (10 ^ k)) → (48 + d) ∷ u ≡ t → Holds P (ddd k (n * 10 + d) u)) → Holds P (ddd (suc k) n t)
+    → ((d : ℕ) (u : List ℕ) → d < 10 → T (coded-from? ((n * 10 + d) * 10 ^ k) (10 ^ k)) → (48 + d) ∷ u ≡ t
+    → Holds P (ddd k (n * 10 + d) u)) → Holds P (ddd (suc k) n t)
 unfolding ddd leads?
 ddd-holds k n [] f = missed []
 ddd-holds {P} k n (d ∷ t) f = go (leads? k n d) refl
@@ -142,8 +162,10 @@ unfolding ddd
 ddd-sound t = ddd-holds 2 0 t λ a u ha la ea. ddd-holds 1 _ u λ b v hb lb eb. ddd-holds 0 _ v λ c w hc lc ec.
     found (last a b c lc, digits a b c w ha hb hc ec ∙ ap (λ z. (48 + a) ∷ z) eb ∙ ea)
   where
-    last : (a b c : ℕ) → T (coded-from? ((((0 * 10 + a) * 10 + b) * 10 + c) * 1) 1) → T (coded? (((0 * 10 + a) * 10 + b) * 10 + c))
-    last a b c h = let z : (((0 * 10 + a) * 10 + b) * 10 + c) * 1 ≡ ((0 * 10 + a) * 10 + b) * 10 + c = omega arith in coded-alone _ (subst (λ n. T (coded-from? n 1)) z h)
+    last : (a b c : ℕ) → T (coded-from? ((((0 * 10 + a) * 10 + b) * 10 + c) * 1) 1)
+        → T (coded? (((0 * 10 + a) * 10 + b) * 10 + c))
+    last a b c h = let z : (((0 * 10 + a) * 10 + b) * 10 + c) * 1 ≡ ((0 * 10 + a) * 10 + b) * 10 + c =
+        omega arith in coded-alone _ (subst (λ n. T (coded-from? n 1)) z h)
 
     digits : (a b c : ℕ) {v : List ℕ} (w : List ℕ) → a < 10 → b < 10 → c < 10 → (48 + c) ∷ w ≡ v
         → three-digits (((0 * 10 + a) * 10 + b) * 10 + c) ++ w ≡ (48 + a) ∷ (48 + b) ∷ v
@@ -165,7 +187,11 @@ coded-out x h =
     let k = and-right (ltb x 256) _ h in
     let m = and-right (not (plain? x)) _ k in (
       ltb→lt x 256 (and-left (ltb x 256) _ h),
-      rw (is-false (plain? x) (and-left (not (plain? x)) _ k), is-false (eqb x 46) (and-left (not (eqb x 46)) _ m), is-false (eqb x 92) (and-right (not (eqb x 46)) _ m)),
+      rw (
+        is-false (plain? x) (and-left (not (plain? x)) _ k),
+        is-false (eqb x 46) (and-left (not (eqb x 46)) _ m),
+        is-false (eqb x 92) (and-right (not (eqb x 46)) _ m),
+      ),
     )
 
 -- a digit is neither the dot nor the backslash
@@ -183,7 +209,9 @@ escape-digit d t h = rw (unequal (48 + d) 46 dot, escape, unequal (48 + d) 92 sl
 pub plain-in : (x : ℕ) → T (plain? x) → (33 ≤ x) × (x ≤ 126)
 unfolding plain?
 plain-in x h =
-    let k = and-left (leb 33 x && leb x 126) _ (and-left (leb 33 x && leb x 126 && not (eqb x 34)) _ (and-left (leb 33 x && leb x 126 && not (eqb x 34) && not (eqb x 46)) _ h)) in
+    let k = and-left (leb 33 x && leb x 126) _
+    (and-left (leb 33 x && leb x 126 && not (eqb x 34)) _
+    (and-left (leb 33 x && leb x 126 && not (eqb x 34) && not (eqb x 46)) _ h)) in
     (leb→le 33 x (and-left (leb 33 x) _ k), leb→le x 126 (and-right (leb 33 x) _ k))
 
 spelled-plain : (x : ℕ) → T (plain? x) → spelled x ≡ x ∷ []
@@ -200,7 +228,8 @@ unfolding spelled spelledAt plain? escape
 spelledAt-back x r h = go (plain? x) (eqb x 46) (eqb x 92) refl refl refl
   where
     go : (a b c : Bool) → plain? x ≡ a → eqb x 46 ≡ b → eqb x 92 ≡ c
-        → spelledAt (cond a (x ∷ []) (cond b (ascii "\\\\.") (cond c (ascii "\\\\\\\\") (ascii "\\\\" ++ three-digits x))) ++ r) ≡ took x r
+        → spelledAt (cond a (x ∷ [])
+        (cond b (ascii "\\\\.") (cond c (ascii "\\\\\\\\") (ascii "\\\\" ++ three-digits x))) ++ r) ≡ took x r
     go true b c e f g = rw (e, spelledAt)
     go false true c e f g = took-same x 46 r f
     go false false true e f g = took-same x 92 r g
@@ -211,7 +240,8 @@ unfolding escape spelled plain?
 escape-sound [] = missed []
 escape-sound (c ∷ t) = go (eqb c 46) (eqb c 92) refl refl
   where
-    go : (a b : Bool) → eqb c 46 ≡ a → eqb c 92 ≡ b → Holds (λ x r. (x < 256) × (spelled x ++ r ≡ ascii "\\\\" ++ (c ∷ t))) (escape (c ∷ t))
+    go : (a b : Bool) → eqb c 46 ≡ a → eqb c 92 ≡ b
+        → Holds (λ x r. (x < 256) × (spelled x ++ r ≡ ascii "\\\\" ++ (c ∷ t))) (escape (c ∷ t))
     go true b e f = rw (e, escape) (found {a = 46} (omega arith, ap (λ d. 92 ∷ 92 ∷ d ∷ t) (sym (eqb-true c 46 e))))
     go false true e f = rw (e, escape, f) (then-holds _ (strip-sound (ascii "\\") t) λ u r d.
         found {a = 92} (omega arith, ap₂ (λ x l. 92 ∷ 92 ∷ x ∷ l) (sym (eqb-true c 92 f)) d))
@@ -227,7 +257,8 @@ spelledAt-sound (c ∷ t) = go (plain? c) refl
     below h = omega (arith, plain-in c h)
 
     go : (b : Bool) → plain? c ≡ b → Holds (λ x r. (x < 256) × (spelled x ++ r ≡ c ∷ t)) (spelledAt (c ∷ t))
-    go true e = rw (e, spelledAt) (found (below (subst T (sym e) tt), ap (λ l. l ++ t) (spelled-plain c (subst T (sym e) tt))))
+    go true e = rw (e, spelledAt)
+        (found (below (subst T (sym e) tt), ap (λ l. l ++ t) (spelled-plain c (subst T (sym e) tt))))
     go false e = rw (e, spelledAt) (then-holds _ (strip-sound (ascii "\\\\") (c ∷ t)) λ u w d.
         map-holds (escape-sound w) λ x r h. (h .0, h .1 ∙ d))
 
@@ -239,7 +270,9 @@ pub spelled-avoids : (y : ℕ) → T (not (plain? y)) → T (not (eqb 92 y)) →
 unfolding spelled
 spelled-avoids y h k x r s i e = go (plain? x) (eqb x 46) (eqb x 92) refl e
   where
-    go : (a b c : Bool) → plain? x ≡ a → cond a (x ∷ []) (cond b (ascii "\\\\.") (cond c (ascii "\\\\\\\\") (ascii "\\\\" ++ three-digits x))) ++ r ≡ y ∷ s → ⊥
+    go : (a b c : Bool) → plain? x ≡ a
+        → cond a (x ∷ []) (cond b (ascii "\\\\.") (cond c (ascii "\\\\\\\\") (ascii "\\\\" ++ three-digits x)))
+        ++ r ≡ y ∷ s → ⊥
     go true b c d e = T-not (plain? y) h (subst (λ z. T (plain? z)) (head-eq-of-cons-eq e) (subst T (sym d) tt))
     go false true c d e = fronts k e
     go false false true d e = fronts k e
@@ -280,7 +313,8 @@ name = titled same (on rootOr nameFrom one two
     one [] h = (refl, refl)
     one (l ∷ n) h = ((h, tt), refl)
 
-    two : (u : Unit {0} ⊎ Name) → Either (λ u. u ≡ tt) (OneOrMore Label) u → Labels (nameFrom u) × (rootOr (nameFrom u) ≡ u)
+    two : (u : Unit {0} ⊎ Name) → Either (λ u. u ≡ tt) (OneOrMore Label) u
+        → Labels (nameFrom u) × (rootOr (nameFrom u) ≡ u)
     two (inl u) h = (tt, refl)
     two (inr []) h = absurd (h .1)
     two (inr (l ∷ n)) h = (h .0, refl)
@@ -293,7 +327,8 @@ signOf (minus n) = inr n
 
 unfoldable pub signedNumber : Codec SignedNumber signedText NoDigit
 unfolding signedText
-signedNumber = kinds plus minus signOf whole (λ n. refl) (λ n. refl) number ("-" ▷ positiveNumber) (λ m n r s h k e. decimal-avoids 45 tt m r _ e)
+signedNumber = kinds plus minus signOf whole (λ n. refl) (λ n. refl) number ("-" ▷ positiveNumber)
+    (λ m n r s h k e. decimal-avoids 45 tt m r _ e)
   where
     whole : (n : Signed) → made plus minus (signOf n) ≡ n
     whole (plus n) = refl
@@ -325,15 +360,18 @@ bare-in x h e f = rw (is-true (printable? x) h, e, f) tt
 bare-out : (x : ℕ) → T (bare? x) → T (printable? x) × (stringOctet x ≡ x ∷ [])
 unfolding bare? stringOctet
 bare-out x h =
-    let k = and-right (printable? x) _ h in
-    (and-left (printable? x) _ h, rw (is-false (eqb x 34) (and-left (not (eqb x 34)) _ k), is-false (eqb x 92) (and-right (not (eqb x 34)) _ k)))
+    let k = and-right (printable? x) _ h in (
+      and-left (printable? x) _ h,
+      rw (is-false (eqb x 34) (and-left (not (eqb x 34)) _ k), is-false (eqb x 92) (and-right (not (eqb x 34)) _ k)),
+    )
 
 -- an octet of a string is taken back, and what is taken is one
 pub stringAt-back : (x : ℕ) (r : List ℕ) → T (printable? x) → stringAt (stringOctet x ++ r) ≡ took x r
 unfolding stringOctet stringAt bare? printable? quoted
 stringAt-back x r h = go (eqb x 34) (eqb x 92) refl refl
   where
-    go : (a b : Bool) → eqb x 34 ≡ a → eqb x 92 ≡ b → stringAt (cond a (ascii "\\\"") (cond b (ascii "\\\\") (x ∷ [])) ++ r) ≡ took x r
+    go : (a b : Bool) → eqb x 34 ≡ a → eqb x 92 ≡ b
+        → stringAt (cond a (ascii "\\\"") (cond b (ascii "\\\\") (x ∷ [])) ++ r) ≡ took x r
     go true b e f = took-same x 34 r e
     go false true e f = took-same x 92 r f
     go false false e f = rw (is-true (bare? x) (bare-in x h e f), stringAt)
@@ -346,7 +384,8 @@ quoted-sound (c ∷ t) = go (eqb c 34) (eqb c 92) refl refl
     same : (y : ℕ) → eqb c y ≡ true → 92 ∷ y ∷ t ≡ 92 ∷ c ∷ t
     same y e = ap (λ z. 92 ∷ z ∷ t) (sym (eqb-true c y e))
 
-    go : (a b : Bool) → eqb c 34 ≡ a → eqb c 92 ≡ b → Holds (λ x r. T (printable? x) × (stringOctet x ++ r ≡ ascii "\\" ++ (c ∷ t))) (quoted (c ∷ t))
+    go : (a b : Bool) → eqb c 34 ≡ a → eqb c 92 ≡ b
+        → Holds (λ x r. T (printable? x) × (stringOctet x ++ r ≡ ascii "\\" ++ (c ∷ t))) (quoted (c ∷ t))
     go true b e f = rw (e, quoted) (found (tt, same 34 e))
     go false true e f = rw (e, quoted, f) (found (tt, same 92 f))
     go false false e f = rw (e, quoted, f) (missed (c ∷ t))

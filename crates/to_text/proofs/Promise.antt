@@ -40,7 +40,8 @@ module _ {s : List ℕ} {lone : Bool} (a : AcceptedMessage s lone) where
   module _ (b l : List ℕ) (z : length l ≡ 0) {n : ℕ} (w : Wrote [] 0 (profileText s) l n) where
     pub measured-long : length (l ++ b) < n → Gives (toText s b) (Refused 10 0) (l ++ b)
     unfolding toText
-    measured-long h = rw (empty l z, accepted-output) (gives-none 10 b (profileText s) (omega (arith, w .place, rw (empty l z) at h)))
+    measured-long h = rw (empty l z, accepted-output)
+        (gives-none 10 b (profileText s) (omega (arith, w .place, rw (empty l z) at h)))
 
     pub measured-text : {b′ : List ℕ} {r : ℕ} → n ≤ length (l ++ b) → Wrote (l ++ b) 0 (profileText s) b′ r
         → Gives (toText s b) (Length n) b′
@@ -51,7 +52,8 @@ module _ {s : List ℕ} {lone : Bool} (a : AcceptedMessage s lone) where
 -- ---- any octets
 -- what the outcome of the search for faults says of the message
 abbrev Outcomes : Outcome → ℕ → Decoded → Type 0
-Outcomes (Length n) opts x = (m : Message) × (x ≡ accepted m) × (opts ≡ count opt? (m .additional)) × (n ≡ length (form m))
+Outcomes (Length n) opts x = (m : Message) × (x ≡ accepted m) × (opts ≡ count opt? (m .additional))
+    × (n ≡ length (form m))
 Outcomes (Refused k p) opts x = x ≡ refused k p
 
 outcomes : (x : Decoded) → Outcomes (scanOf x .outcome) (scanOf x .opts) x
@@ -59,7 +61,9 @@ outcomes (accepted m) = (m, refl, refl, refl)
 outcomes (refused k p) = refl
 
 scanned : (x : Decoded) {r : Scan} {o : Outcome} → r ≡ scanOf x → r .outcome ≡ o → Outcomes o (r .opts) x
-scanned x {r} {o} p q = subst (λ (y : Outcome). Outcomes y (r .opts) x) q (subst (λ (y : Scan). Outcomes (y .outcome) (y .opts) x) (sym p) (outcomes x))
+scanned x {r} {o} p q =
+    subst (λ (y : Outcome). Outcomes y (r .opts) x) q
+    (subst (λ (y : Scan). Outcomes (y .outcome) (y .opts) x) (sym p) (outcomes x))
 
 -- l is what the search for faults leaves of no octets
 module _ (s b l : List ℕ) (z : length l ≡ 0) {x : Scan} (u : Uncompressed s [] x l) where
@@ -68,7 +72,8 @@ module _ (s b l : List ℕ) (z : length l ≡ 0) {x : Scan} (u : Uncompressed s 
   convert-refused {k} {p} q = rw (q, scanned (decode s) (u .answers) q, empty l z) (gives-refusal 10 b k p)
 
   pub convert-accepted : {n : ℕ} → x .outcome ≡ Length n → AcceptedMessage s (eqb (x .opts) 1)
-  convert-accepted q = let (m, e, c, f) = scanned (decode s) (u .answers) q in record { message = m; decodes = e; alone = ap (λ (n : ℕ). eqb n 1) c }
+  convert-accepted q = let (m, e, c, f) = scanned (decode s) (u .answers) q in
+      record { message = m; decodes = e; alone = ap (λ (n : ℕ). eqb n 1) c }
 
   -- how long the text can be at most
   pub convert-bounded : {n : ℕ} → ((i : ℕ) → getD s i 0 < 256) → x .outcome ≡ Length n
@@ -83,5 +88,6 @@ module _ (s b l : List ℕ) (z : length l ≡ 0) {x : Scan} (u : Uncompressed s 
   convert-whole g = rw (empty l z) at g
 
 -- the octets of a slice are known one by one
-pub converts : (c : Call) → ((i : ℕ) → getD (c .input) i 0 < 256) → Gives (toText (c .input) (c .before)) (c .answer) (c .after) → Converts c
+pub converts : (c : Call) → ((i : ℕ) → getD (c .input) i 0 < 256)
+    → Gives (toText (c .input) (c .before)) (c .answer) (c .after) → Converts c
 converts c o g = record { octets = octets-known (c .input) o; promise = g }

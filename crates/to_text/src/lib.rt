@@ -21,8 +21,8 @@ fn deliver_measured(s: &[u8], lone: bool, text: &mut [u8]) -> Outcome
     Outcome::Length(size)
 }
 
-// Writes the text of an accepted message, if it fits. `size` is the length of the message's uncompressed form, which bounds
-// that of its text: the text is measured only where there is less room than this bound.
+// Writes the text of an accepted message, if it fits. `size` is the length of the message's uncompressed form, which
+// bounds that of its text: the text is measured only where there is less room than this bound.
 fn deliver(s: &[u8], lone: bool, size: usize, text: &mut [u8]) -> Outcome
     requires { ⌜ AcceptedMessage (now s) lone × (size ≤ 65535) × (length (profileText (now s)) ≤ 10 * size + 400) ⌝ }
     ensures { λ r. ⌜ Gives (toText (now (s .entry)) (now (text .entry))) r (now (text .exit)) ⌝ }
@@ -35,10 +35,11 @@ fn deliver(s: &[u8], lone: bool, size: usize, text: &mut [u8]) -> Outcome
     Outcome::Length(length)
 }
 
-// Writes the profile text of a message. Every refusal but 10 is found before anything is written, and so is that the text
-// fits.
+// Writes the profile text of a message. Every refusal but 10 is found before anything is written, and so is that the
+// text fits.
 pub fn convert(message: &[u8], text: &mut [u8]) -> Outcome
-    ensures { λ r. ⌜ Converts (record { input = now (message .entry); before = now (text .entry); answer = r; after = now (text .exit) }) ⌝ }
+    ensures { λ r. ⌜ Converts
+        (record { input = now (message .entry); before = now (text .entry); answer = r; after = now (text .exit) }) ⌝ }
 {
     let scan = uncompress(message, &mut text[..0]);
     let outcome = scan.outcome;

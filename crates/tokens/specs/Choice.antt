@@ -12,7 +12,8 @@ use lib.ListN.{length, drop, length-drop}
 use Rattle.octets.specs.Parsed.{Parsed, took, stuck, and-then, or-else, strip}
 use Rattle.strict.specs.Spelt.{made}
 use Rattle.tokens.specs.declared.Cursor.{Cursor}
-use Rattle.tokens.specs.Cursor.{left-of, Safe, Keeps, keeps-same, Passed, Stopped, went-keeps, Finds, stopped, taken, clash}
+use Rattle.tokens.specs.Cursor.{left-of, Safe, Keeps, keeps-same, Passed, Stopped, went-keeps, Finds, stopped}
+use Rattle.tokens.specs.Cursor.{taken, clash}
 use Rattle.tokens.specs.Step.{Found, found-as, found-map}
 use Rattle.tokens.specs.Leaf.{found-same, found-entry}
 
@@ -21,9 +22,12 @@ pub further : (t : List ℕ) (m n : ℕ) → m ≤ length t → n ≤ length t
     → cond (ltb (length (drop n t)) (length (drop m t))) (drop n t) (drop m t) ≡ drop (cond (ltb m n) n m) t
 further t m n h k = go (ltb m n) refl
   where
-    go : (b : Bool) → ltb m n ≡ b → cond (ltb (length (drop n t)) (length (drop m t))) (drop n t) (drop m t) ≡ drop (cond b n m) t
-    go true e = rw (lt-ltb (length (drop n t)) (length (drop m t)) (omega (arith, length-drop n t, length-drop m t, ltb-true m n e)))
-    go false e = rw (le-ltb (length (drop n t)) (length (drop m t)) (omega (arith, length-drop n t, length-drop m t, ltb-false m n e)))
+    go : (b : Bool) → ltb m n ≡ b
+        → cond (ltb (length (drop n t)) (length (drop m t))) (drop n t) (drop m t) ≡ drop (cond b n m) t
+    go true e = rw (lt-ltb (length (drop n t)) (length (drop m t))
+        (omega (arith, length-drop n t, length-drop m t, ltb-true m n e)))
+    go false e = rw (le-ltb (length (drop n t)) (length (drop m t))
+        (omega (arith, length-drop n t, length-drop m t, ltb-false m n e)))
 
 -- a reader that stopped stops at the further of its place and another
 pub record Further (at : ℕ) (c r : Cursor) : Type 0 where
@@ -34,10 +38,21 @@ pub further-goes : {at : ℕ} {c : Cursor} → not (c .spelled) ≡ false → Fu
 further-goes {at} {c} g = record { goes = λ h. refl; stops = λ h. clash h (not-false (c .spelled) g) }
 
 pub further-there : {at : ℕ} {c r : Cursor} → not (c .spelled) ≡ true → c .at < at → Stopped c at r → Further at c r
-further-there {at} {c} g h s = record { goes = λ k. clash (not-true (c .spelled) g) k; stops = λ k. rw (lt-ltb (c .at) at h) s }
+further-there {at} {c} g h s =
+    record { goes = λ k. clash (not-true (c .spelled) g) k; stops = λ k. rw (lt-ltb (c .at) at h) s }
 
 pub further-here : {at : ℕ} {c : Cursor} → at ≤ c .at → Further at c c
-further-here {at} {c} h = record { goes = λ k. refl; stops = λ k. rw (le-ltb (c .at) at h) record { is = k; at = refl; to = refl; meant = refl; small = refl } }
+further-here {at} {c} h =
+    record {
+      goes = λ k. refl;
+      stops = λ k. rw (le-ltb (c .at) at h) record {
+        is = k;
+        at = refl;
+        to = refl;
+        meant = refl;
+        small = refl;
+      };
+    }
 
 pub further-keeps : {t : List ℕ} {at : ℕ} {c r : Cursor} → Safe t c → at ≤ length t → Further at c r → Keeps t c r
 further-keeps {t} {at} {c} {r} h k f = go (c .spelled) refl
@@ -99,10 +114,14 @@ module _ {A : Type 0} {t : List ℕ} (p q : List ℕ → Parsed A) where
           go false a b = b
 
       -- neither: the reader stops at the further place
-      found-neither : {R : A → Type 0} {z : Cursor} → s .spelled ≡ false → z .spelled ≡ false → z .at ≡ cond (ltb (r .at) (s .at)) (s .at) (r .at) → Safe t z → Found (choice p q) R t c z
+      found-neither : {R : A → Type 0} {z : Cursor} → s .spelled ≡ false → z .spelled ≡ false
+          → z .at ≡ cond (ltb (r .at) (s .at)) (s .at) (r .at) → Safe t z → Found (choice p q) R t c z
       found-neither {R} {z} k l e h = record {
         reads = go (c .spelled) (x .reads) (y .reads);
-        moves = record { safe = h; onward = omega (arith, e, x .moves .onward, y .moves .onward, least (ltb (r .at) (s .at))) };
+        moves = record {
+          safe = h;
+          onward = omega (arith, e, x .moves .onward, y .moves .onward, least (ltb (r .at) (s .at)));
+        };
       }
         where
           least : (b : Bool) → c .at ≤ cond b (s .at) (r .at)
@@ -115,7 +134,8 @@ module _ {A : Type 0} {t : List ℕ} (p q : List ℕ → Parsed A) where
           both : {o u : Parsed A} → Finds t P r o → Finds t Q s u → Finds t R z (or-else o u)
           both (taken m v) b = clash g m
           both (stopped m) (taken n v) = clash k n
-          both (stopped m) (stopped n) = rw (further t (r .at) (s .at) (x .moves .safe .inside) (y .moves .safe .inside)) there
+          both (stopped m) (stopped n) =
+              rw (further t (r .at) (s .at) (x .moves .safe .inside) (y .moves .safe .inside)) there
 
           same : {w : List ℕ} → Finds t P r (stuck w) → Finds t Q s (stuck w) → Finds t R z (stuck w)
           same {w} a b = subst (λ u. Finds t R z (stuck u)) (one (ltb (length w) (length w))) (both a b)
@@ -130,50 +150,70 @@ module _ {A : Type 0} {t : List ℕ} (p q : List ℕ → Parsed A) where
           go true a b = both a b
           go false a b = same a b
 
-module _ {A : Type 0} {t : List ℕ} (p q : List ℕ → Parsed A) {P Q : A → Type 0} {c r s z : Cursor} (R : Cursor → A → Type 0) (x : Found p P t c r) (y : Found q Q t c s) where
+module _ {A : Type 0} {t : List ℕ} (p q : List ℕ → Parsed A) {P Q : A → Type 0} {c r s z : Cursor} (R : Cursor → A
+    → Type 0) (x : Found p P t c r) (y : Found q Q t c s) where
   -- the first, where the second stops
-  pub first-further : s .spelled ≡ false → Further (s .at) r z → ((a : A) → P a → R r a) → Found (choice p q) (R z) t c z
+  pub first-further : s .spelled ≡ false → Further (s .at) r z → ((a : A) → P a → R r a)
+      → Found (choice p q) (R z) t c z
   first-further k f h = go (r .spelled) refl
     where
       go : (b : Bool) → r .spelled ≡ b → Found (choice p q) (R z) t c z
       go true g = subst (λ z. Found (choice p q) (R z) t c z) (sym (f .goes g)) (found-first p q (found-as x h) g)
-      go false g = let e = f .stops g in found-neither p q x g y k (e .is) (e .at) (further-keeps (x .moves .safe) (y .moves .safe .inside) f .safe)
+      go false g = let e = f .stops g in
+          found-neither p q x g y k (e .is) (e .at) (further-keeps (x .moves .safe) (y .moves .safe .inside) f .safe)
 
   -- the second, where the first stops
-  pub second-further : r .spelled ≡ false → Further (r .at) s z → ((a : A) → Q a → R s a) → Found (choice p q) (R z) t c z
+  pub second-further : r .spelled ≡ false → Further (r .at) s z → ((a : A) → Q a → R s a)
+      → Found (choice p q) (R z) t c z
   second-further g f h = go (s .spelled) refl
     where
       go : (b : Bool) → s .spelled ≡ b → Found (choice p q) (R z) t c z
       go true k = subst (λ z. Found (choice p q) (R z) t c z) (sym (f .goes k)) (found-second p q x g (found-as y h) k)
-      go false k = let e = f .stops k in found-neither p q x g y k (e .is) (e .at ∙ further-same (s .at) (r .at)) (further-keeps (y .moves .safe) (x .moves .safe .inside) f .safe)
+      go false k = let e = f .stops k in found-neither p q x g y k (e .is) (e .at ∙ further-same (s .at) (r .at))
+          (further-keeps (y .moves .safe) (x .moves .safe .inside) f .safe)
 
 -- ---- things of two kinds
 -- what their parser does
 kinds : {A B C : Type 0} (left : A → C) (right : B → C) (o : Parsed A) (u : Parsed B)
-    → and-then (or-else (and-then o λ a r. took (inl a) r) (and-then u λ b r. took (inr b) r)) (λ v r. took (made left right v) r)
+    → and-then (or-else (and-then o λ a r. took (inl a) r) (and-then u λ b r. took (inr b) r))
+    (λ v r. took (made left right v) r)
     ≡ or-else (and-then o λ a r. took (left a) r) (and-then u λ b r. took (right b) r)
 kinds left right (took a r) u = refl
 kinds left right (stuck w) (took b r) = refl
 kinds left right (stuck w) (stuck r) = refl
 
-abbrev pub either-parse : {A B C : Type 0} (left : A → C) (right : B → C) (p : List ℕ → Parsed A) (q : List ℕ → Parsed B) → List ℕ → Parsed C
-either-parse left right p q w = and-then (or-else (and-then (p w) λ a r. took (inl a) r) (and-then (q w) λ b r. took (inr b) r)) (λ v r. took (made left right v) r)
+abbrev pub either-parse : {A B C : Type 0} (left : A → C) (right : B → C) (p : List ℕ → Parsed A) (q : List ℕ
+    → Parsed B) → List ℕ → Parsed C
+either-parse left right p q w =
+    and-then (or-else (and-then (p w) λ a r. took (inl a) r) (and-then (q w) λ b r. took (inr b) r))
+    (λ v r. took (made left right v) r)
 
-module _ {A B C : Type 0} (left : A → C) (right : B → C) (p : List ℕ → Parsed A) (q : List ℕ → Parsed B) {P : A → Type 0} {t : List ℕ} {c r : Cursor} (x : Found p P t c r) where
-  same : {S : C → Type 0} {z : Cursor} → Found (choice (λ w. and-then (p w) λ a r. took (left a) r) (λ w. and-then (q w) λ b r. took (right b) r)) S t c z → Found (either-parse left right p q) S t c z
-  same = found-same (either-parse left right p q) (λ g. sym (kinds left right (p (drop (c .at) t)) (q (drop (c .at) t))))
+module _ {A B C : Type 0} (left : A → C) (right : B → C) (p : List ℕ → Parsed A) (q : List ℕ → Parsed B) {P : A
+    → Type 0} {t : List ℕ} {c r : Cursor} (x : Found p P t c r) where
+  same : {S : C → Type 0} {z : Cursor}
+      → Found (choice (λ w. and-then (p w) λ a r. took (left a) r) (λ w. and-then (q w) λ b r. took (right b) r)) S t c
+      z → Found (either-parse left right p q) S t c z
+  same = found-same (either-parse left right p q)
+      (λ g. sym (kinds left right (p (drop (c .at) t)) (q (drop (c .at) t))))
 
-  pub either-first : {R : C → Type 0} → r .spelled ≡ true → ((a : A) → P a → R (left a)) → Found (either-parse left right p q) R t c r
+  pub either-first : {R : C → Type 0} → r .spelled ≡ true → ((a : A) → P a → R (left a))
+      → Found (either-parse left right p q) R t c r
   either-first g h = same (found-first _ (λ w. and-then (q w) λ b r. took (right b) r) (found-map left h x) g)
 
   module _ {Q : B → Type 0} {s z : Cursor} (R : Cursor → C → Type 0) (y : Found q Q t c s) where
     -- the first, where the second stops
-    pub either-further : s .spelled ≡ false → Further (s .at) r z → ((a : A) → P a → R r (left a)) → Found (either-parse left right p q) (R z) t c z
-    either-further k f h = same (first-further _ _ R (found-map {Q = R r} left h x) (found-map {Q = λ u. Unit {0}} right (λ b v. tt) y) k f λ a v. v)
+    pub either-further : s .spelled ≡ false → Further (s .at) r z → ((a : A) → P a → R r (left a))
+        → Found (either-parse left right p q) (R z) t c z
+    either-further k f h =
+        same (first-further _ _ R (found-map {Q = R r} left h x)
+        (found-map {Q = λ u. Unit {0}} right (λ b v. tt) y) k f λ a v. v)
 
     -- the second, where the first stops
-    pub either-second : r .spelled ≡ false → Further (r .at) s z → ((b : B) → Q b → R s (right b)) → Found (either-parse left right p q) (R z) t c z
-    either-second g f h = same (second-further _ _ R (found-map {Q = λ u. Unit {0}} left (λ a v. tt) x) (found-map {Q = R s} right h y) g f λ a v. v)
+    pub either-second : r .spelled ≡ false → Further (r .at) s z → ((b : B) → Q b → R s (right b))
+        → Found (either-parse left right p q) (R z) t c z
+    either-second g f h =
+        same (second-further _ _ R (found-map {Q = λ u. Unit {0}} left (λ a v. tt) x)
+        (found-map {Q = R s} right h y) g f λ a v. v)
 
 -- ---- a part that may be missing, and fixed octets in its place
 abbrev pub maybeParse : {A : Type 0} → List ℕ → (List ℕ → Parsed A) → List ℕ → Parsed (Option A)
@@ -186,5 +226,6 @@ module _ {A : Type 0} {l t : List ℕ} {c r : Cursor} (p : List ℕ → Parsed A
   pub maybe-none : {R : Option A → Type 0} → r .spelled ≡ true → R none → Found (maybeParse l p) R t c r
   maybe-none g v = either-first (λ u. none) some _ p missing g λ u h. v
 
-  pub maybe-some : {Q : A → Type 0} {s z : Cursor} (R : Cursor → Option A → Type 0) → r .spelled ≡ false → Found p Q t c s → Further (r .at) s z → ((a : A) → Q a → R s (some a)) → Found (maybeParse l p) (R z) t c z
+  pub maybe-some : {Q : A → Type 0} {s z : Cursor} (R : Cursor → Option A → Type 0) → r .spelled ≡ false
+      → Found p Q t c s → Further (r .at) s z → ((a : A) → Q a → R s (some a)) → Found (maybeParse l p) (R z) t c z
   maybe-some R g y f h = either-second (λ u. none) some _ p missing R y g f h

@@ -41,7 +41,13 @@ pub keeps-same : {t : List ℕ} {c : Cursor} → Safe t c → Keeps t c c
 keeps-same h = record { safe = h; onward = omega arith; to = refl; meant = refl; small = refl }
 
 pub keeps-then : {t : List ℕ} {c r s : Cursor} → Keeps t c r → Keeps t r s → Keeps t c s
-keeps-then k m = record { safe = m .safe; onward = omega (arith, k .onward, m .onward); to = m .to ∙ k .to; meant = m .meant ∙ k .meant; small = m .small ∙ k .small }
+keeps-then k m = record {
+  safe = m .safe;
+  onward = omega (arith, k .onward, m .onward);
+  to = m .to ∙ k .to;
+  meant = m .meant ∙ k .meant;
+  small = m .small ∙ k .small;
+}
 
 -- the reader came to place n, or stopped there
 pub record Went (spelled : Bool) (c : Cursor) (n : ℕ) (r : Cursor) : Type 0 where
@@ -57,7 +63,8 @@ Came = Went true
 abbrev pub Stopped : Cursor → ℕ → Cursor → Type 0
 Stopped = Went false
 
-pub went-keeps : {b : Bool} {t : List ℕ} {c r : Cursor} {n : ℕ} → Safe t c → Went b c n r → c .at ≤ n → n ≤ length t → Keeps t c r
+pub went-keeps : {b : Bool} {t : List ℕ} {c r : Cursor} {n : ℕ} → Safe t c → Went b c n r → c .at ≤ n → n ≤ length t
+    → Keeps t c r
 went-keeps f s h k = record {
   safe = record { inside = omega (arith, s .at); room = omega (arith, s .to, f .room) };
   onward = omega (arith, s .at);
@@ -84,7 +91,8 @@ module _ {A : Type 0} {t : List ℕ} {P : A → Type 0} {r : Cursor} where
   pub reads-stop : {o : Parsed A} {n : ℕ} → o ≡ stuck (drop n t) → r .spelled ≡ false → r .at ≡ n → Finds t P r o
   reads-stop e g p = rw (e, ← p) (stopped g)
 
-  pub reads-took : {o : Parsed A} {a : A} {n : ℕ} → o ≡ took a (drop n t) → r .spelled ≡ true → r .at ≡ n → P a → Finds t P r o
+  pub reads-took : {o : Parsed A} {a : A} {n : ℕ} → o ≡ took a (drop n t) → r .spelled ≡ true → r .at ≡ n → P a
+      → Finds t P r o
   reads-took e g p v = rw (e, ← p) (taken g v)
 
   pub reads-as : {Q : A → Type 0} {o : Parsed A} → Finds t P r o → ((a : A) → P a → Q a) → Finds t Q r o
@@ -92,7 +100,8 @@ module _ {A : Type 0} {t : List ℕ} {P : A → Type 0} {r : Cursor} where
   reads-as (taken {a} g v) f = taken g (f a v)
 
   -- the same place, with more done
-  pub reads-at : {Q : A → Type 0} {s : Cursor} {o : Parsed A} → Finds t P r o → s .spelled ≡ r .spelled → s .at ≡ r .at → ((a : A) → P a → Q a) → Finds t Q s o
+  pub reads-at : {Q : A → Type 0} {s : Cursor} {o : Parsed A} → Finds t P r o → s .spelled ≡ r .spelled → s .at ≡ r .at
+      → ((a : A) → P a → Q a) → Finds t Q s o
   reads-at {Q} {s} (stopped g) e d f = rw (← d) (stopped (e ∙ g))
   reads-at {Q} {s} (taken {a} g v) e d f = rw (← d) (taken (e ∙ g) (f a v))
 
@@ -137,13 +146,17 @@ module _ {l t : List ℕ} {c : Cursor} {at i : ℕ} (m : Matching l t c at i) wh
     }
 
     stops : strip (drop i l) (drop at t) ≡ stuck (drop at t) → Stopped c at r → Passed l t c r
-    stops e s = record { left = rw (s .is, s .at, not-false (c .spelled) g, m .goes, e); keeps = went-keeps f s (omega (arith, m .place)) (m .within) }
+    stops e s = record {
+      left = rw (s .is, s .at, not-false (c .spelled) g, m .goes, e);
+      keeps = went-keeps f s (omega (arith, m .place)) (m .within);
+    }
 
     pub matching-short : i < length l → length t ≤ at → Stopped c at r → Passed l t c r
     matching-short h k = stops (rw (drop-one l i h, drop-of-length-le t k))
 
     pub matching-other : i < length l → at < length t → (getD t at 0 ≡ getD l i 0 → ⊥) → Stopped c at r → Passed l t c r
-    matching-other h k d = stops (rw (drop-one l i h, drop-one t at k, ne-eqb (getD l i 0) (getD t at 0) (λ e. d (sym e))))
+    matching-other h k d =
+        stops (rw (drop-one l i h, drop-one t at k, ne-eqb (getD l i 0) (getD t at 0) (λ e. d (sym e))))
 
 pub passed-stuck : (l t : List ℕ) (c : Cursor) → Safe t c → not (c .spelled) ≡ true → Passed l t c c
 passed-stuck l t c h g = record { left = rw (not-true (c .spelled) g); keeps = keeps-same h }

@@ -20,7 +20,8 @@ use Rattle.tokens.specs.Number.{capped}
 use Rattle.tokens.specs.Signed.{TtlKept}
 
 -- what was read was judged and written, for every value that it may have been
-pub record Done {A : Type 0} (P : A → Type 0) (ok : A → Bool) (wire : A → List ℕ) (c : Cursor) (b : List ℕ) (r : Cursor) (b′ : List ℕ) : Type 0 where
+pub record Done {A : Type 0} (P : A → Type 0) (ok : A → Bool) (wire : A → List ℕ) (c : Cursor) (b : List ℕ) (r : Cursor)
+    (b′ : List ℕ) : Type 0 where
   pub at : r .at ≡ c .at
   pub spelled : r .spelled ≡ c .spelled
   pub room : r .to ≤ 65535
@@ -56,7 +57,8 @@ module _ {A : Type 0} {P : A → Type 0} {ok : A → Bool} {wire : A → List �
   }
 
   -- in range: these octets
-  done-in : {xs : List ℕ} → ((a : A) → P a → (ok a ≡ true) × (wire a ≡ xs)) → Emits xs c b r b′ → Done P ok wire c b r b′
+  done-in : {xs : List ℕ} → ((a : A) → P a → (ok a ≡ true) × (wire a ≡ xs)) → Emits xs c b r b′
+      → Done P ok wire c b r b′
   done-in fits e = record {
     at = e .at;
     spelled = e .spelled;
@@ -70,7 +72,8 @@ module _ {A : Type 0} {P : A → Type 0} {ok : A → Bool} {wire : A → List �
 
 -- octets for which n places were held: past the limit, or written
 module _ {A : Type 0} {P : A → Type 0} {wire : A → List ℕ} {n : ℕ} {c r : Cursor} (h : Held n c r) {b : List ℕ} where
-  pub done-past : not (r .small) ≡ true → ((a : A) → P a → leb (c .to + length (wire a)) 65535 ≡ leb (c .to + n) 65535) → Done P (λ a. true) wire c b r b
+  pub done-past : not (r .small) ≡ true → ((a : A) → P a → leb (c .to + length (wire a)) 65535 ≡ leb (c .to + n) 65535)
+      → Done P (λ a. true) wire c b r b
   done-past e same = record {
     at = h .at;
     spelled = h .spelled;
@@ -82,14 +85,19 @@ module _ {A : Type 0} {P : A → Type 0} {wire : A → List ℕ} {n : ℕ} {c r 
     };
   }
 
-  pub done-held : {b′ : List ℕ} {e : ℕ} → ((a : A) → P a → (length (wire a) ≡ n) × Wrote b (c .to) (wire a) b′ e) → Done P (λ a. true) wire c b r b′
+  pub done-held : {b′ : List ℕ} {e : ℕ} → ((a : A) → P a → (length (wire a) ≡ n) × Wrote b (c .to) (wire a) b′ e)
+      → Done P (λ a. true) wire c b r b′
   done-held w = record {
     at = h .at;
     spelled = h .spelled;
     room = h .room;
     put = λ a p.
         let l = w a p .0 in
-        record { meant = h .meant ∙ sym (and-true (c .meant)); small = λ k. rw l (h .small); wrote = λ k s. record { place = h .to s ∙ rw l; text = w a p .1 .text } };
+        record {
+          meant = h .meant ∙ sym (and-true (c .meant));
+          small = λ k. rw l (h .small);
+          wrote = λ k s. record { place = h .to s ∙ rw l; text = w a p .1 .text };
+        };
   }
 
 module _ {A : Type 0} {P : A → Type 0} {ok : A → Bool} {wire : A → List ℕ} {fits : Bool} {xs : List ℕ} {c r : Cursor}
@@ -138,11 +146,19 @@ module _ {bits : ℕ} {fits : Bool} {c r : Cursor} {b : List ℕ} where
 
 -- ---- read, and then judged and written
 module _ {A : Type 0} {ok : A → Bool} {wire : A → List ℕ} {t b b′ : List ℕ} {c s : Cursor} where
-  pub found-done : {P : A → Type 0} {p : List ℕ → Parsed A} {r : Cursor} → Found p P t c r → Keeps t c r → Done P ok wire r b s b′ → Step ok wire p t c b s b′
+  pub found-done : {P : A → Type 0} {p : List ℕ → Parsed A} {r : Cursor} → Found p P t c r → Keeps t c r
+      → Done P ok wire r b s b′ → Step ok wire p t c b s b′
   found-done x k d = found-at x (d .at) (d .spelled) (d .room) λ a h. put-from k (d .put a h)
 
 -- one thing after another, at the same place of the text
-pub done-then : {A B : Type 0} {P : A → Type 0} {Q : B → Type 0} {ok : A → Bool} {ok′ : B → Bool} {wire : A → List ℕ} {wire′ : B → List ℕ} {c r s : Cursor} {b b′ b″ : List ℕ}
+pub done-then : {A B : Type 0} {P : A → Type 0} {Q : B → Type 0} {ok : A → Bool} {ok′ : B → Bool} {wire : A
+    → List ℕ} {wire′ : B → List ℕ} {c r s : Cursor} {b b′ b″ : List ℕ}
     → Done P ok wire c b r b′ → Done Q ok′ wire′ r b′ s b″
-    → Done {A = A × B} (λ u. P (u .0) × Q (u .1)) (λ u. ok (u .0) && ok′ (u .1)) (λ u. wire (u .0) ++ wire′ (u .1)) c b s b″
-done-then p q = record { at = q .at ∙ p .at; spelled = q .spelled ∙ p .spelled; room = q .room; put = λ u h. put-then (p .put (u .0) (h .0)) (q .put (u .1) (h .1)) }
+    → Done {A = A × B} (λ u. P (u .0) × Q (u .1)) (λ u. ok (u .0) && ok′ (u .1)) (λ u. wire (u .0)
+    ++ wire′ (u .1)) c b s b″
+done-then p q = record {
+  at = q .at ∙ p .at;
+  spelled = q .spelled ∙ p .spelled;
+  room = q .room;
+  put = λ u h. put-then (p .put (u .0) (h .0)) (q .put (u .1) (h .1));
+}

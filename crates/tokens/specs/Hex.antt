@@ -14,11 +14,13 @@ use Rattle.octets.specs.Parsed.{took, stuck, and-then, otherwise, strip}
 use Rattle.octets.specs.Codec.{Avoids}
 use Rattle.octets.specs.Overlay.{each-append, each-single}
 use Rattle.octets.specs.Decimal.{digit?, digit-in}
-use Rattle.octets.specs.Hexadecimal.{hexDigit, hexDigit-in, hexOctet, capital?, unhex, unhex-back, octetCodec, hexOctet-avoids, hex}
+use Rattle.octets.specs.Hexadecimal.{hexDigit, hexDigit-in, hexOctet, capital?, unhex, unhex-back, octetCodec}
+use Rattle.octets.specs.Hexadecimal.{hexOctet-avoids, hex}
 use Rattle.octets.specs.Fields.{drop-one}
 use Rattle.tokens.specs.declared.Cursor.{Cursor}
 use Rattle.tokens.specs.declared.Span.{Span}
-use Rattle.tokens.specs.Cursor.{left-of, rest, Safe, Keeps, keeps-same, keeps-then, Passed, Came, Stopped, went-keeps, Finds, stopped, taken, clash}
+use Rattle.tokens.specs.Cursor.{left-of, rest, Safe, Keeps, keeps-same, keeps-then, Passed, Came, Stopped}
+use Rattle.tokens.specs.Cursor.{went-keeps, Finds, stopped, taken, clash}
 use Rattle.tokens.specs.Step.{Found, found-stuck, moves}
 use Rattle.tokens.specs.Many.{run-of, Going, going-start, going-more, going-stop, many-once}
 use Rattle.tokens.specs.Leaf.{found-stop, stays-at, strip-at-once, strip-first}
@@ -64,7 +66,11 @@ module _ {x : ℕ} where
   unfolding unhex
   is-none f g = record {
     yes = λ e. clash refl e;
-    no = λ e w. rw (is-false (digit? x) (not-T (digit? x) λ u. let z = digit-in x u in f (z .0) (z .1)), unhex, is-false (capital? x) (not-T (capital? x) no));
+    no = λ e w. rw (
+      is-false (digit? x) (not-T (digit? x) λ u. let z = digit-in x u in f (z .0) (z .1)),
+      unhex,
+      is-false (capital? x) (not-T (capital? x) no),
+    );
   }
     where
       no : T (capital? x) → ⊥
@@ -115,15 +121,26 @@ pair-text n m h =
     let q : (n * 16 + m) % 16 ≡ m = omega arith in
     rw (p, q)
 
-digit-there : (t : List ℕ) (at : ℕ) → at < length t → (x : HexValue (getD t at 0)) → unhex (drop at t) ≡ took (x .n) (drop (at + 1) t)
-digit-there t at h x = rw (drop-one t at h) (subst (λ y. unhex (y ∷ drop (at + 1) t) ≡ took (x .n) (drop (at + 1) t)) (x .is) (unhex-back (x .n) (drop (at + 1) t) (x .small)))
+digit-there : (t : List ℕ) (at : ℕ) → at < length t → (x : HexValue (getD t at 0))
+    → unhex (drop at t) ≡ took (x .n) (drop (at + 1) t)
+digit-there t at h x =
+    rw (drop-one t at h) (subst (λ y. unhex (y ∷ drop (at + 1) t) ≡ took (x .n) (drop (at + 1) t)) (x .is)
+    (unhex-back (x .n) (drop (at + 1) t) (x .small)))
 
 -- two octets more of a text
-two-more : (t : List ℕ) (from at : ℕ) → from ≤ at → at + 1 < length t → take (at + 2 - from) (drop from t) ≡ take (at - from) (drop from t) ++ (getD t at 0 ∷ getD t (at + 1) 0 ∷ [])
+two-more : (t : List ℕ) (from at : ℕ) → from ≤ at → at + 1 < length t
+    → take (at + 2 - from) (drop from t) ≡ take (at - from) (drop from t) ++ (getD t at 0 ∷ getD t (at + 1) 0 ∷ [])
 two-more t from at h k =
     let p : at + 2 - from ≡ at - from + 2 = omega arith in
     let q : from + (at - from) ≡ at = omega arith in
-    rw (p, take-add (at - from) 2 (drop from t), drop-drop (at - from) from t, q, drop-one t at (omega arith), drop-one t (at + 1) k)
+    rw (
+      p,
+      take-add (at - from) 2 (drop from t),
+      drop-drop (at - from) from t,
+      q,
+      drop-one t at (omega arith),
+      drop-one t (at + 1) k,
+    )
 
 -- ---- the quote
 pub record Quoted (t : List ℕ) (c : Cursor) (at : ℕ) (r : Cursor) : Type 0 where
@@ -134,8 +151,12 @@ module _ {t : List ℕ} {c x : Cursor} {at : ℕ} where
   pub came-safe : Safe t c → at ≤ length t → Came c at x → Safe t x
   came-safe f h s = record { inside = omega (arith, s .at); room = omega (arith, s .to, f .room) }
 
-  pub quoted : {r : Cursor} → Safe t c → c .at ≤ at → at ≤ length t → Came c at x → Passed (34 ∷ []) t x r → Quoted t c at r
-  quoted f h k s q = record { left = rw (s .is, s .at) at (q .left); keeps = keeps-then (went-keeps f s h k) (q .keeps) }
+  pub quoted : {r : Cursor} → Safe t c → c .at ≤ at → at ≤ length t → Came c at x → Passed (34 ∷ []) t x r
+      → Quoted t c at r
+  quoted f h k s q = record {
+    left = rw (s .is, s .at) at (q .left);
+    keeps = keeps-then (went-keeps f s h k) (q .keeps);
+  }
 
 -- the reader is at the place or one past it
 quoted-near : {t : List ℕ} {c r : Cursor} {at : ℕ} → at ≤ length t → Quoted t c at r → (at ≤ r .at) × (r .at ≤ at + 1)
@@ -182,14 +203,30 @@ pairs-start t c h = record {
 
 module _ {t : List ℕ} {c : Cursor} {at : ℕ} (w : Pairs t c at) where
   run-here : {r : Cursor} → HexRun t (record { cursor = r; from = c .at; end = at }) (w .l)
-  run-here = record { digits = w .digits; octets = w .octets; ordered = omega (arith, w .long); within = w .within; long = w .long }
+  run-here = record {
+    digits = w .digits;
+    octets = w .octets;
+    ordered = omega (arith, w .long);
+    within = w .within;
+    long = w .long;
+  }
 
   module _ {b : Bool} (p : HexAt t at b) where
     -- no digit: the quote, or the reader stops there
-    pub pairs-close : {r : Cursor} → Safe t c → not (c .spelled) ≡ false → not b ≡ true → Quoted t c at r → HexRead t c (record { cursor = r; from = c .at; end = at })
+    pub pairs-close : {r : Cursor} → Safe t c → not (c .spelled) ≡ false → not b ≡ true → Quoted t c at r
+        → HexRead t c (record { cursor = r; from = c .at; end = at })
     unfolding hex
     pairs-close {r} f g k q = record {
-      found = record { reads = rw (not-false (c .spelled) g, w .goes .goes, many-once octetCodec 34 no-quote no-octet (drop at t), pair-none (drop at t) (p .no (not-true b k)), ← (q .left)) (go (r .spelled) refl (q .left)); moves = moves (q .keeps) };
+      found = record {
+        reads = rw (
+          not-false (c .spelled) g,
+          w .goes .goes,
+          many-once octetCodec 34 no-quote no-octet (drop at t),
+          pair-none (drop at t) (p .no (not-true b k)),
+          ← (q .left),
+        ) (go (r .spelled) refl (q .left));
+        moves = moves (q .keeps);
+      };
       keeps = q .keeps;
       from = refl;
       end = let n = quoted-near (w .within) q in omega (arith, w .long, n .0, n .1);
@@ -198,7 +235,9 @@ module _ {t : List ℕ} {c : Cursor} {at : ℕ} (w : Pairs t c at) where
     }
       where
         go : (d : Bool) → r .spelled ≡ d → left-of d (drop (r .at) t) ≡ strip (34 ∷ []) (drop at t)
-            → Finds t (HexRun t (record { cursor = r; from = c .at; end = at })) r (and-then (otherwise (and-then (left-of d (drop (r .at) t)) λ u r. took [] r) (stuck (drop at t))) λ u r. took (w .l ++ u) r)
+            → Finds t (HexRun t (record { cursor = r; from = c .at; end = at })) r
+            (and-then (otherwise (and-then (left-of d (drop (r .at) t)) λ u r. took [] r) (stuck (drop at t))) λ u
+            r. took (w .l ++ u) r)
         go true e d = rw (append-nil) (taken e run-here)
         go false e d = rw (stays-at (strip-at-once 34 (drop at t)) (sym d)) (stopped e)
 
@@ -211,10 +250,15 @@ module _ {t : List ℕ} {c : Cursor} {at : ℕ} (w : Pairs t c at) where
 
       module _ {e : Bool} (q : HexAt t (at + 1) e) where
         -- a digit, and no second one
-        pub pairs-half : {r : Cursor} → Safe t c → not (c .spelled) ≡ false → not e ≡ true → Stopped c (at + 1) r → HexRead t c (record { cursor = r; from = c .at; end = at })
+        pub pairs-half : {r : Cursor} → Safe t c → not (c .spelled) ≡ false → not e ≡ true → Stopped c (at + 1) r
+            → HexRead t c (record { cursor = r; from = c .at; end = at })
         unfolding hex
         pairs-half f g h s = record {
-          found = found-stop f (not-false (c .spelled) g) (going-stop octetCodec 34 no-quote no-octet (w .goes) (λ d. omega (arith, first .is, hexDigit-in (first .n) (first .small) .0)) (pair-half (drop at t) (digit-there t at pairs-inside first) (q .no (not-true e h)))) (omega (arith, w .long)) (omega (arith, pairs-inside)) s;
+          found = found-stop f (not-false (c .spelled) g)
+              (going-stop octetCodec 34 no-quote no-octet (w .goes)
+              (λ d. omega (arith, first .is, hexDigit-in (first .n) (first .small) .0))
+              (pair-half (drop at t) (digit-there t at pairs-inside first) (q .no (not-true e h))))
+              (omega (arith, w .long)) (omega (arith, pairs-inside)) s;
           keeps = went-keeps f s (omega (arith, w .long)) (omega (arith, pairs-inside));
           from = refl;
           end = omega (arith, w .long, s .at);
@@ -233,15 +277,27 @@ module _ {t : List ℕ} {c : Cursor} {at : ℕ} (w : Pairs t c at) where
             let two : at + 1 + 1 ≡ at + 2 = omega arith in
             record {
               l = w .l ++ (x ∷ []);
-              goes = going-more octetCodec 34 no-quote no-octet (w .goes) (pair-took (drop at t) (digit-there t at pairs-inside first) (rw two at (digit-there t (at + 1) (pairs-room h) second)));
-              digits = two-more t (c .at) at (omega (arith, w .long)) (pairs-room h) ∙ rw (w .digits, each-append, each-single, pair-text (first .n) (second .n) (second .small), first .is, second .is);
-              octets = All-append (λ x. x < 256) (w .l) (x ∷ []) (w .octets) (omega (arith, first .small, second .small), tt);
+              goes = going-more octetCodec 34 no-quote no-octet (w .goes)
+                  (pair-took (drop at t) (digit-there t at pairs-inside first)
+                  (rw two at (digit-there t (at + 1) (pairs-room h) second)));
+              digits = two-more t (c .at) at (omega (arith, w .long)) (pairs-room h)
+                  ∙ rw (
+                    w .digits,
+                    each-append,
+                    each-single,
+                    pair-text (first .n) (second .n) (second .small),
+                    first .is,
+                    second .is,
+                  );
+              octets = All-append (λ x. x < 256) (w .l) (x ∷ []) (w .octets)
+                  (omega (arith, first .small, second .small), tt);
               within = omega (arith, pairs-room h);
               long = rw length-append (omega (arith, w .long));
             }
 
 -- a reader that has stopped
-pub hex-stuck : {t : List ℕ} {c : Cursor} → Safe t c → not (c .spelled) ≡ true → HexRead t c (record { cursor = c; from = c .at; end = c .at })
+pub hex-stuck : {t : List ℕ} {c : Cursor} → Safe t c → not (c .spelled) ≡ true
+    → HexRead t c (record { cursor = c; from = c .at; end = c .at })
 hex-stuck {t} {c} h g = record {
   found = found-stuck (hex .parse) t c h (not-true (c .spelled) g);
   keeps = keeps-same h;

@@ -8,23 +8,29 @@ use lib.Dec.{eqb}
 use lib.ListN.{length, drop}
 use Rattle.octets.specs.Parsed.{Parsed, took, stuck, and-then, strip, strip-sound, strip-back, held, took≢stuck}
 use Rattle.tokens.specs.declared.Cursor.{Cursor}
-use Rattle.tokens.specs.Cursor.{left-of, Safe, Passed, Came, Stopped, went-keeps, Finds, stopped, taken, reads-took, reads-stop}
+use Rattle.tokens.specs.Cursor.{left-of, Safe, Passed, Came, Stopped, went-keeps, Finds, stopped, taken}
+use Rattle.tokens.specs.Cursor.{reads-took, reads-stop}
 use Rattle.tokens.specs.Step.{then-then, Found, moves, found-lit}
 
 module _ {A : Type 0} {P : A → Type 0} {p : List ℕ → Parsed A} {t : List ℕ} {c r : Cursor} where
   -- it took a value, and came to place n
-  pub found-took : {a : A} {n : ℕ} → Safe t c → c .spelled ≡ true → p (drop (c .at) t) ≡ took a (drop n t) → c .at ≤ n → n ≤ length t → Came c n r → P a → Found p P t c r
-  found-took f g e h k s v = record { reads = reads-took (rw g e) (s .is) (s .at) v; moves = moves (went-keeps f s h k) }
+  pub found-took : {a : A} {n : ℕ} → Safe t c → c .spelled ≡ true → p (drop (c .at) t) ≡ took a (drop n t) → c .at ≤ n
+      → n ≤ length t → Came c n r → P a → Found p P t c r
+  found-took f g e h k s v =
+      record { reads = reads-took (rw g e) (s .is) (s .at) v; moves = moves (went-keeps f s h k) }
 
   -- it stopped at place n
-  pub found-stop : {n : ℕ} → Safe t c → c .spelled ≡ true → p (drop (c .at) t) ≡ stuck (drop n t) → c .at ≤ n → n ≤ length t → Stopped c n r → Found p P t c r
+  pub found-stop : {n : ℕ} → Safe t c → c .spelled ≡ true → p (drop (c .at) t) ≡ stuck (drop n t) → c .at ≤ n
+      → n ≤ length t → Stopped c n r → Found p P t c r
   found-stop f g e h k s = record { reads = reads-stop (rw g e) (s .is) (s .at); moves = moves (went-keeps f s h k) }
 
   -- another parser that answers the same there
-  pub found-same : (q : List ℕ → Parsed A) → (c .spelled ≡ true → p (drop (c .at) t) ≡ q (drop (c .at) t)) → Found p P t c r → Found q P t c r
+  pub found-same : (q : List ℕ → Parsed A) → (c .spelled ≡ true → p (drop (c .at) t) ≡ q (drop (c .at) t))
+      → Found p P t c r → Found q P t c r
   found-same q e x = record { reads = go (c .spelled) e (x .reads); moves = x .moves }
     where
-      go : (b : Bool) → (b ≡ true → p (drop (c .at) t) ≡ q (drop (c .at) t)) → Finds t P r (and-then (left-of b (drop (c .at) t)) (λ u w. p w))
+      go : (b : Bool) → (b ≡ true → p (drop (c .at) t) ≡ q (drop (c .at) t))
+          → Finds t P r (and-then (left-of b (drop (c .at) t)) (λ u w. p w))
           → Finds t P r (and-then (left-of b (drop (c .at) t)) (λ u w. q w))
       go true e y = subst (Finds t P r) (e refl) y
       go false e y = y
@@ -36,7 +42,11 @@ rowParser title a w = and-then (strip title w) λ u r. took a r
 
 module _ {l t : List ℕ} {c r : Cursor} (q : Passed l t c r) where
   pub found-entry : {A : Type 0} {P : A → Type 0} (a : A) → P a → Found (rowParser l a) P t c r
-  found-entry {A} {P} a v = found-lit {p = λ w. took a w} q record { reads = go (r .spelled) refl; moves = record { safe = q .keeps .safe; onward = omega arith } }
+  found-entry {A} {P} a v =
+      found-lit {p = λ w. took a w} q record {
+        reads = go (r .spelled) refl;
+        moves = record { safe = q .keeps .safe; onward = omega arith };
+      }
     where
       go : (b : Bool) → r .spelled ≡ b → Finds t P r (and-then (left-of b (drop (r .at) t)) (λ u w. took a w))
       go true e = taken e v
@@ -46,7 +56,8 @@ module _ {l t : List ℕ} {c r : Cursor} (q : Passed l t c r) where
   pub passed-took : r .spelled ≡ true → strip l (drop (c .at) t) ≡ took tt (drop (r .at) t)
   passed-took g = go (c .spelled) (rw g at (q .left))
     where
-      go : (b : Bool) → took tt (drop (r .at) t) ≡ and-then (left-of b (drop (c .at) t)) (λ u w. strip l w) → strip l (drop (c .at) t) ≡ took tt (drop (r .at) t)
+      go : (b : Bool) → took tt (drop (r .at) t) ≡ and-then (left-of b (drop (c .at) t)) (λ u w. strip l w)
+          → strip l (drop (c .at) t) ≡ took tt (drop (r .at) t)
       go true e = sym e
       go false e = absurd (took≢stuck e)
 
@@ -64,11 +75,13 @@ strip-append (x ∷ l) m (y ∷ w) = go (eqb x y) (strip-append l m w)
     go true e = e
     go false e = refl
 
-pub found-lits : {A : Type 0} {P : A → Type 0} {p : List ℕ → Parsed A} {t : List ℕ} {c r s : Cursor} (l m : List ℕ) → Passed (l ++ m) t c r → Found p P t r s
+pub found-lits : {A : Type 0} {P : A → Type 0} {p : List ℕ → Parsed A} {t : List ℕ} {c r s : Cursor} (l m : List ℕ)
+    → Passed (l ++ m) t c r → Found p P t r s
     → Found (λ w. and-then (strip l w) λ u w. and-then (strip m w) λ v r. p r) P t c s
 found-lits {p = p} {t = t} {c = c} l m q x =
     let w = drop (c .at) t in
-    found-same _ (λ g. ap (λ (o : Parsed (Unit {0})). and-then o λ v r. p r) (strip-append l m w) ∙ then-then (strip l w) (λ u r. strip m r) (λ v r. p r)) (found-lit q x)
+    found-same _ (λ g. ap (λ (o : Parsed (Unit {0})). and-then o λ v r. p r) (strip-append l m w)
+    ∙ then-then (strip l w) (λ u r. strip m r) (λ v r. p r)) (found-lit q x)
 
 -- one octet: it is there, or the reader stops before it
 pub strip-first : (x : ℕ) (w r : List ℕ) → strip (x ∷ []) w ≡ took tt r → w ≡ x ∷ r

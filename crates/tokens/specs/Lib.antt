@@ -1,4 +1,5 @@
--- The tokens of a text, read one after another: fixed octets, numbers, names, strings, hexadecimal; and what is written of them.
+-- The tokens of a text, read one after another: fixed octets, numbers, names, strings, hexadecimal; and what is written
+-- of them.
 pub mod Cursor
 pub mod Step
 pub mod Many

@@ -6,7 +6,8 @@ use Prim.Native.Nat.{ℕ, zero, suc, _+_, _≤_, _<_}
 use native.Mathlib.Omega.{arith}
 use borrow.Author.Tests.{eq-eqb}
 use lib.ListN.{length, drop, getD, drop-of-length-le, length-append}
-use Rattle.octets.specs.Parsed.{Parsed, took, stuck, and-then, otherwise, strip, Holds, missed, found, held, is-stuck, strip-sound}
+use Rattle.octets.specs.Parsed.{Parsed, took, stuck, and-then, otherwise, strip, Holds, missed, found, held, is-stuck}
+use Rattle.octets.specs.Parsed.{strip-sound}
 use Rattle.octets.specs.Codec.{Avoids, Codec, repeated}
 use Rattle.octets.specs.Fields.{drop-one}
 
@@ -16,11 +17,13 @@ le-or-lt (suc a) zero = inr (omega arith)
 le-or-lt (suc a) (suc b) = ⊎-elim (λ p. inl (omega arith)) (λ q. inr (omega arith)) (le-or-lt a b)
 
 -- what the parser of `many` answers
-abbrev pub run-of : {A : Type 0} {I : A → Type 0} {f : A → List ℕ} {F : List ℕ → Type 0} → ℕ → Codec I f F → List ℕ → Parsed (List A)
+abbrev pub run-of : {A : Type 0} {I : A → Type 0} {f : A → List ℕ} {F : List ℕ → Type 0} → ℕ → Codec I f F → List ℕ
+    → Parsed (List A)
 run-of stop p t = repeated stop p (length t) t
 
 -- v, what there is to find, is what m finds from place `at` on, after l
-pub record Going {A : Type 0} (m : List ℕ → Parsed (List A)) (t : List ℕ) (v : Parsed (List A)) (at : ℕ) (l : List A) : Type 0 where
+pub record Going {A : Type 0} (m : List ℕ → Parsed (List A)) (t : List ℕ) (v : Parsed (List A)) (at : ℕ)
+    (l : List A) : Type 0 where
   pub goes : v ≡ and-then (m (drop at t)) (λ u r. took (l ++ u) r)
 
 behind-nothing : {A : Type 0} (o : Parsed (List A)) → o ≡ and-then o (λ u r. took ([] ++ u) r)
@@ -30,7 +33,8 @@ behind-nothing (stuck w) = refl
 pub going-start : {A : Type 0} (m : List ℕ → Parsed (List A)) (t : List ℕ) (at : ℕ) → Going m t (m (drop at t)) at []
 going-start m t at = record { goes = behind-nothing (m (drop at t)) }
 
-module _ {A : Type 0} {I : A → Type 0} {f : A → List ℕ} {F : List ℕ → Type 0} (p : Codec I f F) (stop : ℕ) (avoids : Avoids I f stop) (empty : p .parse [] ≡ stuck []) where
+module _ {A : Type 0} {I : A → Type 0} {f : A → List ℕ} {F : List ℕ
+    → Type 0} (p : Codec I f F) (stop : ℕ) (avoids : Avoids I f stop) (empty : p .parse [] ≡ stuck []) where
   abbrev pub Within : List ℕ → A → List ℕ → Type 0
   Within t a r = I a × (f a ++ r ≡ t)
 
@@ -43,13 +47,17 @@ module _ {A : Type 0} {I : A → Type 0} {f : A → List ℕ} {F : List ℕ → 
 
   -- one and the rest
   abbrev front : (List ℕ → Parsed (List A)) → List ℕ → Parsed (List A)
-  front go t = otherwise (and-then (strip (stop ∷ []) t) λ u r. took [] r) (and-then (p .parse t) λ a w. and-then (go w) λ l r. took (a ∷ l) r)
+  front go t = otherwise (and-then (strip (stop ∷ []) t) λ u r. took [] r)
+      (and-then (p .parse t) λ a w. and-then (go w) λ l r. took (a ∷ l) r)
 
   -- two ways to read the rest that agree on shorter texts
-  alike : (g h : List ℕ → Parsed (List A)) (t : List ℕ) → ((w : List ℕ) → length w < length t → g w ≡ h w) → front g t ≡ front h t
+  alike : (g h : List ℕ → Parsed (List A)) (t : List ℕ) → ((w : List ℕ) → length w < length t → g w ≡ h w)
+      → front g t ≡ front h t
   alike g h t same = ap (otherwise (and-then (strip (stop ∷ []) t) λ u r. took [] r)) (go (p .sound t))
     where
-      go : {o : Parsed A} → Holds (Within t) o → and-then o (λ a w. and-then (g w) λ l r. took (a ∷ l) r) ≡ and-then o (λ a w. and-then (h w) λ l r. took (a ∷ l) r)
+      go : {o : Parsed A} → Holds (Within t) o
+          → and-then o (λ a w. and-then (g w) λ l r. took (a ∷ l) r) ≡ and-then o
+          (λ a w. and-then (h w) λ l r. took (a ∷ l) r)
       go (missed w) = refl
       go (found {a} {r} k) = ap (λ (z : Parsed (List A)). and-then z λ l r. took (a ∷ l) r) (same r (shorter t a r k))
 
@@ -60,10 +68,13 @@ module _ {A : Type 0} {I : A → Type 0} {f : A → List ℕ} {F : List ℕ → 
   enough zero (suc m) (x ∷ t) h k = absurd (omega arith)
   enough (suc n) zero [] h k = rw empty
   enough (suc n) zero (x ∷ t) h k = absurd (omega arith)
-  enough (suc n) (suc m) t h k = alike (repeated stop p n) (repeated stop p m) t (λ w l. enough n m w (omega arith) (omega arith))
+  enough (suc n) (suc m) t h k =
+      alike (repeated stop p n) (repeated stop p m) t (λ w l. enough n m w (omega arith) (omega arith))
 
   pub many-once : (t : List ℕ) → run-of stop p t ≡ front (run-of stop p) t
-  many-once t = enough (length t) (suc (length t)) t (omega arith) (omega arith) ∙ alike (repeated stop p (length t)) (run-of stop p) t (λ w l. enough (length t) (length w) w (omega arith) (omega arith))
+  many-once t = enough (length t) (suc (length t)) t (omega arith) (omega arith)
+      ∙ alike (repeated stop p (length t)) (run-of stop p) t
+      (λ w l. enough (length t) (length w) w (omega arith) (omega arith))
 
   module _ {t : List ℕ} {v : Parsed (List A)} {at : ℕ} {l : List A} (g : Going (run-of stop p) t v at l) where
     -- the octet that ends it
@@ -75,13 +86,16 @@ module _ {A : Type 0} {I : A → Type 0} {f : A → List ℕ} {F : List ℕ → 
     turn w e o d = g .goes ∙ rw (many-once (drop at t), e, d)
 
     -- one more
-    pub going-more : {a : A} {n : ℕ} → p .parse (drop at t) ≡ took a (drop n t) → Going (run-of stop p) t v n (l ++ (a ∷ []))
+    pub going-more : {a : A} {n : ℕ} → p .parse (drop at t) ≡ took a (drop n t)
+        → Going (run-of stop p) t v n (l ++ (a ∷ []))
     going-more {a} {n} e =
         let h = held (p .sound (drop at t)) e in
         let s = is-stuck (strip-sound (stop ∷ []) (drop at t)) (λ u r d. avoids a _ r (h .0) (h .1 ∙ sym d)) in
         record { goes = turn (s .0) (s .1) _ e ∙ go (run-of stop p (drop n t)) }
       where
-        go : (o : Parsed (List A)) → and-then (and-then o λ l r. took (a ∷ l) r) (λ u r. took (l ++ u) r) ≡ and-then o (λ u r. took (l ++ (a ∷ []) ++ u) r)
+        go : (o : Parsed (List A))
+            → and-then (and-then o λ l r. took (a ∷ l) r) (λ u r. took (l ++ u) r) ≡ and-then o
+            (λ u r. took (l ++ (a ∷ []) ++ u) r)
         go (took u r) = rw append-assoc
         go (stuck u) = refl
 

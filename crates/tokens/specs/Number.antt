@@ -9,13 +9,15 @@ use lib.Dec.{T, eqb, T-not, not-T, leb, ltb, le→leb, lt→ltb, leb→le, ltb�
 use lib.ListN.{length, drop, getD, drop-of-length-le}
 use Rattle.octets.specs.Bits.{is-true, is-false, both, unequal, and-left, and-right}
 use Rattle.octets.specs.Parsed.{Parsed, took, stuck, and-then, strip}
-use Rattle.octets.specs.Decimal.{digit?, digit-in, digit-test, NoDigit, leading?, run, run-digit, run-stop, positive, natural}
+use Rattle.octets.specs.Decimal.{digit?, digit-in, digit-test, NoDigit, leading?, run, run-digit, run-stop, positive}
+use Rattle.octets.specs.Decimal.{natural}
 use Rattle.octets.specs.Fields.{drop-one}
 use Rattle.tokens.specs.declared.Cursor.{Cursor}
 use Rattle.tokens.specs.declared.Amount.{Amount}
 use Rattle.tokens.specs.Cursor.{Safe, Keeps, keeps-same, keeps-then, Passed, Came, Stopped, went-keeps, clash}
 use Rattle.tokens.specs.Step.{Found, found-as, found-none, found-behind, found-stuck}
-use Rattle.tokens.specs.Leaf.{found-took, found-stop, found-same, found-entry, passed-took, passed-stop, strip-first, strip-not}
+use Rattle.tokens.specs.Leaf.{found-took, found-stop, found-same, found-entry, passed-took, passed-stop}
+use Rattle.tokens.specs.Leaf.{strip-first, strip-not}
 
 -- what is kept of a number: one above 2^63 counts as 2^63, which is more than the octets of any text
 abbrev pub capped : ℕ → ℕ
@@ -76,14 +78,20 @@ positive-first : (w : ℕ) (r : List ℕ) → 0 < w → w ≤ 9 → positive ((4
 unfolding positive
 positive-first w r h k =
     let z : 48 + w - 48 ≡ w = omega arith in
-    rw (is-true (leading? (48 + w)) (both (leb 49 (48 + w)) (ltb (48 + w) 58) (le→leb 49 (48 + w) (omega arith)) (lt→ltb (48 + w) 58 (omega arith))), positive, z)
+    rw (
+      is-true (leading? (48 + w)) (both (leb 49 (48 + w)) (ltb (48 + w) 58) (le→leb 49 (48 + w) (omega arith))
+          (lt→ltb (48 + w) 58 (omega arith))),
+      positive,
+      z,
+    )
 
 positive-none : (x : ℕ) (r : List ℕ) → (49 ≤ x → x ≤ 57 → ⊥) → positive (x ∷ r) ≡ stuck (x ∷ r)
 unfolding positive
 positive-none x r f = rw (is-false (leading? x) (not-T (leading? x) no), positive)
   where
     no : T (leading? x) → ⊥
-    no u = f (leb→le 49 x (and-left (leb 49 x) (ltb x 58) u)) (omega (arith, ltb→lt x 58 (and-right (leb 49 x) (ltb x 58) u)))
+    no u = f (leb→le 49 x (and-left (leb 49 x) (ltb x 58) u))
+        (omega (arith, ltb→lt x 58 (and-right (leb 49 x) (ltb x 58) u)))
 
 positive-empty : positive [] ≡ stuck []
 unfolding positive
@@ -140,10 +148,12 @@ module _ {t : List ℕ} {c : Cursor} where
       positive-other l = stops (rw (drop-one t (c .at) k) (positive-none (getD t (c .at) 0) _ no))
         where
           no : 49 ≤ getD t (c .at) 0 → getD t (c .at) 0 ≤ 57 → ⊥
-          no a b = T-not (digit? (getD t (c .at) 0)) (subst (λ b. T (not b)) (sym (q .high l)) tt) (digit-test (getD t (c .at) 0) (omega arith) b)
+          no a b = T-not (digit? (getD t (c .at) 0)) (subst (λ b. T (not b)) (sym (q .high l)) tt)
+              (digit-test (getD t (c .at) 0) (omega arith) b)
 
       pub positive-zero : {r : Amount} → w < 1 → NoNumber c (c .at) r → PositiveRead t c r
-      positive-zero z = stops (rw (drop-one t (c .at) k) (positive-none (getD t (c .at) 0) _ λ a b. omega (arith, q .low (omega arith))))
+      positive-zero z = stops
+          (rw (drop-one t (c .at) k) (positive-none (getD t (c .at) 0) _ λ a b. omega (arith, q .low (omega arith))))
 
     module _ {at value : ℕ} (d : DigitsLoop t c at value) where
       done : {r : Cursor} → NoDigit (drop at t) → Came c at r → PositiveRead t c (record { cursor = r; value = value })
@@ -156,14 +166,17 @@ module _ {t : List ℕ} {c : Cursor} where
       }
 
       -- the text ends, or what comes is no digit
-      pub digits-short : {r : Cursor} → length t ≤ at → Came c at r → PositiveRead t c (record { cursor = r; value = value })
+      pub digits-short : {r : Cursor} → length t ≤ at → Came c at r
+          → PositiveRead t c (record { cursor = r; value = value })
       digits-short l = done (rw (drop-of-length-le t l) tt)
 
-      pub digits-end : {w : ℕ} {r : Cursor} → at < length t → DigitOf (getD t at 0) w → 9 < w → Came c at r → PositiveRead t c (record { cursor = r; value = value })
+      pub digits-end : {w : ℕ} {r : Cursor} → at < length t → DigitOf (getD t at 0) w → 9 < w → Came c at r
+          → PositiveRead t c (record { cursor = r; value = value })
       digits-end k q l = done (rw (drop-one t at k, q .high l) tt)
 
   -- the first digit, and one more
-  pub digits-start : {w : ℕ} → c .at < length t → DigitOf (getD t (c .at) 0) w → w ≤ 9 → 0 < w → DigitsLoop t c (c .at + 1) w
+  pub digits-start : {w : ℕ} → c .at < length t → DigitOf (getD t (c .at) 0) w → w ≤ 9 → 0 < w
+      → DigitsLoop t c (c .at + 1) w
   digits-start {w} k q l z = record {
     n = w;
     goes = rw (drop-one t (c .at) k, q .low l) (positive-first w _ z l);
@@ -173,7 +186,8 @@ module _ {t : List ℕ} {c : Cursor} where
     onward = omega arith;
   }
 
-  pub digits-more : {at value w v : ℕ} → DigitsLoop t c at value → at < length t → DigitOf (getD t at 0) w → w ≤ 9 → v ≡ capped (value * 10 + w) → DigitsLoop t c (at + 1) v
+  pub digits-more : {at value w v : ℕ} → DigitsLoop t c at value → at < length t → DigitOf (getD t at 0) w → w ≤ 9
+      → v ≡ capped (value * 10 + w) → DigitsLoop t c (at + 1) v
   digits-more {at} {value} {w} {v} d k q l e = record {
     n = d .n * 10 + w;
     goes = d .goes ∙ rw (drop-one t at k, q .low l) (run-digit (d .n) w _ (omega arith));
@@ -187,14 +201,17 @@ module _ {t : List ℕ} {c : Cursor} where
 module _ {t : List ℕ} {c z : Cursor} (q : Passed (48 ∷ []) t c z) where
   pub number-zero : z .spelled ≡ true → NumberRead t c (record { cursor = z; value = 0 })
   number-zero g = record {
-    found = found-same natural (λ h. rw (passed-took q g) (sym (natural-zero (drop (c .at) t) (drop (z .at) t) (passed-took q g)))) (found-entry q {P = λ n. 0 ≡ capped n} 0 refl);
+    found = found-same natural
+        (λ h. rw (passed-took q g) (sym (natural-zero (drop (c .at) t) (drop (z .at) t) (passed-took q g))))
+        (found-entry q {P = λ n. 0 ≡ capped n} 0 refl);
     keeps = q .keeps;
     stop = λ e. refl;
   }
 
   pub number-other : {r : Amount} → z .spelled ≡ false → PositiveRead t c r → NumberRead t c r
   number-other {r} g y = record {
-    found = found-same natural (λ h. sym (natural-other (drop (c .at) t) _ (passed-stop q g h))) (found-as (y .found) λ n h. h .1);
+    found = found-same natural (λ h. sym (natural-other (drop (c .at) t) _ (passed-stop q g h)))
+        (found-as (y .found) λ n h. h .1);
     keeps = y .keeps;
     stop = y .stop;
   }

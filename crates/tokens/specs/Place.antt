@@ -19,7 +19,8 @@ byte-past t i h = record { is = sym (List·getD-eq-default t 0 h) }
 
 -- an octet other than 0 is in the text
 pub inside : {t : List ℕ} {at x : ℕ} → Byte t at x → 0 < x → at < length t
-inside {t} {at} e h = ⊎-elim (λ p. absurd (omega (arith, e .is, byte-past t at p .is))) (λ q. q) (le-or-lt (length t) at)
+inside {t} {at} e h =
+    ⊎-elim (λ p. absurd (omega (arith, e .is, byte-past t at p .is))) (λ q. q) (le-or-lt (length t) at)
 
 pub byte-as : {t : List ℕ} {at x y : ℕ} → Byte t at x → x ≡ y → Byte t at y
 byte-as e d = record { is = sym d ∙ e .is }
@@ -33,7 +34,8 @@ pub from-byte : {t : List ℕ} {at x : ℕ} → Byte t at x → at < length t �
 from-byte {t} {at} e h = rw (e .is) (drop-one t at h)
 
 -- fixed octets do not begin at another octet, nor at the end
-pub no-strip : {t : List ℕ} {at x : ℕ} (y : ℕ) (l : List ℕ) → Byte t at x → (x ≡ y → ⊥) → strip (y ∷ l) (drop at t) ≡ stuck (drop at t)
+pub no-strip : {t : List ℕ} {at x : ℕ} (y : ℕ) (l : List ℕ) → Byte t at x → (x ≡ y → ⊥)
+    → strip (y ∷ l) (drop at t) ≡ stuck (drop at t)
 no-strip {t} {at} {x} y l e d = ⊎-elim end other (le-or-lt (length t) at)
   where
     end : length t ≤ at → strip (y ∷ l) (drop at t) ≡ stuck (drop at t)

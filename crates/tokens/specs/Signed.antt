@@ -18,7 +18,8 @@ use Rattle.tokens.specs.declared.Amount.{Amount}
 use Rattle.tokens.specs.declared.Ttl.{Ttl}
 use Rattle.tokens.specs.Cursor.{Keeps, keeps-then, Passed, clash}
 use Rattle.tokens.specs.Step.{Found, found-lit, found-map}
-use Rattle.tokens.specs.Leaf.{found-same, passed-took, passed-stop, strip-first, AtOnce, goes, stays, strip-at-once}
+use Rattle.tokens.specs.Leaf.{found-same, passed-took, passed-stop, strip-first, AtOnce, goes, stays}
+use Rattle.tokens.specs.Leaf.{strip-at-once}
 use Rattle.tokens.specs.Number.{capped, NumberRead, PositiveRead}
 
 -- what is known of a TTL that was read: whether it is in range, and if so its 32 bits
@@ -38,7 +39,8 @@ run-at-once : (n : ℕ) (u w : List ℕ) → AtOnce u (run n w)
 run-at-once n u [] = goes
 run-at-once n u (d ∷ w) = go (digit? d) (run-at-once (n * 10 + (d - 48)) u w)
   where
-    go : (b : Bool) → AtOnce u (run (n * 10 + (d - 48)) w) → AtOnce {A = ℕ} u (elim b [ true ↦ run (n * 10 + (d - 48)) w | false ↦ took n (d ∷ w) ])
+    go : (b : Bool) → AtOnce u (run (n * 10 + (d - 48)) w)
+        → AtOnce {A = ℕ} u (elim b [ true ↦ run (n * 10 + (d - 48)) w | false ↦ took n (d ∷ w) ])
     go true h = h
     go false h = goes
 
@@ -62,10 +64,12 @@ natural-at-once (d ∷ w) = go (eqb d 48)
 
 -- a number, or a minus and a number, as the parser joins them
 abbrev joined : Parsed ℕ → Parsed ℕ → Parsed Signed
-joined o p = and-then (or-else (and-then o λ a r. took (inl a) r) (and-then p λ b r. took (inr b) r)) λ u r. took (made plus minus u) r
+joined o p = and-then (or-else (and-then o λ a r. took (inl a) r) (and-then p λ b r. took (inr b) r)) λ u r. took
+    (made plus minus u) r
 
 -- with no minus there, a number
-signed-plus : (w u : List ℕ) → strip (45 ∷ []) w ≡ stuck u → and-then (natural w) (λ n r. took (plus n) r) ≡ signedNumber .parse w
+signed-plus : (w u : List ℕ) → strip (45 ∷ []) w ≡ stuck u
+    → and-then (natural w) (λ n r. took (plus n) r) ≡ signedNumber .parse w
 unfolding signedNumber
 signed-plus w u e = go (natural-at-once w) (strip-at-once 45 w) e
   where
@@ -73,13 +77,15 @@ signed-plus w u e = go (natural-at-once w) (strip-at-once 45 w) e
     one true = refl
     one false = refl
 
-    go : {o : Parsed ℕ} {s : Parsed (Unit {0})} → AtOnce w o → AtOnce w s → s ≡ stuck u → and-then o (λ n r. took (plus n) r) ≡ joined o (and-then s λ u r. positive r)
+    go : {o : Parsed ℕ} {s : Parsed (Unit {0})} → AtOnce w o → AtOnce w s → s ≡ stuck u
+        → and-then o (λ n r. took (plus n) r) ≡ joined o (and-then s λ u r. positive r)
     go goes y e = refl
     go stays goes e = absurd (took≢stuck e)
     go stays stays e = ap (λ v. stuck v) (one (ltb (length w) (length w)))
 
 -- after a minus, a number that is not 0
-signed-minus : (w r : List ℕ) → strip (45 ∷ []) w ≡ took tt r → and-then (positive r) (λ n r. took (minus n) r) ≡ signedNumber .parse w
+signed-minus : (w r : List ℕ) → strip (45 ∷ []) w ≡ took tt r
+    → and-then (positive r) (λ n r. took (minus n) r) ≡ signedNumber .parse w
 unfolding signedNumber natural positive
 signed-minus w r e = rw (strip-first 45 w r e) (go (positive-at-once r))
   where
@@ -110,7 +116,8 @@ module _ {a : Amount} where
     over = λ e. refl;
   }
 
-  pub plus-fits : {b : ℕ} → a .value ≤ 2147483647 → b ≡ a .value → Plus a (record { cursor = a .cursor; bits = b; fits = true })
+  pub plus-fits : {b : ℕ} → a .value ≤ 2147483647 → b ≡ a .value
+      → Plus a (record { cursor = a .cursor; bits = b; fits = true })
   unfolding ttl? unsigned
   plus-fits h d = record {
     cursor = refl;
@@ -150,7 +157,9 @@ module _ {a : Amount} where
 module _ {t : List ℕ} {c m : Cursor} (q : Passed (45 ∷ []) t c m) {a : Amount} {r : Ttl} where
   pub signed-negative : m .spelled ≡ true → PositiveRead t m a → Minus a r → SignedRead t c r
   signed-negative g y k = record {
-    found = found-same (signedNumber .parse) (λ h. rw (passed-took q g) (signed-minus (drop (c .at) t) (drop (m .at) t) (passed-took q g))) (found-lit q (found-map minus (k .kept) (rw (← (k .cursor)) at (y .found))));
+    found = found-same (signedNumber .parse)
+        (λ h. rw (passed-took q g) (signed-minus (drop (c .at) t) (drop (m .at) t) (passed-took q g)))
+        (found-lit q (found-map minus (k .kept) (rw (← (k .cursor)) at (y .found))));
     keeps = keeps-then (q .keeps) (rw (← (k .cursor)) at (y .keeps));
     stop = λ e. k .none (y .stop (rw (← (k .cursor)) e));
     over = k .over;
@@ -158,7 +167,8 @@ module _ {t : List ℕ} {c m : Cursor} (q : Passed (45 ∷ []) t c m) {a : Amoun
 
   pub signed-number : m .spelled ≡ false → NumberRead t c a → Plus a r → SignedRead t c r
   signed-number g y k = record {
-    found = found-same (signedNumber .parse) (λ h. signed-plus (drop (c .at) t) _ (passed-stop q g h)) (found-map plus (k .kept) (rw (← (k .cursor)) at (y .found)));
+    found = found-same (signedNumber .parse) (λ h. signed-plus (drop (c .at) t) _ (passed-stop q g h))
+        (found-map plus (k .kept) (rw (← (k .cursor)) at (y .found)));
     keeps = rw (← (k .cursor)) at (y .keeps);
     stop = λ e. k .none (y .stop (rw (← (k .cursor)) e));
     over = k .over;

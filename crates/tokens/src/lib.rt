@@ -1,4 +1,5 @@
-// The tokens of a text. What each reader finds is what the parsers of the definitions find, and it stops where they stop.
+// The tokens of a text. What each reader finds is what the parsers of the definitions find, and it stops where they
+// stop.
 ghost use mathlib.Core.Path.{_≡_};
 ghost use mathlib.Core.Bool.{true, false, not, _&&_, _||_};
 ghost use Prim.Native.Nat.{_+_, _-_, _*_, _^_, _<_, _≤_};
@@ -24,8 +25,9 @@ use edns::rcode_names;
 use octets::put_all;
 use octets::wide;
 
-// Where the reader is in a text. `spelled`: all before `at` is within the grammar; if not, nothing more is read, and `at` is the first octet at which no text
-// goes on. `meant`: a message can have the text so far, limits of size aside. `small`: the message so far is within its limit. `to`: where its next octet goes.
+// Where the reader is in a text. `spelled`: all before `at` is within the grammar; if not, nothing more is read, and
+// `at` is the first octet at which no text goes on. `meant`: a message can have the text so far, limits of size aside.
+// `small`: the message so far is within its limit. `to`: where its next octet goes.
 pub struct Cursor {
     pub at: usize,
     pub to: usize,

@@ -103,12 +103,14 @@ reading-numbered t = read (parse t)
     read (took d r) = mean (meaning d)
     read (stuck w) = omega arith
 
-delivered-numbered : (noRoom : ℕ) → 0 < noRoom → (o : Output) (b : List ℕ) → NumberedOut o → Numbered (delivered noRoom o b .answer)
+delivered-numbered : (noRoom : ℕ) → 0 < noRoom → (o : Output) (b : List ℕ) → NumberedOut o
+    → Numbered (delivered noRoom o b .answer)
 unfolding delivered
 delivered-numbered noRoom r (output l) b h = go (leb (length l) (length b))
   where
     left : Bool → Result
-    left t = cond t (record { answer = success (length l); buffer = overwritten l b }) (record { answer = refusal noRoom 0; buffer = b })
+    left t = cond t (record { answer = success (length l); buffer = overwritten l b })
+        (record { answer = refusal noRoom 0; buffer = b })
 
     go : (t : Bool) → Numbered (left t .answer)
     go true = tt
@@ -121,15 +123,23 @@ back (Length n) h = refl
 back (Refused zero p) h = absurd (omega arith)
 back (Refused (suc k) p) h = refl
 
-same : {left : Result} {after : List ℕ} {n v : ℕ} (o : Outcome) → Numbered (left .answer) → Gives left o after → n ≡ cNumber o → v ≡ cValue o → Gives left (outcomeOf n v) after
+same : {left : Result} {after : List ℕ} {n v : ℕ} (o : Outcome) → Numbered (left .answer) → Gives left o after
+    → n ≡ cNumber o → v ≡ cValue o → Gives left (outcomeOf n v) after
 same {left} {after} o h g e f = rw (e, f, back o (subst Numbered (sym (g .answers)) h)) g
 
 -- what the exported functions ensure, from what the conversions ensure
-module _ (s b : List ℕ) {after : List ℕ} {n v : ℕ} (given : Outcome) (e : n ≡ cNumber given) (f : v ≡ cValue given) where
-  pub c-converts : Converts (record { input = s; before = b; answer = given; after = after }) → Converts (record { input = s; before = b; answer = outcomeOf n v; after = after })
+module _ (s b : List ℕ) {after : List ℕ} {n v : ℕ} (given : Outcome) (e : n ≡ cNumber given)
+    (f : v ≡ cValue given) where
+  pub c-converts : Converts (record { input = s; before = b; answer = given; after = after })
+      → Converts (record { input = s; before = b; answer = outcomeOf n v; after = after })
   unfolding toText
-  c-converts c = record { octets = c .octets; promise = same given (delivered-numbered 10 (omega arith) (converted s) b (converted-numbered s)) (c .promise) e f }
+  c-converts c = record {
+    octets = c .octets;
+    promise = same given (delivered-numbered 10 (omega arith) (converted s) b (converted-numbered s))
+        (c .promise) e f;
+  }
 
-  pub c-reads : Reads (record { input = s; before = b; answer = given; after = after }) → Reads (record { input = s; before = b; answer = outcomeOf n v; after = after })
+  pub c-reads : Reads (record { input = s; before = b; answer = given; after = after })
+      → Reads (record { input = s; before = b; answer = outcomeOf n v; after = after })
   unfolding toWire
   c-reads g = same given (delivered-numbered 23 (omega arith) (reading s) b (reading-numbered s)) g e f

@@ -28,20 +28,34 @@ fn value_of(outcome: Outcome) -> u64
     }
 }
 
-// Converts the message to its text: 0, and the text's length in `value`; or the refusal's number, and its place in `value`.
+// Converts the message to its text: 0, and the text's length in `value`; or the refusal's number, and its place in
+// `value`.
 #[no_mangle]
 pub extern "C" fn velvetshelf_to_text(message: &[u8], text: &mut [u8], value: &mut u64) -> u32
-    ensures { λ r. ⌜ Converts (record { input = now (message .entry); before = now (text .entry); answer = outcomeOf r (now (value .exit)); after = now (text .exit) }) ⌝ }
+    ensures { λ r. ⌜ Converts
+        (record {
+          input = now (message .entry);
+          before = now (text .entry);
+          answer = outcomeOf r (now (value .exit));
+          after = now (text .exit);
+        }) ⌝ }
 {
     let outcome = convert(message, text);
     *value = value_of(outcome);
     number_of(outcome)
 }
 
-// Converts the text to its message: 0, and the message's length in `value`; or the refusal's number, and its place in `value`.
+// Converts the text to its message: 0, and the message's length in `value`; or the refusal's number, and its place in
+// `value`.
 #[no_mangle]
 pub extern "C" fn velvetshelf_to_wire(text: &[u8], message: &mut [u8], value: &mut u64) -> u32
-    ensures { λ r. ⌜ Reads (record { input = now (text .entry); before = now (message .entry); answer = outcomeOf r (now (value .exit)); after = now (message .exit) }) ⌝ }
+    ensures { λ r. ⌜ Reads
+        (record {
+          input = now (text .entry);
+          before = now (message .entry);
+          answer = outcomeOf r (now (value .exit));
+          after = now (message .exit);
+        }) ⌝ }
 {
     let outcome = read(text, message);
     *value = value_of(outcome);

@@ -13,7 +13,8 @@ pub use mathlib.Core.List.{List, [], _++_, map}
 pub use Prim.Native.Nat.{ℕ, _≤_, _<_}
 pub use lib.ListN.{length, drop}
 pub use Rattle.octets.specs.Lists.{All, Octets, hexed}
--- answers: success with a length, a refusal with its number and place; a call has an input, a buffer before and after, an answer
+-- answers: success with a length, a refusal with its number and place; a call has an input, a buffer before and after,
+-- an answer
 pub use Rattle.octets.specs.Answer.{Answer, success, refusal, reported}
 pub use Rattle.octets.specs.Calls.{Call, answerOf, writtenBy}
 -- messages, their uncompressed form, what octets are decoded to; a view is a message without limits of size

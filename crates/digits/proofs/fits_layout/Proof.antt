@@ -4,7 +4,8 @@ use native.Mathlib.Omega.{arith}
 use Rattle.octets.specs.Lists.{paired}
 use Rattle.records.specs.Layout.{rdataFits?}
 use Rattle.digits.specs.Skipping.{name-ends}
-use Rattle.digits.proofs.Fitting.{FitLoop, fits-start, fits-end, fits-some, fits-short, fits-part, fits-named, fits-unfit, fits-name}
+use Rattle.digits.proofs.Fitting.{FitLoop, fits-start, fits-end, fits-some, fits-short, fits-part, fits-named}
+use Rattle.digits.proofs.Fitting.{fits-unfit, fits-name}
 use borrow.Author.Needs.{needs}
 use Rattle.digits.proofs.fits_layout.Statement.{statement}
 use Rattle.digits.proofs.fits_layout.Tie as tie
@@ -28,7 +29,8 @@ enum-told : tie.Need-enum-told Inv-loop μ-loop
 enum-told c = search needs
 
 returns : tie.Need-returns Inv-loop μ-loop
-returns c = fits-end (c .before .before .before .loop .inv .1) (c .before .before .piece-of .ensures) (c .enum-told .given .1)
+returns c = fits-end (c .before .before .before .loop .inv .1) (c .before .before .piece-of .ensures)
+    (c .enum-told .given .1)
 
 enum-known-n : tie.Need-enum-known-n Inv-loop μ-loop
 enum-known-n c = search needs
@@ -39,7 +41,8 @@ sub-if1 c = search needs
 returns-2 : tie.Need-returns-2 Inv-loop μ-loop
 returns-2 c =
     let d = c .before .before .before .before in
-    fits-short (d .before .loop .inv .1) (d .piece-of .ensures) (c .before .before .n .given .1) (search needs) (c .if1 .taken)
+    fits-short (d .before .loop .inv .1) (d .piece-of .ensures) (c .before .before .n .given .1) (search needs)
+    (c .if1 .taken)
 
 add-at : tie.Need-add-at Inv-loop μ-loop
 add-at c = search needs
@@ -58,8 +61,11 @@ loop-less c =
 
 loop-again : tie.Need-loop-again Inv-loop μ-loop
 loop-again c =
-    let d = c .before .before .before .before in
-    (search needs, fits-part (d .before .loop .inv .1) (d .piece-of .ensures) (c .before .before .n .given .1) (search needs) (c .if1 .left))
+    let d = c .before .before .before .before in (
+      search needs,
+      fits-part (d .before .loop .inv .1) (d .piece-of .ensures) (c .before .before .n .given .1)
+          (search needs) (c .if1 .left),
+    )
 
 enum-told-2 : tie.Need-enum-told-2 Inv-loop μ-loop
 enum-told-2 c = search needs
@@ -74,7 +80,8 @@ returns-3 : tie.Need-returns-3 Inv-loop μ-loop
 returns-3 c =
     let d = c .before .before .before in
     let e = d .before .before in
-    fits-unfit (e .before .loop .inv .1) (e .piece-of .ensures) (d .enum-told2 .given .1) (c .before .before .skip-name .ensures) (c .enum-told3 .given .1)
+    fits-unfit (e .before .loop .inv .1) (e .piece-of .ensures) (d .enum-told2 .given .1)
+    (c .before .before .skip-name .ensures) (c .enum-told3 .given .1)
 
 enum-known-next : tie.Need-enum-known-next Inv-loop μ-loop
 enum-known-next c = search needs
@@ -99,8 +106,10 @@ loop-again-2 c =
     let e = d .before .before in
     let r = c .before .before .before .skip-name .ensures in
     let n = c .before .next .given .1 in
-    let k = name-ends _ _ r n in
-    (omega (arith, k, e .before .before .count .ensures .0), fits-name (e .before .loop .inv .1) (e .piece-of .ensures) (d .enum-told2 .given .1) r n)
+    let k = name-ends _ _ r n in (
+      omega (arith, k, e .before .before .count .ensures .0),
+      fits-name (e .before .loop .inv .1) (e .piece-of .ensures) (d .enum-told2 .given .1) r n,
+    )
 
 pub fits-layout-spec : {M : Type 1} → statement M
 fits-layout-spec =

@@ -1,4 +1,5 @@
--- `digits::put_octets` meets its contract: past the end nothing is written; else, after `i` turns, the first `i` octets are written.
+-- `digits::put_octets` meets its contract: past the end nothing is written; else, after `i` turns, the first `i` octets
+-- are written.
 use mathlib.Core.Path.{_≡_}
 use Prim.Native.Nat.{_≤_, _+_, _-_}
 use lib.ListN.{take}
@@ -43,8 +44,12 @@ loop-again : tie.Need-loop-again Inv-loop μ-loop
 loop-again c =
     let d = c .before .before .before .before .before .before in
     let e = d .before .before in
-    let s = paired (e .before .before .before .args .hex .now) in
-    (search needs, search needs, octets-step s (e .count .ensures .0) (c .before .before .before .before .before .loop-test .taken) (c .before .before .before .octet .ensures) (d .loop .inv .2) (c .before .before .put .ensures))
+    let s = paired (e .before .before .before .args .hex .now) in (
+      search needs,
+      search needs,
+      octets-step s (e .count .ensures .0) (c .before .before .before .before .before .loop-test .taken)
+          (c .before .before .before .octet .ensures) (d .loop .inv .2) (c .before .before .put .ensures),
+    )
 
 same-length : tie.Need-same-length Inv-loop μ-loop
 same-length c = same-long (c .before .loop .inv .2)

@@ -1,13 +1,15 @@
 -- `digits::skip_name` meets its contract: the walk from `place` on gives the whole answer.
 use Prim.Native.Nat.{_≤_, _-_}
 use Rattle.octets.specs.Lists.{paired}
-use Rattle.digits.specs.Skipping.{nameEnd, SkipLoop, from-start, skip-past, skip-root, skip-bits, skip-cut, skip-long, skip-label}
+use Rattle.digits.specs.Skipping.{nameEnd, SkipLoop, from-start, skip-past, skip-root, skip-bits, skip-cut}
+use Rattle.digits.specs.Skipping.{skip-long, skip-label}
 use borrow.Author.Needs.{needs}
 use Rattle.digits.proofs.skip_name.Statement.{statement}
 use Rattle.digits.proofs.skip_name.Tie as tie
 
 abbrev Inv-loop : tie.InvT-loop
-Inv-loop hex at size place₀ total₀ place total = (total ≤ 254) × SkipLoop (paired hex) (nameEnd (paired hex) at) total place
+Inv-loop hex at size place₀ total₀ place total =
+    (total ≤ 254) × SkipLoop (paired hex) (nameEnd (paired hex) at) total place
 
 abbrev μ-loop : tie.MeasureT-loop
 μ-loop hex at size place₀ total₀ place total = 255 - total

@@ -8,7 +8,8 @@ use Rattle.edns.proofs.options_rise.Statement.{statement}
 use Rattle.edns.proofs.options_rise.Tie as tie
 
 abbrev Inv-loop : tie.InvT-loop
-Inv-loop s hex size least₀ at₀ least at = (at ≤ size) × (least ≤ 65536) × RiseLoop (octetsIn hex s) (optionsRise (octetsIn hex s)) least at
+Inv-loop s hex size least₀ at₀ least at =
+    (at ≤ size) × (least ≤ 65536) × RiseLoop (octetsIn hex s) (optionsRise (octetsIn hex s)) least at
 
 abbrev μ-loop : tie.MeasureT-loop
 μ-loop s hex size least₀ at₀ least at = size - at

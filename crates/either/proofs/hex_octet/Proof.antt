@@ -27,13 +27,17 @@ shared-slice-read-digit-value-2 : tie.Need-shared-slice-read-digit-value-2
 shared-slice-read-digit-value-2 c = search needs
 
 digit-value-requires-2 : tie.Need-digit-value-requires-2
-digit-value-requires-2 c κs = digit-at (c .before .before .before .before .pre .0) (2 * c .before .before .before .before .args .i + 1) (search needs)
+digit-value-requires-2 c κs =
+    digit-at (c .before .before .before .before .pre .0) (2 * c .before .before .before .before .args .i + 1)
+    (search needs)
 
 add-result : tie.Need-add-result
 add-result c = search needs
 
 returns : tie.Need-returns
-returns c = octet-is (c .before .before .before .before .before .args .s .now) (c .before .before .before .before .before .args .i) (search needs) (c .before .before .digit-value .ensures .0) (c .digit-value2 .ensures .0)
+returns c = octet-is (c .before .before .before .before .before .args .s .now)
+    (c .before .before .before .before .before .args .i) (search needs) (c .before .before .digit-value .ensures .0)
+    (c .digit-value2 .ensures .0)
 
 pub hex-octet-spec : {M : Type 1} → statement M
 hex-octet-spec =

@@ -10,7 +10,8 @@ same-length : tie.Need-same-length
 same-length c = search needs
 
 returns : tie.Need-returns
-returns c = let p = c .before .before .put-record .ensures in (rw (c .before .before .before .before .if1 .taken) (p .0), p .1)
+returns c = let p = c .before .before .put-record .ensures in
+    (rw (c .before .before .before .before .if1 .taken) (p .0), p .1)
 
 put-question-requires : tie.Need-put-question-requires
 put-question-requires c κs = search needs
@@ -19,7 +20,8 @@ same-length-2 : tie.Need-same-length-2
 same-length-2 c = search needs
 
 returns-2 : tie.Need-returns-2
-returns-2 c = let p = c .before .before .put-question .ensures in (rw (c .before .before .before .before .if1 .left) (p .0), p .1)
+returns-2 c = let p = c .before .before .put-question .ensures in
+    (rw (c .before .before .before .before .if1 .left) (p .0), p .1)
 
 pub put-entry-spec : {M : Type 1} → statement M
 put-entry-spec =

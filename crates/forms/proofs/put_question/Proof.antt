@@ -22,18 +22,23 @@ part-put-named-start : tie.Need-part-put-named-start
 part-put-named-start c = search needs
 
 part-put-named-end : tie.Need-part-put-named-end
-part-put-named-end c = question-room _ _ (c .before .before .before .before .before .before .question-at .ensures .0) (c .before .before .before .answer2 .given .1)
+part-put-named-end c = question-room _ _ (c .before .before .before .before .before .before .question-at .ensures .0)
+    (c .before .before .before .answer2 .given .1)
 
 put-named-requires : tie.Need-put-named-requires
 put-named-requires c κs =
     let m = c .before .before .before .before in
-    let k = asks-within _ (m .before .before .before .before .before .before .args .at) (m .before .before .before .question-at .ensures .1) (m .answer2 .given .1) in
+    let k = asks-within _ (m .before .before .before .before .before .before .args .at)
+    (m .before .before .before .question-at .ensures .1) (m .answer2 .given .1) in
     (omega arith, part-short _ _ _ (k .0), k .1, k .2)
 
 returns : tie.Need-returns
 returns c =
-    let m = c .before .before .before .before in
-    (question-faults (m .before .before .before .args .s .now) (m .before .before .before .args .at) (m .question-at .ensures .0) (c .before .answer .given .1), tt)
+    let m = c .before .before .before .before in (
+      question-faults (m .before .before .before .args .s .now) (m .before .before .before .args .at)
+          (m .question-at .ensures .0) (c .before .answer .given .1),
+      tt,
+    )
 
 same-length : tie.Need-same-length
 same-length c = search needs
@@ -43,8 +48,12 @@ returns-2 c =
     let m = c .before .before .before .before .before .before .before in
     let j = m .before .before .before .before .before .before in
     let k = asks-within _ (j .args .at) (m .before .before .before .question-at .ensures .1) (m .answer2 .given .1) in
-    let n = named-within (m .answer2 .given .0 .0 .size) (m .before .before .before .question-at .result .name) (j .args .to) (c .before .before .put-named .ensures .1) (k .0) in
-    (question-puts (j .args .s .now) (j .args .at) (m .before .before .before .question-at .ensures .0) (m .answer2 .given .1) (c .before .before .put-named .ensures .0), (k .4, omega arith))
+    let n = named-within (m .answer2 .given .0 .0 .size) (m .before .before .before .question-at .result .name)
+    (j .args .to) (c .before .before .put-named .ensures .1) (k .0) in (
+      question-puts (j .args .s .now) (j .args .at) (m .before .before .before .question-at .ensures .0)
+          (m .answer2 .given .1) (c .before .before .put-named .ensures .0),
+      (k .4, omega arith),
+    )
 
 pub put-question-spec : {M : Type 1} → statement M
 put-question-spec =

@@ -2,7 +2,8 @@
 use borrow.Author.Needs.{needs}
 use native.Mathlib.Omega.{arith}
 use Rattle.records.proofs.Told.{heads-within, record-room}
-use Rattle.forms.specs.Putting.{record-faults, record-misses, record-puts, laying-within, named-within, part-short}
+use Rattle.forms.specs.Putting.{record-faults, record-misses, record-puts, laying-within, named-within}
+use Rattle.forms.specs.Putting.{part-short}
 use Rattle.forms.proofs.put_record.Statement.{statement}
 use Rattle.forms.proofs.put_record.Tie as tie
 
@@ -22,12 +23,15 @@ part-put-named-start : tie.Need-part-put-named-start
 part-put-named-start c = search needs
 
 part-put-named-end : tie.Need-part-put-named-end
-part-put-named-end c = record-room _ _ (c .before .before .before .before .before .before .head-at .ensures .0) (c .before .before .before .answer2 .given .1)
+part-put-named-end c =
+    record-room _ _ (c .before .before .before .before .before .before .head-at .ensures .0)
+    (c .before .before .before .answer2 .given .1)
 
 put-named-requires : tie.Need-put-named-requires
 put-named-requires c κs =
     let m = c .before .before .before .before in
-    let k = heads-within _ (m .before .before .before .before .before .before .args .at) (m .before .before .before .head-at .ensures .1) (m .answer2 .given .1) in
+    let k = heads-within _ (m .before .before .before .before .before .before .args .at)
+    (m .before .before .before .head-at .ensures .1) (m .answer2 .given .1) in
     (omega arith, part-short _ _ _ (k .0), k .1, k .2)
 
 put-four-requires : tie.Need-put-four-requires
@@ -35,7 +39,8 @@ put-four-requires c κs =
     let m = c .before .before .before .before .before .before .before .before in
     let j = m .before .before .before in
     let k = heads-within _ (j .before .before .before .args .at) (j .head-at .ensures .1) (m .answer2 .given .1) in
-    let n = named-within (m .answer2 .given .0 .0 .size) (j .head-at .result .name) (j .before .before .before .args .to) (c .before .before .before .put-named .ensures .1) (k .0) in
+    let n = named-within (m .answer2 .given .0 .0 .size) (j .head-at .result .name)
+    (j .before .before .before .args .to) (c .before .before .before .put-named .ensures .1) (k .0) in
     omega arith
 
 add-inside : tie.Need-add-inside
@@ -43,7 +48,9 @@ add-inside c =
     let m = c .before .before .before .before .before .before .before .before .before .before .before in
     let j = m .before .before .before in
     let k = heads-within _ (j .before .before .before .args .at) (j .head-at .ensures .1) (m .answer2 .given .1) in
-    let n = named-within (m .answer2 .given .0 .0 .size) (j .head-at .result .name) (j .before .before .before .args .to) (c .before .before .before .before .before .before .put-named .ensures .1) (k .0) in
+    let n = named-within (m .answer2 .given .0 .0 .size) (j .head-at .result .name)
+    (j .before .before .before .args .to) (c .before .before .before .before .before .before .put-named .ensures .1)
+    (k .0) in
     omega (arith, c .before .before .put-four .ensures .place)
 
 put-rdata-requires : tie.Need-put-rdata-requires
@@ -51,7 +58,9 @@ put-rdata-requires c κs =
     let m = c .before .before .before .before .before .before .before .before .before .before .before .before in
     let j = m .before .before .before in
     let k = heads-within _ (j .before .before .before .args .at) (j .head-at .ensures .1) (m .answer2 .given .1) in
-    let n = named-within (m .answer2 .given .0 .0 .size) (j .head-at .result .name) (j .before .before .before .args .to) (c .before .before .before .before .before .before .before .put-named .ensures .1) (k .0) in
+    let n = named-within (m .answer2 .given .0 .0 .size) (j .head-at .result .name)
+    (j .before .before .before .args .to)
+    (c .before .before .before .before .before .before .before .put-named .ensures .1) (k .0) in
     omega (arith, c .before .before .before .put-four .ensures .place)
 
 enum-known-fault : tie.Need-enum-known-fault
@@ -61,51 +70,84 @@ enum-known-end : tie.Need-enum-known-end
 enum-known-end c = search needs
 
 sub-put-two : tie.Need-sub-put-two
-sub-put-two c = let l = laying-within _ (c .before .before .before .before .before .before .put-rdata .ensures .1) (c .before .before .end .given .1) in
+sub-put-two c = let l = laying-within _ (c .before .before .before .before .before .before .put-rdata .ensures .1)
+    (c .before .before .end .given .1) in
     omega arith
 
 cast-put-two : tie.Need-cast-put-two
-cast-put-two c = let l = laying-within _ (c .before .before .before .before .before .before .put-rdata .ensures .1) (c .before .before .end .given .1) in
+cast-put-two c = let l = laying-within _ (c .before .before .before .before .before .before .put-rdata .ensures .1)
+    (c .before .before .end .given .1) in
     omega arith
 
 put-two-requires : tie.Need-put-two-requires
 put-two-requires c κs =
-    let m = c .before .before .before .before .before .before .before .before .before .before .before .before .before .before .before .before .before .before .before in
+    let m = c .before .before .before .before .before .before .before .before .before .before .before .before .before
+    .before .before .before .before .before .before in
     let j = m .before .before .before .before .before .before in
     let k = heads-within _ (j .args .at) (m .before .before .before .head-at .ensures .1) (m .answer2 .given .1) in
-    let n = named-within (m .answer2 .given .0 .0 .size) (m .before .before .before .head-at .result .name) (j .args .to) (c .before .before .before .before .before .before .before .before .before .before .before .before .before .before .put-named .ensures .1) (k .0) in
-    let l = laying-within _ (c .before .before .before .before .before .before .put-rdata .ensures .1) (c .before .before .end .given .1) in
-    omega (arith, j .pre, c .before .before .before .before .before .before .before .before .before .before .put-four .ensures .place)
+    let n = named-within (m .answer2 .given .0 .0 .size) (m .before .before .before .head-at .result .name)
+    (j .args .to) (c .before .before .before .before .before .before .before .before .before .before .before .before
+    .before .before .put-named .ensures .1) (k .0) in
+    let l = laying-within _ (c .before .before .before .before .before .before .put-rdata .ensures .1)
+    (c .before .before .end .given .1) in
+    omega (
+      arith,
+      j .pre,
+      c .before .before .before .before .before .before .before .before .before .before .put-four .ensures .place,
+    )
 
 add-t33 : tie.Need-add-t33
 add-t33 c =
-    let m = c .before .before .before .before .before .before .before .before .before .before .before .before .before .before .before .before .before .before .before .before .before .before .before in
-    let k = heads-within _ (m .before .before .before .before .before .before .args .at) (m .before .before .before .head-at .ensures .1) (m .answer2 .given .1) in
+    let m = c .before .before .before .before .before .before .before .before .before .before .before .before .before
+    .before .before .before .before .before .before .before .before .before .before in
+    let k = heads-within _ (m .before .before .before .before .before .before .args .at)
+    (m .before .before .before .head-at .ensures .1) (m .answer2 .given .1) in
     omega (arith, m .before .before .before .before .before .before .pre)
 
 returns : tie.Need-returns
 returns c =
-    let m = c .before .before .before .before in
-    (record-faults (m .before .before .before .args .s .now) (m .before .before .before .args .at) (m .head-at .ensures .0) (c .before .answer .given .1), tt)
+    let m = c .before .before .before .before in (
+      record-faults (m .before .before .before .args .s .now) (m .before .before .before .args .at)
+          (m .head-at .ensures .0) (c .before .answer .given .1),
+      tt,
+    )
 
 same-length : tie.Need-same-length
 same-length c = search needs
 
 returns-2 : tie.Need-returns-2
 returns-2 c =
-    let m = c .before .before .before .before .before .before .before .before .before .before .before .before .before .before .before .before .before .before in
-    (record-misses (m .before .before .before .before .before .before .args .s .now) (m .before .before .before .before .before .before .args .at) (m .before .before .before .head-at .ensures .0) (m .answer2 .given .1) (c .before .before .before .before .before .put-rdata .ensures .0) (c .before .fault .given .1), tt)
+    let m = c .before .before .before .before .before .before .before .before .before .before .before .before .before
+    .before .before .before .before .before in (
+      record-misses (m .before .before .before .before .before .before .args .s .now)
+          (m .before .before .before .before .before .before .args .at) (m .before .before .before .head-at .ensures .0)
+          (m .answer2 .given .1) (c .before .before .before .before .before .put-rdata .ensures .0)
+          (c .before .fault .given .1),
+      tt,
+    )
 
 same-length-2 : tie.Need-same-length-2
 same-length-2 c = search needs
 
 returns-3 : tie.Need-returns-3
 returns-3 c =
-    let m = c .before .before .before .before .before .before .before .before .before .before .before .before .before .before .before .before .before .before .before .before .before .before .before in
+    let m = c .before .before .before .before .before .before .before .before .before .before .before .before .before
+    .before .before .before .before .before .before .before .before .before .before in
     let j = m .before .before .before .before .before .before in
     let k = heads-within _ (j .args .at) (m .before .before .before .head-at .ensures .1) (m .answer2 .given .1) in
-    let l = laying-within _ (c .before .before .before .before .before .before .before .before .before .before .put-rdata .ensures .1) (c .before .before .before .before .before .before .end .given .1) in
-    (record-puts (j .args .s .now) (j .args .at) (m .before .before .before .head-at .ensures .0) (m .answer2 .given .1) (c .before .before .before .before .before .before .before .before .before .before .before .before .before .before .before .before .before .before .put-named .ensures .0) (c .before .before .before .before .before .before .before .before .before .before .before .before .before .before .put-four .ensures) (c .before .before .before .before .before .before .before .before .before .before .put-rdata .ensures .0) (c .before .before .before .before .before .before .end .given .1) (c .before .before .before .put-two .ensures), (k .4, l .0))
+    let l = laying-within _
+    (c .before .before .before .before .before .before .before .before .before .before .put-rdata .ensures .1)
+    (c .before .before .before .before .before .before .end .given .1) in (
+      record-puts (j .args .s .now) (j .args .at) (m .before .before .before .head-at .ensures .0) (m .answer2 .given .1)
+          (c .before .before .before .before .before .before .before .before .before .before .before .before .before
+          .before .before .before .before .before .put-named .ensures .0)
+          (c .before .before .before .before .before .before .before .before .before .before .before .before .before
+          .before .put-four .ensures)
+          (c .before .before .before .before .before .before .before .before .before .before .put-rdata .ensures .0)
+          (c .before .before .before .before .before .before .end .given .1)
+          (c .before .before .before .put-two .ensures),
+      (k .4, l .0),
+    )
 
 pub put-record-spec : {M : Type 1} → statement M
 put-record-spec =

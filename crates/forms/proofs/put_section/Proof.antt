@@ -4,7 +4,8 @@ use Prim.Native.Nat.{_+_, _*_, _≤_}
 use mathlib.Core.Path.{_≡_, _∙_}
 use native.Mathlib.Omega.{arith}
 use lib.ListN.{length}
-use Rattle.forms.specs.Putting.{sectionRun, goes-within, Onward, onward-start, onward-end, onward-more, onward-stop}
+use Rattle.forms.specs.Putting.{sectionRun, goes-within, Onward, onward-start, onward-end, onward-more}
+use Rattle.forms.specs.Putting.{onward-stop}
 use Rattle.forms.proofs.put_section.Statement.{statement}
 use Rattle.forms.proofs.put_section.Tie as tie
 
@@ -30,8 +31,11 @@ same-length c = search needs
 
 returns : tie.Need-returns Inv-loop μ-loop
 returns c =
-    let m = c .before .before .before .before .before in
-    (onward-stop _ _ _ _ (m .before .before .before .loop .inv .4) (m .before .before .loop-test .taken) (m .put-entry .ensures .0) (c .before .fault .given .1), tt)
+    let m = c .before .before .before .before .before in (
+      onward-stop _ _ _ _ (m .before .before .before .loop .inv .4) (m .before .before .loop-test .taken)
+          (m .put-entry .ensures .0) (c .before .fault .given .1),
+      tt,
+    )
 
 enum-known-behind : tie.Need-enum-known-behind Inv-loop μ-loop
 enum-known-behind c = search needs
@@ -49,13 +53,23 @@ loop-less : tie.Need-loop-less Inv-loop μ-loop
 loop-less c = search needs
 
 loop-again : tie.Need-loop-again Inv-loop μ-loop
-loop-again c = let k = goes-within _ (c .before .before .before .before .before .before .put-entry .ensures .1) (c .before .before .behind .given .1) in (
-  k .0,
-  k .1,
-  omega (arith, c .before .before .before .before .before .before .before .before .before .loop .inv, c .opt-of .ensures .1),
-  c .before .before .before .before .before .before .put-entry .kept .1 .1 .1 .0 ∙ c .before .before .before .before .before .before .before .before .before .loop .inv .3,
-  onward-more _ _ _ _ (c .before .before .before .before .before .before .before .before .before .loop .inv .4) (c .before .before .before .before .before .before .before .before .loop-test .taken) (c .before .before .before .before .before .before .put-entry .ensures .0) (c .before .before .behind .given .1) (search needs),
-)
+loop-again c = let k =
+    goes-within _ (c .before .before .before .before .before .before .put-entry .ensures .1)
+    (c .before .before .behind .given .1) in (
+      k .0,
+      k .1,
+      omega (
+        arith,
+        c .before .before .before .before .before .before .before .before .before .loop .inv,
+        c .opt-of .ensures .1,
+      ),
+      c .before .before .before .before .before .before .put-entry .kept .1 .1 .1 .0
+          ∙ c .before .before .before .before .before .before .before .before .before .loop .inv .3,
+      onward-more _ _ _ _ (c .before .before .before .before .before .before .before .before .before .loop .inv .4)
+          (c .before .before .before .before .before .before .before .before .loop-test .taken)
+          (c .before .before .before .before .before .before .put-entry .ensures .0) (c .before .before .behind .given .1)
+          (search needs),
+    )
 
 same-length-2 : tie.Need-same-length-2 Inv-loop μ-loop
 same-length-2 c = search needs

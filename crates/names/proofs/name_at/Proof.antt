@@ -1,14 +1,16 @@
--- `names::name_at` meets its contract. The outer loop's invariant: the walk from `place` on gives the whole answer, from what
--- is written in `form` so far. The inner loop's: k octets of the label are copied, unless the name is too long, and the end is
--- not before them. The measure of the outer loop is the bound on the definition's steps: a label adds to `total`, a pointer
--- lowers `low`.
+-- `names::name_at` meets its contract. The outer loop's invariant: the walk from `place` on gives the whole answer,
+-- from what is written in `form` so far. The inner loop's: k octets of the label are copied, unless the name is too
+-- long, and the end is not before them. The measure of the outer loop is the bound on the definition's steps: a label
+-- adds to `total`, a pointer lowers `low`.
 use Prim.Native.Nat.{_≤_, _+_, _-_}
 use mathlib.Core.Path.{_≡_}
 use borrow.Author.Needs.{needs}
 use lib.ListN.{length}
 use Rattle.names.specs.Walk.{part, endOf, nameAt}
 use Rattle.names.specs.Answer.{limitOf, nameRead}
-use Rattle.names.specs.Ways.{WalkLoop, from-start, KeptOctets, LabelAt, keep-none, keep-more, name-past, root-read, label-cut, label-long, label-read, bits-reserved, pointer-cut, target-low, target-far, jump-read}
+use Rattle.names.specs.Ways.{WalkLoop, from-start, KeptOctets, LabelAt, keep-none, keep-more, name-past}
+use Rattle.names.specs.Ways.{root-read, label-cut, label-long, label-read, bits-reserved, pointer-cut, target-low}
+use Rattle.names.specs.Ways.{target-far, jump-read}
 use Rattle.names.proofs.name_at.Statement.{statement}
 use Rattle.names.proofs.name_at.Tie as tie
 
@@ -127,7 +129,8 @@ walk-again c =
       search needs,
       search needs,
       search needs,
-      label-read (walk .3) (loop .5) (c .before .loop-test .left) (loop .1) (loop .0) (c .if5 .left) (kept .keep .ensures .1) (loop .4),
+      label-read (walk .3) (loop .5) (c .before .loop-test .left) (loop .1) (loop .0) (c .if5 .left)
+          (kept .keep .ensures .1) (loop .4),
     )
 
 fail-requires-4 : tie.Need-fail-requires-4 Inv-loop μ-loop Inv-walk μ-walk
@@ -184,7 +187,8 @@ returns-4 c =
     let loop = inner .loop .inv in
     let tested = inner .before .before .before .before .before .before in
     let walk = tested .before .before .before .before .before .walk .inv in
-    label-long (walk .3) (loop .5) (c .before .before .loop-test .left) (loop .1) (c .before .if5 .taken) (c .fail3 .ensures)
+    label-long (walk .3) (loop .5) (c .before .before .loop-test .left) (loop .1) (c .before .if5 .taken)
+    (c .fail3 .ensures)
 
 returns-5 : tie.Need-returns-5 Inv-loop μ-loop Inv-walk μ-walk
 returns-5 c = search (bits-reserved, needs)

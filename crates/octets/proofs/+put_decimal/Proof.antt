@@ -110,8 +110,10 @@ put-decimal-returns-2 : (t : ℕ) → put-decimal-lts.Need-returns-2 (
   put-decimal.Post,
 ) (put-decimal-at t) put-decimal.Post
 put-decimal-returns-2 t c =
-    let m = c .before .before .before .before .before .before .before .before in
-    (search (wrote-digits, needs), omega (arith, decimal-length _ (m .before .before .fits .n .fits), decimal-longer _ (m .if1 .left)))
+    let m = c .before .before .before .before .before .before .before .before in (
+      search (wrote-digits, needs),
+      omega (arith, decimal-length _ (m .before .before .fits .n .fits), decimal-longer _ (m .if1 .left)),
+    )
 
 pub +put-decimal-spec : {M : Type 1} → statement M
 +put-decimal-spec = close μ-put-decimal λ t. put-decimal-lts.spec (

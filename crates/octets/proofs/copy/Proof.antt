@@ -9,7 +9,8 @@ use Rattle.octets.proofs.copy.Statement.{statement}
 use Rattle.octets.proofs.copy.Tie as tie
 
 abbrev Inv-loop : tie.InvT-loop
-Inv-loop out₀ at src to₀ i₀ out to i = (i ≤ length src) × (to ≡ at + i) × (length out ≡ length out₀) × Wrote out₀ at (take i src) out to
+Inv-loop out₀ at src to₀ i₀ out to i = (i ≤ length src) × (to ≡ at + i) × (length out ≡ length out₀)
+    × Wrote out₀ at (take i src) out to
 
 abbrev μ-loop : tie.MeasureT-loop
 μ-loop out₀ at src to₀ i₀ out to i = length src - i

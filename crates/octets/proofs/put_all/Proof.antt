@@ -1,4 +1,5 @@
--- `octets::put_all` meets its contract: past the end nothing is written; given room, `copy` writes; else, after `i` turns, the first `i` octets are copied.
+-- `octets::put_all` meets its contract: past the end nothing is written; given room, `copy` writes; else, after `i`
+-- turns, the first `i` octets are copied.
 use borrow.Author.Needs.{needs}
 use mathlib.Core.Path.{_≡_, refl}
 use Prim.Native.Nat.{_≤_, _+_, _-_}

@@ -1,4 +1,5 @@
--- `octets::put_hex` meets its contract: past the end nothing is written; given room, `copy_hex` writes; else, after `i` turns, the first `i` octets are written.
+-- `octets::put_hex` meets its contract: past the end nothing is written; given room, `copy_hex` writes; else, after `i`
+-- turns, the first `i` octets are written.
 use borrow.Author.Needs.{needs}
 use mathlib.Core.Path.{_≡_}
 use Prim.Native.Nat.{_≤_, _+_, _*_, _-_}
@@ -12,7 +13,8 @@ use Rattle.octets.proofs.put_hex.Statement.{statement}
 use Rattle.octets.proofs.put_hex.Tie as tie
 
 abbrev Inv-loop : tie.InvT-loop
-Inv-loop out₀ at src end to₀ i₀ out to i = (i ≤ length src) × (to ≡ at + 2 * i) × Wrote out₀ at (each hexOctet (take i src)) out to
+Inv-loop out₀ at src end to₀ i₀ out to i = (i ≤ length src) × (to ≡ at + 2 * i)
+    × Wrote out₀ at (each hexOctet (take i src)) out to
 
 abbrev μ-loop : tie.MeasureT-loop
 μ-loop out₀ at src end to₀ i₀ out to i = length src - i
@@ -24,7 +26,10 @@ add-end : tie.Need-add-end Inv-loop μ-loop
 add-end c = search needs
 
 returns : tie.Need-returns Inv-loop μ-loop
-returns c = (past _ _ _ (c .if1 .taken) (omega (arith, each-hex-length (c .before .before .before .args .src .now))), search needs)
+returns c = (
+  past _ _ _ (c .if1 .taken) (omega (arith, each-hex-length (c .before .before .before .args .src .now))),
+  search needs,
+)
 
 copy-hex-requires : tie.Need-copy-hex-requires Inv-loop μ-loop
 copy-hex-requires c κs = search needs

@@ -2,7 +2,8 @@
 use mathlib.Core.Path.{refl}
 use Rattle.octets.specs.Lists.{lookup}
 use Rattle.options.specs.Options.{rows, formOf, shape}
-use Rattle.options.specs.Shapes.{row-shaped, expire-shaped, cookie-shaped, keepalive-shaped, keytag-shaped, error-shaped, none-shaped}
+use Rattle.options.specs.Shapes.{row-shaped, expire-shaped, cookie-shaped, keepalive-shaped, keytag-shaped}
+use Rattle.options.specs.Shapes.{error-shaped, none-shaped}
 use borrow.Author.Needs.{needs}
 use Rattle.options.proofs.has_shape.Statement.{statement}
 use Rattle.options.proofs.has_shape.Tie as tie

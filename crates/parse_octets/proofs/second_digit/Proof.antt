@@ -33,7 +33,10 @@ add-third-digit-2 : tie.Need-add-third-digit-2
 add-third-digit-2 c = search needs
 
 third-digit-requires : tie.Need-third-digit-requires
-third-digit-requires c κs = (omega (arith, inside (c .before .before .before .before .octet-at .ensures) (omega arith)), omega (arith, c .before .highest-second .ensures))
+third-digit-requires c κs = (
+  omega (arith, inside (c .before .before .before .before .octet-at .ensures) (omega arith)),
+  omega (arith, c .before .highest-second .ensures),
+)
 
 returns-3 : tie.Need-returns-3
 returns-3 c = search (second-on, needs)

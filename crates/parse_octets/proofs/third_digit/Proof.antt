@@ -34,7 +34,8 @@ is-coded-requires c κs = search needs
 returns-3 : tie.Need-returns-3
 returns-3 c =
     let m = c .before .before .before .before in
-    third-no (m .before .before .octet-at .ensures) _ (m .before .if1 .left) (m .if2 .left) (omega arith) (c .before .is-coded .ensures) (c .if3 .taken) (search needs)
+    third-no (m .before .before .octet-at .ensures) _ (m .before .if1 .left) (m .if2 .left) (omega arith)
+    (c .before .is-coded .ensures) (c .if3 .taken) (search needs)
 
 add-t11 : tie.Need-add-t11
 add-t11 c = search needs
@@ -45,7 +46,8 @@ cast-t13 c = search (coded-small, needs)
 returns-4 : tie.Need-returns-4
 returns-4 c =
     let m = c .before .before .before .before in
-    third-is (m .before .before .octet-at .ensures) _ (m .before .if1 .left) (m .if2 .left) (omega arith) (c .before .is-coded .ensures) (c .if3 .left)
+    third-is (m .before .before .octet-at .ensures) _ (m .before .if1 .left) (m .if2 .left) (omega arith)
+    (c .before .is-coded .ensures) (c .if3 .left)
 
 pub third-digit-spec : {M : Type 1} → statement M
 third-digit-spec =

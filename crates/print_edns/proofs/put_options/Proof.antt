@@ -9,7 +9,8 @@ use Rattle.print_edns.proofs.put_options.Statement.{statement}
 use Rattle.print_edns.proofs.put_options.Tie as tie
 
 abbrev Inv-loop : tie.InvT-loop
-Inv-loop out₀ at rdata to₀ from₀ out to from = (from ≤ length rdata) × (to ≤ at + 64 * from) × OptionsLoop rdata out₀ at out to from
+Inv-loop out₀ at rdata to₀ from₀ out to from = (from ≤ length rdata) × (to ≤ at + 64 * from)
+    × OptionsLoop rdata out₀ at out to from
 
 abbrev μ-loop : tie.MeasureT-loop
 μ-loop out₀ at rdata to₀ from₀ out to from = length rdata - from
@@ -45,7 +46,12 @@ part-put-member-start : tie.Need-part-put-member-start Inv-loop μ-loop
 part-put-member-start c = search needs
 
 part-put-member-end : tie.Need-part-put-member-end Inv-loop μ-loop
-part-put-member-end c = omega (arith, left-room (c .before .before .before .before .before .before .before .before .loop .inv .2) (c .before .before .before .before .before .before .before .loop-test .taken))
+part-put-member-end c =
+    omega (
+      arith,
+      left-room (c .before .before .before .before .before .before .before .before .loop .inv .2)
+          (c .before .before .before .before .before .before .before .loop-test .taken),
+    )
 
 put-member-requires : tie.Need-put-member-requires Inv-loop μ-loop
 put-member-requires c κs = search needs
@@ -57,8 +63,11 @@ loop-less c =
 
 loop-again : tie.Need-loop-again Inv-loop μ-loop
 loop-again c =
-    let m = c .before .before .before .before .before .before .before .before .before .before .before in
-    (omega (arith, left-room (m .before .loop .inv .2) (m .loop-test .taken)), omega (arith, left-room (m .before .loop .inv .2) (m .loop-test .taken)), search (left-more, needs))
+    let m = c .before .before .before .before .before .before .before .before .before .before .before in (
+      omega (arith, left-room (m .before .loop .inv .2) (m .loop-test .taken)),
+      omega (arith, left-room (m .before .loop .inv .2) (m .loop-test .taken)),
+      search (left-more, needs),
+    )
 
 same-length : tie.Need-same-length Inv-loop μ-loop
 same-length c = same-long (left-end (c .before .loop .inv .2) (c .loop-test .left))

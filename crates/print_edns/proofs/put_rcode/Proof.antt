@@ -49,7 +49,8 @@ unfolding each rcodes
 part-put-all-end c =
     let d = c .before .before .before in
     let e = d .before in
-    let h = text-end _ rcodes (e .before .rcode-names .ensures) (e .rcode-row .ensures) (d .if1 .left) (c .before .before .wide .ensures .0) in
+    let h = text-end _ rcodes (e .before .rcode-names .ensures) (e .rcode-row .ensures) (d .if1 .left)
+    (c .before .before .wide .ensures .0) in
     search needs
 
 put-all-requires : tie.Need-put-all-requires
@@ -63,7 +64,8 @@ unfolding each rcodes
 returns-2 c =
     let d = c .before .before .before .before .before .before in
     let e = d .before .before in
-    let w = rcode-is _ (e .before .rcode-names .ensures) (e .rcode-row .ensures) (d .before .if1 .left) (d .wide .ensures .0) (c .before .before .put-all .ensures) in
+    let w = rcode-is _ (e .before .rcode-names .ensures) (e .rcode-row .ensures) (d .before .if1 .left)
+    (d .wide .ensures .0) (c .before .before .put-all .ensures) in
     (w, rcode-short _ w)
 
 pub put-rcode-spec : {M : Type 1} → statement M

@@ -33,8 +33,14 @@ is-edns-requires : tie.Need-is-edns-requires
 is-edns-requires c κs =
     let m = c .before .before .before .before in
     let a = m .before .before .before .before in
-    let h = a .args .head in
-    (search needs, omega (arith, part-short (h .rdata + h .rdlength - h .rdata) (drop (h .rdata) (a .args .s .now)) 65535 (omega (arith, a .pre))))
+    let h = a .args .head in (
+      search needs,
+      omega (
+        arith,
+        part-short (h .rdata + h .rdlength - h .rdata) (drop (h .rdata) (a .args .s .now)) 65535
+            (omega (arith, a .pre)),
+      ),
+    )
 
 returns-3 : tie.Need-returns-3
 returns-3 c = search (shows-lone, needs)

@@ -19,7 +19,8 @@ enum-told c = search needs
 returns : tie.Need-returns
 returns c =
     let m = c .before .before .before in
-    absurd (question-faultless _ _ (m .question-at .ensures .0) (m .before .before .before .pre .2) (c .enum-told .given .1))
+    absurd (question-faultless _ _ (m .question-at .ensures .0) (m .before .before .before .pre .2)
+    (c .enum-told .given .1))
 
 sub-put-start : tie.Need-sub-put-start
 sub-put-start c = search needs
@@ -51,7 +52,8 @@ returns-2 c =
     let m = p .before .before .before .before .before in
     let q = m .before .before .before in
     let k = asks-within _ (q .before .before .before .args .at) (q .question-at .ensures .1) (m .answer .given .1) in (
-      question-prints _ _ (q .question-at .ensures .0) (m .answer .given .1) (p .put-start .ensures .0) (c .before .before .put .ensures),
+      question-prints _ _ (q .question-at .ensures .0) (m .answer .given .1) (p .put-start .ensures .0)
+          (c .before .before .put .ensures),
       (omega arith, omega arith, omega (arith, p .put-start .ensures .1, c .before .before .put .ensures .place)),
     )
 

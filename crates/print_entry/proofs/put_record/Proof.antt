@@ -20,7 +20,8 @@ enum-told c = search needs
 returns : tie.Need-returns
 returns c =
     let m = c .before .before .before in
-    absurd (record-faultless _ _ _ (m .head-at .ensures .0) (m .before .before .before .pre .3) (c .enum-told .given .1))
+    absurd (record-faultless _ _ _ (m .head-at .ensures .0) (m .before .before .before .pre .3)
+    (c .enum-told .given .1))
 
 sub-put-shown : tie.Need-sub-put-shown
 sub-put-shown c = search needs
@@ -52,7 +53,8 @@ add-t14 c =
     let p = c .before .before .before in
     let m = p .before .before .before .before .before in
     let q = m .before .before .before in
-    let k = heads-within _ (q .before .before .before .args .at) (q .head-at .ensures .1) (m .answer .given .1) in search needs
+    let k = heads-within _ (q .before .before .before .args .at) (q .head-at .ensures .1) (m .answer .given .1) in
+    search needs
 
 same-length : tie.Need-same-length
 same-length c = search needs

@@ -33,8 +33,13 @@ put-edns-requires c κs =
     let h = a .args .head in (
       search needs,
       search needs,
-      omega (arith, part-short (h .rdata + h .rdlength - h .rdata) (drop (h .rdata) (a .args .s .now)) 65535 (omega (arith, a .pre))),
-      element-shows _ _ _ (m .is-element .ensures) (c .before .before .before .before .if1 .taken) (c .before .before .before .rcode-of .ensures .0),
+      omega (
+        arith,
+        part-short (h .rdata + h .rdlength - h .rdata) (drop (h .rdata) (a .args .s .now)) 65535
+            (omega (arith, a .pre)),
+      ),
+      element-shows _ _ _ (m .is-element .ensures) (c .before .before .before .before .if1 .taken)
+          (c .before .before .before .rcode-of .ensures .0),
     )
 
 same-length : tie.Need-same-length
@@ -46,7 +51,12 @@ returns c =
     let a = m .before .before .before .before .before .before in
     let h = a .args .head in (
       search (shown-element, needs),
-      omega (arith, c .before .before .put-edns .ensures .1, part-short (h .rdata + h .rdlength - h .rdata) (drop (h .rdata) (a .args .s .now)) (h .rdlength) (omega arith)),
+      omega (
+        arith,
+        c .before .before .put-edns .ensures .1,
+        part-short (h .rdata + h .rdlength - h .rdata) (drop (h .rdata) (a .args .s .now)) (h .rdlength)
+            (omega arith),
+      ),
     )
 
 put-ordinary-requires : tie.Need-put-ordinary-requires

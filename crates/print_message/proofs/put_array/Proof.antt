@@ -12,7 +12,8 @@ use Rattle.print_message.proofs.put_array.Tie as tie
 
 abbrev Inv-loop : tie.InvT-loop
 Inv-loop s element count at out₀ to left₀ from₀ next₀ out left from next =
-    (left ≤ count) × (at ≤ from) × (from ≤ length s) × (next + 4096 * at ≤ next₀ + 4096 * from) × (length out ≡ length out₀)
+    (left ≤ count) × (at ≤ from) × (from ≤ length s) × (next + 4096 * at ≤ next₀ + 4096 * from)
+    × (length out ≡ length out₀)
     × PrintLoop (restText element s true count at) out₀ next₀ (restText element s (eqb left count) left from) out next
 
 abbrev μ-loop : tie.MeasureT-loop
@@ -48,7 +49,8 @@ loop-again c =
       search needs,
       search needs,
       search needs,
-      left-less _ _ _ _ _ (m .before .loop .inv .5) (m .loop-test .taken) (m .before .loop .inv .0) (p .put-comma .ensures .0) (k .ensures .0),
+      left-less _ _ _ _ _ (m .before .loop .inv .5) (m .loop-test .taken) (m .before .loop .inv .0)
+          (p .put-comma .ensures .0) (k .ensures .0),
     )
 
 put-requires-2 : tie.Need-put-requires-2 Inv-loop μ-loop

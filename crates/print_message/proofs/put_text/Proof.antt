@@ -2,7 +2,8 @@
 use native.Mathlib.Omega.{arith}
 use borrow.Author.Needs.{needs}
 use Rattle.octets.specs.Overlay.{same-long}
-use Rattle.print_message.specs.Arrays.{questions-readable, answers-readable, authority-readable, additional-readable, whole-prints}
+use Rattle.print_message.specs.Arrays.{questions-readable, answers-readable, authority-readable}
+use Rattle.print_message.specs.Arrays.{additional-readable, whole-prints}
 use Rattle.print_message.specs.Whole.{accepted-limits, accepted-readable, accepted-text}
 use Rattle.print_message.proofs.put_text.Statement.{statement}
 use Rattle.print_message.proofs.put_text.Tie as tie
@@ -59,7 +60,8 @@ put-section-requires-3 c κs =
       search needs,
       search needs,
       search needs,
-      authority-readable _ _ (accepted-readable p) (h .put-head .ensures .0) (q .put-section .ensures .0) (a .put-section2 .ensures .0),
+      authority-readable _ _ (accepted-readable p) (h .put-head .ensures .0) (q .put-section .ensures .0)
+          (a .put-section2 .ensures .0),
     )
 
 slice-aggregate-put-section-4 : tie.Need-slice-aggregate-put-section-4
@@ -78,7 +80,8 @@ put-section-requires-4 c κs =
       search needs,
       search needs,
       search needs,
-      additional-readable _ _ (accepted-readable p) (h .put-head .ensures .0) (q .put-section .ensures .0) (a .put-section2 .ensures .0) (u .put-section3 .ensures .0),
+      additional-readable _ _ (accepted-readable p) (h .put-head .ensures .0) (q .put-section .ensures .0)
+          (a .put-section2 .ensures .0) (u .put-section3 .ensures .0),
     )
 
 put-requires : tie.Need-put-requires
@@ -99,7 +102,9 @@ same-length c =
     let q = a .before .before .before .before .before in
     let h = q .before .before .before .before .before in
     let p = h .before .before .before .before .pre in
-    same-long (accepted-text p (whole-prints _ _ (accepted-readable p) (h .put-head .ensures .0) (q .put-section .ensures .0) (a .put-section2 .ensures .0)
+    same-long (accepted-text p
+    (whole-prints _ _ (accepted-readable p) (h .put-head .ensures .0) (q .put-section .ensures .0)
+    (a .put-section2 .ensures .0)
     (u .put-section3 .ensures .0) (d .put-section4 .ensures .0) (c .before .before .put .ensures)))
 
 returns : tie.Need-returns
@@ -110,7 +115,8 @@ returns c =
     let q = a .before .before .before .before .before in
     let h = q .before .before .before .before .before in
     let p = h .before .before .before .before .pre in
-    accepted-text p (whole-prints _ _ (accepted-readable p) (h .put-head .ensures .0) (q .put-section .ensures .0) (a .put-section2 .ensures .0)
+    accepted-text p (whole-prints _ _ (accepted-readable p) (h .put-head .ensures .0) (q .put-section .ensures .0)
+    (a .put-section2 .ensures .0)
     (u .put-section3 .ensures .0) (d .put-section4 .ensures .0) (c .before .before .put .ensures))
 
 pub put-text-spec : {M : Type 1} → statement M

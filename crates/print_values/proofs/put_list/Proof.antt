@@ -51,8 +51,12 @@ loop-less c = search needs
 loop-again : tie.Need-loop-again Inv-loop μ-loop
 loop-again c =
     let w = c .before .before .put-entry2 .ensures .0 in
-    let l = c .before .before .before .before .before .loop in
-    (search needs, search needs, same-long w ∙ l .inv .2, list-next (search needs) _ _ (l .inv .3) (c .before .before .before .before .loop-test .taken) w)
+    let l = c .before .before .before .before .before .loop in (
+      search needs,
+      search needs,
+      same-long w ∙ l .inv .2,
+      list-next (search needs) _ _ (l .inv .3) (c .before .before .before .before .loop-test .taken) w,
+    )
 
 put-requires : tie.Need-put-requires Inv-loop μ-loop
 put-requires c κs = search needs
@@ -60,7 +64,8 @@ put-requires c κs = search needs
 same-length-2 : tie.Need-same-length-2 Inv-loop μ-loop
 same-length-2 c =
     let l = c .before .before .before .before .before in
-    same-long (c .before .before .put .ensures) ∙ l .loop .inv .2 ∙ same-long (l .before .before .before .put-entry .ensures .0)
+    same-long (c .before .before .put .ensures) ∙ l .loop .inv .2
+    ∙ same-long (l .before .before .before .put-entry .ensures .0)
 
 returns-2 : tie.Need-returns-2 Inv-loop μ-loop
 returns-2 c = (search (list-last, needs), search needs)

@@ -30,7 +30,11 @@ slice-aggregate-array-4 : tie.Need-slice-aggregate-array-4
 slice-aggregate-array-4 c = search needs
 
 array-requires-4 : tie.Need-array-requires-4
-array-requires-4 c κs = ((c .before .before .before .before .array3 .ensures .moves .safe), (c .before .before .before .before .before .before .before .before .before .before .before .before .before .before .before .before .before .before .before .head .ensures .1))
+array-requires-4 c κs = (
+  (c .before .before .before .before .array3 .ensures .moves .safe),
+  (c .before .before .before .before .before .before .before .before .before .before .before .before .before .before
+      .before .before .before .before .before .head .ensures .1),
+)
 
 slice-aggregate-literal : tie.Need-slice-aggregate-literal
 slice-aggregate-literal c = search needs
@@ -54,13 +58,24 @@ same-length : tie.Need-same-length
 same-length c =
     let m = c .before .before .before .before .before .before .before .before .before .before .before .before in
     let k = m .before .before .before .before .before .before .before .before .before .before in
-    omega (arith, k .before .before .before .before .before .out .given, k .out2 .given, m .before .before .before .before .before .out3 .given, m .out4 .given, c .before .before .before .before .before .before .before .out5 .given)
+    omega (
+      arith,
+      k .before .before .before .before .before .out .given,
+      k .out2 .given,
+      m .before .before .before .before .before .out3 .given,
+      m .out4 .given,
+      c .before .before .before .before .before .before .before .out5 .given,
+    )
 
 returns : tie.Need-returns
 returns c =
     let m = c .before .before .before .before .before .before .before .before .before .before .before .before .before in
     let k = m .before .before .before .before .before .before .before .before .before .before in
-    document-read (k .before .before .before .before .before .head .ensures .0) (k .array .ensures) (m .before .before .before .before .before .array2 .ensures) (m .array3 .ensures) (c .before .before .before .before .before .before .before .before .array4 .ensures) (c .before .before .before .before .literal .ensures) (c .judge .ensures) (c .before .both .ensures ∙ rw (c .before .before .before .agree .ensures, c .before .before .settled .ensures))
+    document-read (k .before .before .before .before .before .head .ensures .0) (k .array .ensures)
+    (m .before .before .before .before .before .array2 .ensures) (m .array3 .ensures)
+    (c .before .before .before .before .before .before .before .before .array4 .ensures)
+    (c .before .before .before .before .literal .ensures) (c .judge .ensures) (c .before .both .ensures
+    ∙ rw (c .before .before .before .agree .ensures, c .before .before .settled .ensures))
 
 pub document-spec : {M : Type 1} → statement M
 document-spec =

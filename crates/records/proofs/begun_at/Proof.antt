@@ -2,12 +2,14 @@
 use borrow.Author.Needs.{needs}
 use Prim.Native.Nat.{_≤_, _-_}
 use lib.ListN.{length}
-use Rattle.records.proofs.Reading.{FieldsLoop, fields-start, fields-more, begun-faulty, name-within, begun-cut, begun-whole, begun-fits}
+use Rattle.records.proofs.Reading.{FieldsLoop, fields-start, fields-more, begun-faulty, name-within, begun-cut}
+use Rattle.records.proofs.Reading.{begun-whole, begun-fits}
 use Rattle.records.proofs.begun_at.Statement.{statement}
 use Rattle.records.proofs.begun_at.Tie as tie
 
 abbrev Inv-loop : tie.InvT-loop
-Inv-loop s at widths read next place₀ i₀ place i = (i ≤ length widths) × (place ≤ length s) × FieldsLoop s widths next place i
+Inv-loop s at widths read next place₀ i₀ place i = (i ≤ length widths) × (place ≤ length s)
+    × FieldsLoop s widths next place i
 
 abbrev μ-loop : tie.MeasureT-loop
 μ-loop s at widths read next place₀ i₀ place i = length widths - i
@@ -22,10 +24,16 @@ enum-told : tie.Need-enum-told Inv-loop μ-loop
 enum-told c = search needs
 
 returns : tie.Need-returns Inv-loop μ-loop
-returns c = let p = c .before .before .name-at in let e = c .enum-told .given .1 in (begun-faulty _ _ _ (p .ensures) e, rw e tt)
+returns c = let p = c .before .before .name-at in let e =
+    c .enum-told .given .1 in (begun-faulty _ _ _ (p .ensures) e, rw e tt)
 
 loop-holds : tie.Need-loop-holds Inv-loop μ-loop
-loop-holds c = (search needs, name-within _ _ (c .before .before .before .name-at .ensures) (c .before .answer .given .1), fields-start _ _ _)
+loop-holds c = (
+  search needs,
+  name-within _ _ (c .before .before .before .name-at .ensures)
+      (c .before .answer .given .1),
+  fields-start _ _ _,
+)
 
 shared-slice-read-wide : tie.Need-shared-slice-read-wide Inv-loop μ-loop
 shared-slice-read-wide c = search needs
@@ -40,8 +48,11 @@ returns-2 : tie.Need-returns-2 Inv-loop μ-loop
 returns-2 c =
     let p = c .before .before .before .before .before .before .before .before .name-at in
     let e = c .before .before .before .before .before .before .answer .given .1 in
-    let i = c .before .before .before .before .loop .inv in
-    (begun-cut _ _ _ (p .ensures) e (i .2) (c .before .before .before .loop-test .taken) (c .before .wide .ensures .0) (c .if1 .taken), tt)
+    let i = c .before .before .before .before .loop .inv in (
+      begun-cut _ _ _ (p .ensures) e (i .2) (c .before .before .before .loop-test .taken) (c .before .wide .ensures .0)
+          (c .if1 .taken),
+      tt,
+    )
 
 add-place : tie.Need-add-place Inv-loop μ-loop
 add-place c = search needs
@@ -53,15 +64,21 @@ loop-less : tie.Need-loop-less Inv-loop μ-loop
 loop-less c = search needs
 
 loop-again : tie.Need-loop-again Inv-loop μ-loop
-loop-again c =
-    (search needs, search needs, fields-more (c .before .before .before .before .loop .inv .2) (c .before .before .before .loop-test .taken) (c .before .wide .ensures .0) (c .if1 .left))
+loop-again c = (
+  search needs,
+  search needs,
+  fields-more (c .before .before .before .before .loop .inv .2)
+      (c .before .before .before .loop-test .taken) (c .before .wide .ensures .0) (c .if1 .left),
+)
 
 returns-3 : tie.Need-returns-3 Inv-loop μ-loop
 returns-3 c =
     let p = c .before .before .before .before .before .name-at in
     let e = c .before .before .before .answer .given .1 in
-    let i = c .before .loop .inv in
-    (begun-whole _ _ _ (p .ensures) e (i .2) (c .loop-test .left), begun-fits _ _ _ (p .ensures) e (i .2) (c .loop-test .left) (i .1))
+    let i = c .before .loop .inv in (
+      begun-whole _ _ _ (p .ensures) e (i .2) (c .loop-test .left),
+      begun-fits _ _ _ (p .ensures) e (i .2) (c .loop-test .left) (i .1),
+    )
 
 pub begun-at-spec : {M : Type 1} → statement M
 begun-at-spec =

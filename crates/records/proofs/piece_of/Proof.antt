@@ -1,4 +1,5 @@
--- `records::piece_of` meets its contract: one way for each layout, and one for the TYPEs that have none. The compiler tests the
+-- `records::piece_of` meets its contract: one way for each layout, and one for the TYPEs that have none. The compiler
+-- tests the
 -- TYPEs 2 to 9, but for 6, as a range.
 use borrow.Author.Needs.{needs}
 use borrow.Author.Tests.{le-leb, lt-leb, le-ltb}
@@ -21,8 +22,13 @@ use Rattle.records.proofs.piece_of.Tie as tie
 one-name : (kind : ℕ) → 2 ≤ kind → kind < 10 → (kind ≡ 6 → ⊥) → layoutOf kind ≡ some (name ∷ [])
 unfolding lookup layouts layoutOf
 one-name =
-    ranged (λ kind. (kind ≡ 6 → ⊥) → layoutOf kind ≡ some (name ∷ [])) 2 8
-    (λ h. refl, (λ h. refl, (λ h. refl, (λ h. refl, (λ h. absurd (h refl), (λ h. refl, (λ h. refl, (λ h. refl, tt))))))))
+    ranged (λ kind. (kind ≡ 6 → ⊥) → layoutOf kind ≡ some (name ∷ [])) 2 8 (
+      λ h. refl,
+      (
+        λ h. refl,
+        (λ h. refl, (λ h. refl, (λ h. absurd (h refl), (λ h. refl, (λ h. refl, (λ h. refl, tt)))))),
+      ),
+    )
 
 -- the TYPEs that are tested one by one
 abbrev arms : List (List ℕ)
@@ -63,35 +69,42 @@ returns-2 : tie.Need-returns-2
 unfolding lookup layouts layoutOf
 returns-2 c =
     let args = c .before .before .before .args in
-    piece-listed (name ∷ name ∷ fixed 20 ∷ []) (args .kind) (args .size) (args .i) (ap layoutOf (c .before .match .keys2)) (omega arith) (c .before .before .if1 .left) (c .nth-piece .ensures)
+    piece-listed (name ∷ name ∷ fixed 20 ∷ []) (args .kind) (args .size) (args .i)
+    (ap layoutOf (c .before .match .keys2)) (omega arith) (c .before .before .if1 .left) (c .nth-piece .ensures)
 
 returns-3 : tie.Need-returns-3
 unfolding lookup layouts layoutOf
 returns-3 c =
     let args = c .before .before .before .args in
-    piece-listed (name ∷ name ∷ []) (args .kind) (args .size) (args .i) (ap layoutOf (c .before .match .keys3)) (omega arith) (c .before .before .if1 .left) (c .nth-piece2 .ensures)
+    piece-listed (name ∷ name ∷ []) (args .kind) (args .size) (args .i) (ap layoutOf (c .before .match .keys3))
+    (omega arith) (c .before .before .if1 .left) (c .nth-piece2 .ensures)
 
 returns-4 : tie.Need-returns-4
 unfolding lookup layouts layoutOf
 returns-4 c =
     let args = c .before .before .before .args in
-    piece-listed (fixed 2 ∷ name ∷ []) (args .kind) (args .size) (args .i) (ap layoutOf (c .before .match .keys4)) (omega arith) (c .before .before .if1 .left) (c .nth-piece3 .ensures)
+    piece-listed (fixed 2 ∷ name ∷ []) (args .kind) (args .size) (args .i) (ap layoutOf (c .before .match .keys4))
+    (omega arith) (c .before .before .if1 .left) (c .nth-piece3 .ensures)
 
 returns-5 : tie.Need-returns-5
 returns-5 c =
     let m = c .before .before in
     let args = m .before .before .args in
     let out : (leb 2 (args .kind) && ltb (args .kind) 10) ≡ false =
-    ⊎-elim (λ low. below (args .kind) (low .taken)) (λ high. beyond (args .kind) (high .1 .left)) (c .before .if2 .came) in
-    piece-free (args .kind) (args .size) (args .i) (no-layout _ (args .kind) (m .match .rest) out) (m .before .if1 .left) (c .nth-piece4 .ensures)
+    ⊎-elim (λ low. below (args .kind) (low .taken)) (λ high. beyond (args .kind) (high .1 .left))
+    (c .before .if2 .came) in
+    piece-free (args .kind) (args .size) (args .i) (no-layout _ (args .kind) (m .match .rest) out)
+    (m .before .if1 .left) (c .nth-piece4 .ensures)
 
 returns-6 : tie.Need-returns-6
 unfolding lookup layouts layoutOf
 returns-6 c =
     let args = c .before .before .before .args in
     let one : layoutOf (args .kind) ≡ some (name ∷ []) =
-    ⊎-elim (λ m. ap layoutOf (m .keys1)) (λ m. one-name (args .kind) (m .1 .left) (m .2 .taken) (m .0 .rest .0 .0 .1)) (c .before .match .came) in
-    piece-listed (name ∷ []) (args .kind) (args .size) (args .i) one (omega arith) (c .before .before .if1 .left) (c .nth-piece5 .ensures)
+    ⊎-elim (λ m. ap layoutOf (m .keys1)) (λ m. one-name (args .kind) (m .1 .left) (m .2 .taken) (m .0 .rest .0 .0 .1))
+    (c .before .match .came) in
+    piece-listed (name ∷ []) (args .kind) (args .size) (args .i) one (omega arith) (c .before .before .if1 .left)
+    (c .nth-piece5 .ensures)
 
 pub piece-of-spec : {M : Type 1} → statement M
 piece-of-spec =

@@ -19,24 +19,50 @@ enum-known-answer-2 : tie.Need-enum-known-answer-2
 enum-known-answer-2 c = search needs
 
 two-at-requires : tie.Need-two-at-requires
-two-at-requires c κs = omega (arith, begins _ (2 ∷ 2 ∷ []) (c .before .before .before .before .begun-at .ensures .1) (c .before .answer2 .given .1))
+two-at-requires c κs =
+    omega (
+      arith,
+      begins _ (2 ∷ 2 ∷ []) (c .before .before .before .before .begun-at .ensures .1)
+          (c .before .answer2 .given .1),
+    )
 
 add-two-at : tie.Need-add-two-at
-add-two-at c = omega (arith, begins _ (2 ∷ 2 ∷ []) (c .before .before .before .before .before .begun-at .ensures .1) (c .before .before .answer2 .given .1))
+add-two-at c = omega (
+  arith,
+  begins _ (2 ∷ 2 ∷ []) (c .before .before .before .before .before .begun-at .ensures .1)
+      (c .before .before .answer2 .given .1),
+)
 
 two-at-requires-2 : tie.Need-two-at-requires-2
-two-at-requires-2 c κs = omega (arith, begins _ (2 ∷ 2 ∷ []) (c .before .before .before .before .before .begun-at .ensures .1) (c .before .before .answer2 .given .1))
+two-at-requires-2 c κs =
+    omega (
+      arith,
+      begins _ (2 ∷ 2 ∷ []) (c .before .before .before .before .before .begun-at .ensures .1)
+          (c .before .before .answer2 .given .1),
+    )
 
 add-t16 : tie.Need-add-t16
-add-t16 c = omega (arith, begins _ (2 ∷ 2 ∷ []) (c .before .before .before .before .before .before .begun-at .ensures .1) (c .before .before .before .answer2 .given .1))
+add-t16 c = omega (
+  arith,
+  begins _ (2 ∷ 2 ∷ []) (c .before .before .before .before .before .before .begun-at .ensures .1)
+      (c .before .before .before .answer2 .given .1),
+)
 
 returns : tie.Need-returns
-returns c = (question-faulty _ _ (c .before .before .before .before .begun-at .ensures .0) (c .before .answer .given .1), tt)
+returns c = (
+  question-faulty _ _ (c .before .before .before .before .begun-at .ensures .0)
+      (c .before .answer .given .1),
+  tt,
+)
 
 returns-2 : tie.Need-returns-2
 returns-2 c =
     let m = c .before .before .before in
-    let p = begins _ (2 ∷ 2 ∷ []) (m .before .before .before .begun-at .ensures .1) (m .answer2 .given .1) in (question-whole _ _ (m .before .before .before .begun-at .ensures .0) (m .answer2 .given .1) (c .before .two-at .ensures .0) (c .two-at2 .ensures .0), omega arith)
+    let p = begins _ (2 ∷ 2 ∷ []) (m .before .before .before .begun-at .ensures .1) (m .answer2 .given .1) in (
+      question-whole _ _ (m .before .before .before .begun-at .ensures .0) (m .answer2 .given .1)
+          (c .before .two-at .ensures .0) (c .two-at2 .ensures .0),
+      omega arith,
+    )
 
 pub question-at-spec : {M : Type 1} → statement M
 question-at-spec =

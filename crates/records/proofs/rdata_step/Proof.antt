@@ -1,7 +1,8 @@
 -- `records::rdata_step` meets its contract: one way for each piece and each of its faults.
 use borrow.Author.Needs.{needs}
 use Prim.Native.Nat.{_+_}
-use Rattle.records.proofs.Pieces.{step-surplus, step-done, step-short, step-part, step-faulty, step-name, with-steps}
+use Rattle.records.proofs.Pieces.{step-surplus, step-done, step-short, step-part, step-faulty, step-name}
+use Rattle.records.proofs.Pieces.{with-steps}
 use Rattle.records.proofs.rdata_step.Statement.{statement}
 use Rattle.records.proofs.rdata_step.Tie as tie
 
@@ -21,7 +22,8 @@ returns : tie.Need-returns
 returns c =
     let near = c .before .before .before .before in
     let a = near .before .before .args in
-    with-steps (a .s .now) (a .start) (a .start + a .size) (a .at) (a .i) (search needs) (search needs) (a .kind) (a .size)
+    with-steps (a .s .now) (a .start) (a .start + a .size) (a .at) (a .i) (search needs) (search needs) (a .kind)
+    (a .size)
     (search (step-surplus, needs))
 
 plain-step-requires-2 : tie.Need-plain-step-requires-2
@@ -40,7 +42,8 @@ returns-2 : tie.Need-returns-2
 returns-2 c =
     let near = c .before .before .before .before in
     let a = near .before .before .before .args in
-    with-steps (a .s .now) (a .start) (a .start + a .size) (a .at) (a .i) (search needs) (search needs) (a .kind) (a .size)
+    with-steps (a .s .now) (a .start) (a .start + a .size) (a .at) (a .i) (search needs) (search needs) (a .kind)
+    (a .size)
     (search (step-short, needs))
 
 add-t20 : tie.Need-add-t20
@@ -72,21 +75,24 @@ returns-3 c =
     let near = c .before .before .before .before in
     let mid = near .before .before .before .before in
     let a = mid .before .before .args in
-    with-steps (a .s .now) (a .start) (a .start + a .size) (a .at) (a .i) (search needs) (search needs) (a .kind) (a .size)
+    with-steps (a .s .now) (a .start) (a .start + a .size) (a .at) (a .i) (search needs) (search needs) (a .kind)
+    (a .size)
     (search (step-faulty, needs))
 
 returns-4 : tie.Need-returns-4
 returns-4 c =
     let near = c .before .before .before .before in
     let a = near .before .before .args in
-    with-steps (a .s .now) (a .start) (a .start + a .size) (a .at) (a .i) (search needs) (search needs) (a .kind) (a .size)
+    with-steps (a .s .now) (a .start) (a .start + a .size) (a .at) (a .i) (search needs) (search needs) (a .kind)
+    (a .size)
     (search (step-done, needs))
 
 returns-5 : tie.Need-returns-5
 returns-5 c =
     let near = c .before .before .before .before in
     let a = near .before .before .before .args in
-    with-steps (a .s .now) (a .start) (a .start + a .size) (a .at) (a .i) (search needs) (search needs) (a .kind) (a .size)
+    with-steps (a .s .now) (a .start) (a .start + a .size) (a .at) (a .i) (search needs) (search needs) (a .kind)
+    (a .size)
     (search (step-part, needs))
 
 returns-6 : tie.Need-returns-6
@@ -94,7 +100,8 @@ returns-6 c =
     let near = c .before .before .before .before in
     let mid = near .before .before .before .before in
     let a = mid .before .args in
-    with-steps (a .s .now) (a .start) (a .start + a .size) (a .at) (a .i) (search needs) (search needs) (a .kind) (a .size)
+    with-steps (a .s .now) (a .start) (a .start + a .size) (a .at) (a .i) (search needs) (search needs) (a .kind)
+    (a .size)
     (search (step-name, needs))
 
 pub rdata-step-spec : {M : Type 1} → statement M

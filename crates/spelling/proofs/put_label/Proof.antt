@@ -10,7 +10,8 @@ use Rattle.spelling.proofs.put_label.Statement.{statement}
 use Rattle.spelling.proofs.put_label.Tie as tie
 
 abbrev Inv-loop : tie.InvT-loop
-Inv-loop out₀ at label table to₀ i₀ out to i = (i ≤ length label) × (to ≤ at + 5 * i) × Wrote out₀ at (each spelled (take i label)) out to
+Inv-loop out₀ at label table to₀ i₀ out to i = (i ≤ length label) × (to ≤ at + 5 * i)
+    × Wrote out₀ at (each spelled (take i label)) out to
 
 abbrev μ-loop : tie.MeasureT-loop
 μ-loop out₀ at label table to₀ i₀ out to i = length label - i
@@ -37,7 +38,8 @@ put-requires : tie.Need-put-requires Inv-loop μ-loop
 put-requires c κs = search needs
 
 same-length : tie.Need-same-length Inv-loop μ-loop
-same-length c = same-long (then (c .before .before .before .before .before .loop .inv .2) (c .before .before .put .ensures))
+same-length c = same-long
+    (then (c .before .before .before .before .before .loop .inv .2) (c .before .before .put .ensures))
 
 returns : tie.Need-returns Inv-loop μ-loop
 returns c = (search (wrote-label, needs), search needs)

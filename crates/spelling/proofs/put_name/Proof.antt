@@ -1,14 +1,17 @@
--- `spelling::put_name` meets its contract: at each length octet, what is written and the text from there on are the whole.
+-- `spelling::put_name` meets its contract: at each length octet, what is written and the text from there on are the
+-- whole.
 use borrow.Author.Needs.{needs}
 use mathlib.Core.Path.{_≡_}
 use Prim.Native.Nat.{_≤_, _+_, _*_, _-_}
 use lib.ListN.{length}
-use Rattle.spelling.proofs.Writing.{Begun, begun-start, wrote-empty, wrote-root, begun-end, begun-root, begun-label, begun-cut}
+use Rattle.spelling.proofs.Writing.{Begun, begun-start, wrote-empty, wrote-root, begun-end, begun-root}
+use Rattle.spelling.proofs.Writing.{begun-label, begun-cut}
 use Rattle.spelling.proofs.put_name.Statement.{statement}
 use Rattle.spelling.proofs.put_name.Tie as tie
 
 abbrev Inv-loop : tie.InvT-loop
-Inv-loop out₀ at form table to₀ i₀ out to i = (i ≤ length form) × (to ≤ at + 5 * i) × (length out ≡ length out₀) × Begun form out₀ at out to i
+Inv-loop out₀ at form table to₀ i₀ out to i = (i ≤ length form) × (to ≤ at + 5 * i) × (length out ≡ length out₀)
+    × Begun form out₀ at out to i
 
 abbrev μ-loop : tie.MeasureT-loop
 μ-loop out₀ at form table to₀ i₀ out to i = length form - i

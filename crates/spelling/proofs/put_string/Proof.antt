@@ -10,7 +10,8 @@ use Rattle.spelling.proofs.put_string.Statement.{statement}
 use Rattle.spelling.proofs.put_string.Tie as tie
 
 abbrev Inv-loop : tie.InvT-loop
-Inv-loop out₀ at src to₀ i₀ out to i = (i ≤ length src) × (to ≤ at + 2 * i) × Wrote out₀ at (each stringOctet (take i src)) out to
+Inv-loop out₀ at src to₀ i₀ out to i = (i ≤ length src) × (to ≤ at + 2 * i)
+    × Wrote out₀ at (each stringOctet (take i src)) out to
 
 abbrev μ-loop : tie.MeasureT-loop
 μ-loop out₀ at src to₀ i₀ out to i = length src - i
@@ -37,7 +38,8 @@ put-requires : tie.Need-put-requires Inv-loop μ-loop
 put-requires c κs = search needs
 
 same-length : tie.Need-same-length Inv-loop μ-loop
-same-length c = same-long (then (c .before .before .before .before .before .loop .inv .2) (c .before .before .put .ensures))
+same-length c = same-long
+    (then (c .before .before .before .before .before .loop .inv .2) (c .before .before .put .ensures))
 
 returns : tie.Need-returns Inv-loop μ-loop
 returns c = (search (wrote-string, needs), search needs)

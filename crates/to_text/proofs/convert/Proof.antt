@@ -27,14 +27,16 @@ returns : tie.Need-returns
 returns c =
     let u = c .before .before .before .before in
     let octet = u .before .before .before .shared-slice-known .given in
-    converts _ (λ i. octet i .fits) (convert-refused _ _ _ (u .uncompress .kept .1 .0) (u .uncompress .ensures) (c .enum-told .given .1))
+    converts _ (λ i. octet i .fits) (convert-refused _ _ _ (u .uncompress .kept .1 .0) (u .uncompress .ensures)
+    (c .enum-told .given .1))
 
 deliver-requires : tie.Need-deliver-requires
 deliver-requires c κs =
     let m = c .before .before in
     let u = m .before .before .before .before in
     let octet = u .before .before .before .shared-slice-known .given in
-    let l = convert-bounded _ [] _ (u .uncompress .kept .1 .0) (u .uncompress .ensures) (λ i. octet i .fits) (m .outcome .given .1) in
+    let l = convert-bounded _ [] _ (u .uncompress .kept .1 .0) (u .uncompress .ensures) (λ i. octet i .fits)
+    (m .outcome .given .1) in
     (convert-accepted _ [] _ (u .uncompress .kept .1 .0) (u .uncompress .ensures) (m .outcome .given .1), l .0, l .1)
 
 same-length-2 : tie.Need-same-length-2
@@ -45,7 +47,8 @@ returns-2 c =
     let m = c .before .before .before .before .before in
     let u = m .before .before .before .before in
     let octet = u .before .before .before .shared-slice-known .given in
-    converts _ (λ i. octet i .fits) (convert-whole _ _ _ (u .uncompress .kept .1 .0) (u .uncompress .ensures) (c .before .before .deliver .ensures))
+    converts _ (λ i. octet i .fits) (convert-whole _ _ _ (u .uncompress .kept .1 .0) (u .uncompress .ensures)
+    (c .before .before .deliver .ensures))
 
 pub convert-spec : {M : Type 1} → statement M
 convert-spec =

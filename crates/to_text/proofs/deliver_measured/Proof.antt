@@ -19,7 +19,8 @@ same-length c = search needs
 returns : tie.Need-returns
 returns c =
     let m = c .before .before .before in
-    measured-long (m .before .before .before .before .pre) _ _ (m .put-text .kept .1 .1 .0) (m .put-text .ensures) (c .if1 .taken)
+    measured-long (m .before .before .before .before .pre) _ _ (m .put-text .kept .1 .1 .0) (m .put-text .ensures)
+    (c .if1 .taken)
 
 put-text-requires-2 : tie.Need-put-text-requires-2
 put-text-requires-2 c κs = search needs
@@ -31,7 +32,8 @@ returns-2 : tie.Need-returns-2
 returns-2 c =
     let t = c .before .before .before .before in
     let m = t .before .before .before in
-    measured-text (m .before .before .before .before .pre) _ _ (m .put-text .kept .1 .1 .0) (m .put-text .ensures) (t .if1 .left) (c .before .before .put-text2 .ensures)
+    measured-text (m .before .before .before .before .pre) _ _ (m .put-text .kept .1 .1 .0) (m .put-text .ensures)
+    (t .if1 .left) (c .before .before .put-text2 .ensures)
 
 pub deliver-measured-spec : {M : Type 1} → statement M
 deliver-measured-spec =

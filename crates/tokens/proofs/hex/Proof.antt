@@ -47,7 +47,11 @@ add-at : tie.Need-add-at Inv-loop μ-loop
 add-at c = search needs
 
 loop-less : tie.Need-loop-less Inv-loop μ-loop
-loop-less c = omega (arith, pairs-inside (c .before .before .before .before .loop .inv) (c .before .before .before .hex-at .ensures) (c .before .before .if2 .left))
+loop-less c = omega (
+  arith,
+  pairs-inside (c .before .before .before .before .loop .inv) (c .before .before .before .hex-at .ensures)
+      (c .before .before .if2 .left),
+)
 
 loop-again : tie.Need-loop-again Inv-loop μ-loop
 loop-again c = search (pairs-more, needs)

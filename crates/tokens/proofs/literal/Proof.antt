@@ -1,6 +1,7 @@
 use Prim.Native.Nat.{_-_}
 use lib.ListN.{length}
-use Rattle.tokens.specs.Cursor.{Matching, matching-start, matching-more, matching-end, matching-short, matching-other, passed-stuck}
+use Rattle.tokens.specs.Cursor.{Matching, matching-start, matching-more, matching-end, matching-short}
+use Rattle.tokens.specs.Cursor.{matching-other, passed-stuck}
 use borrow.Author.Needs.{needs}
 use Rattle.tokens.proofs.literal.Statement.{statement}
 use Rattle.tokens.proofs.literal.Tie as tie

@@ -3,7 +3,8 @@ use native.Mathlib.Omega.{arith}
 use Prim.Native.Nat.{_-_}
 use borrow.Author.Needs.{needs}
 use lib.ListN.{length}
-use Rattle.tokens.specs.Number.{DigitsLoop, digits-capped, positive-stuck, positive-short, positive-other, positive-zero, digits-short, digits-end, digits-start, digits-more}
+use Rattle.tokens.specs.Number.{DigitsLoop, digits-capped, positive-stuck, positive-short, positive-other}
+use Rattle.tokens.specs.Number.{positive-zero, digits-short, digits-end, digits-start, digits-more}
 use Rattle.tokens.proofs.positive.Statement.{statement}
 use Rattle.tokens.proofs.positive.Tie as tie
 
@@ -38,7 +39,8 @@ none-requires-3 : tie.Need-none-requires-3 Inv-loop μ-loop
 none-requires-3 c κs = search needs
 
 returns-4 : tie.Need-returns-4 Inv-loop μ-loop
-returns-4 c = positive-zero (search needs) (search needs) (search needs) (c .before .before .before .digit .ensures) (omega arith) (c .none3 .ensures)
+returns-4 c = positive-zero (search needs) (search needs) (search needs) (c .before .before .before .digit .ensures)
+    (omega arith) (c .none3 .ensures)
 
 add-at : tie.Need-add-at Inv-loop μ-loop
 add-at c = search needs
@@ -74,7 +76,8 @@ loop-less : tie.Need-loop-less Inv-loop μ-loop
 loop-less c = search needs
 
 loop-again : tie.Need-loop-again Inv-loop μ-loop
-loop-again c = digits-more (c .before .before .before .before .before .loop .inv) (search needs) (c .before .before .digit2 .ensures) (c .before .if6 .left) (c .push .ensures)
+loop-again c = digits-more (c .before .before .before .before .before .loop .inv) (search needs)
+    (c .before .before .digit2 .ensures) (c .before .if6 .left) (c .push .ensures)
 
 pub positive-spec : {M : Type 1} → statement M
 positive-spec =

@@ -22,7 +22,8 @@ same-length : tie.Need-same-length
 same-length c = search needs
 
 returns-2 : tie.Need-returns-2
-returns-2 c = long-in (omega (arith, c .before .before .before .before .if1 .left)) refl (c .before .before .emit-four .ensures)
+returns-2 c = long-in (omega (arith, c .before .before .before .before .if1 .left)) refl
+    (c .before .before .emit-four .ensures)
 
 pub put-long-spec : {M : Type 1} → statement M
 put-long-spec =

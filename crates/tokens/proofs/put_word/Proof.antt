@@ -28,7 +28,8 @@ same-length : tie.Need-same-length
 same-length c = search needs
 
 returns-2 : tie.Need-returns-2
-returns-2 c = word-in (omega (arith, c .before .before .before .before .before .if1 .left)) refl (c .before .before .emit .ensures)
+returns-2 c = word-in (omega (arith, c .before .before .before .before .before .if1 .left)) refl
+    (c .before .before .emit .ensures)
 
 pub put-word-spec : {M : Type 1} → statement M
 put-word-spec =

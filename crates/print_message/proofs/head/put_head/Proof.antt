@@ -36,8 +36,11 @@ returns c =
     let counts = c .before .before in
     let low = counts .before .before .before .before in
     let high = low .before .before .before .before .before in
-    let id = high .before .before .before .before .before in
-    (wrote-head _ (id .before .two-at .ensures .0) (id .put-number .ensures .0) (high .put-high .ensures .0) (low .put-low .ensures .0) (counts .put-counts .ensures .0), search needs)
+    let id = high .before .before .before .before .before in (
+      wrote-head _ (id .before .two-at .ensures .0) (id .put-number .ensures .0) (high .put-high .ensures .0)
+          (low .put-low .ensures .0) (counts .put-counts .ensures .0),
+      search needs,
+    )
 
 pub put-head-spec : {M : Type 1} → statement M
 put-head-spec =

@@ -3,7 +3,8 @@ use mathlib.Core.Path.{_∙_}
 use native.Mathlib.Omega.{arith}
 use lib.ListN.{length}
 use borrow.Author.Needs.{needs}
-use Rattle.reader.specs.Sections.{Gathered, gathered-start, gathered-far, gathered-more, inside-stopped, inside-end, inside-no}
+use Rattle.reader.specs.Sections.{Gathered, gathered-start, gathered-far, gathered-more, inside-stopped}
+use Rattle.reader.specs.Sections.{inside-end, inside-no}
 use Rattle.reader.proofs.entries.inside.Statement.{statement}
 use Rattle.reader.proofs.entries.inside.Tie as tie
 
@@ -52,7 +53,9 @@ either-requires-2 : tie.Need-either-requires-2 Inv-loop μ-loop
 either-requires-2 c κs = search needs
 
 same-length-2 : tie.Need-same-length-2 Inv-loop μ-loop
-same-length-2 c = c .before .before .before .before .before .before .before .before .out .given ∙ c .before .before .before .before .before .before .before .before .before .before .before .before .before .loop .inv .long
+same-length-2 c = c .before .before .before .before .before .before .before .before .out .given
+    ∙ c .before .before .before .before .before .before .before .before .before .before .before .before .before .loop
+    .inv .long
 
 returns-3 : tie.Need-returns-3 Inv-loop μ-loop
 returns-3 c = search (inside-no, needs)
@@ -60,7 +63,12 @@ returns-3 c = search (inside-no, needs)
 loop-less : tie.Need-loop-less Inv-loop μ-loop
 loop-less c =
     let m = c .before .before .before .before .before .before .before .before .before in
-    omega (arith, gathered-far _ (m .before .before .before .before .before .if1 .left) (m .before .before .before .before .loop .inv) (m .next .ensures) (c .if3 .left), m .next .ensures .moves .safe .inside)
+    omega (
+      arith,
+      gathered-far _ (m .before .before .before .before .before .if1 .left)
+          (m .before .before .before .before .loop .inv) (m .next .ensures) (c .if3 .left),
+      m .next .ensures .moves .safe .inside,
+    )
 
 loop-again : tie.Need-loop-again Inv-loop μ-loop
 loop-again c = search (gathered-more, needs)

@@ -40,12 +40,20 @@ literal-requires-4 c κs = search needs
 same-length : tie.Need-same-length
 same-length c =
     let m = c .before .before .before .before .before .before .before .before .before in
-    omega (arith, m .before .before .before .before .before .before .out .given, m .out2 .given, c .before .before .before .out3 .given)
+    omega (
+      arith,
+      m .before .before .before .before .before .before .out .given,
+      m .out2 .given,
+      c .before .before .before .out3 .given,
+    )
 
 returns : tie.Need-returns
 returns c =
     let m = c .before .before .before .before .before .before .before .before .before .before in
-    question-read (m .before .before .before .before .before .before .before .before .literal .ensures) (m .before .before .before .before .before .before .name .ensures) (m .before .before .literal2 .ensures) (m .word .ensures) (c .before .before .before .before .before .before .literal3 .ensures) (c .before .before .before .before .word2 .ensures) (c .literal4 .ensures)
+    question-read (m .before .before .before .before .before .before .before .before .literal .ensures)
+    (m .before .before .before .before .before .before .name .ensures) (m .before .before .literal2 .ensures)
+    (m .word .ensures) (c .before .before .before .before .before .before .literal3 .ensures)
+    (c .before .before .before .before .word2 .ensures) (c .literal4 .ensures)
 
 pub question-spec : {M : Type 1} → statement M
 question-spec =

@@ -41,7 +41,11 @@ emit-requires : tie.Need-emit-requires
 emit-requires c κs = search needs
 
 put-hex-requires : tie.Need-put-hex-requires
-put-hex-requires c κs = (hex-digits (c .before .before .before .before .before .before .before .before .before .before .before .hex .ensures), search needs)
+put-hex-requires c κs = (
+  hex-digits (c .before .before .before .before .before .before .before .before .before .before .before .hex
+      .ensures),
+  search needs,
+)
 
 same-length : tie.Need-same-length
 same-length c = search needs

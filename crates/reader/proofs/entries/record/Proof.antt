@@ -32,21 +32,35 @@ literal-requires-3 : tie.Need-literal-requires-3
 literal-requires-3 c κs = search needs
 
 sub-tail : tie.Need-sub-tail
-sub-tail c = (c .before .before .before .before .before .before .before .before .before .before .before .before .before .before .before .before .name .ensures .moves .onward)
+sub-tail c = (c .before .before .before .before .before .before .before .before .before .before .before .before .before
+    .before .before .before .name .ensures .moves .onward)
 
 tail-requires : tie.Need-tail-requires
-tail-requires c κs = ((c .before .literal3 .ensures .keeps .safe), c .before .before .before .before .before .before .before .before .before .before .before .before .before .before .before .before .before .before .before .before .before .pre .1)
+tail-requires c κs = (
+  (c .before .literal3 .ensures .keeps .safe),
+  c .before .before .before .before .before .before .before .before .before .before .before .before .before .before
+      .before .before .before .before .before .before .before .pre .1,
+)
 
 same-length : tie.Need-same-length
 same-length c =
     let m = c .before .before .before .before .before .before .before in
-    omega (arith, m .before .before .before .before .before .before .before .before .before .before .before .before .out .given, m .before .before .before .before .before .before .out2 .given, m .out3 .given, c .before .out4 .given)
+    omega (
+      arith,
+      m .before .before .before .before .before .before .before .before .before .before .before .before .out
+          .given,
+      m .before .before .before .before .before .before .out2 .given,
+      m .out3 .given,
+      c .before .out4 .given,
+    )
 
 returns : tie.Need-returns
 returns c =
     let m = c .before .before .before .before .before .before .before .before in
     let k = m .before .before .before .before .before .before in
-    record-read (k .before .before .before .before .before .before .name .ensures) (search needs) (k .before .before .literal .ensures) (k .word .ensures) (m .before .before .literal2 .ensures) (m .word2 .ensures) (c .before .before .before .before .literal3 .ensures) (c .before .before .tail .ensures)
+    record-read (k .before .before .before .before .before .before .name .ensures) (search needs)
+    (k .before .before .literal .ensures) (k .word .ensures) (m .before .before .literal2 .ensures)
+    (m .word2 .ensures) (c .before .before .before .before .literal3 .ensures) (c .before .before .tail .ensures)
 
 pub record-spec : {M : Type 1} → statement M
 record-spec =

@@ -26,7 +26,11 @@ literal-requires-2 : tie.Need-literal-requires-2
 literal-requires-2 c κs = search needs
 
 shows-edns-requires : tie.Need-shows-edns-requires
-shows-edns-requires c κs = (run-digits (c .before .before .before .before .rdata .ensures .run), c .before .before .before .before .before .before .before .before .before .before .before .before .before .before .before .pre .1)
+shows-edns-requires c κs = (
+  run-digits (c .before .before .before .before .rdata .ensures .run),
+  c .before .before .before .before .before .before .before .before .before .before .before .before .before .before
+      .before .pre .1,
+)
 
 same-length : tie.Need-same-length
 same-length c = search needs
@@ -34,7 +38,10 @@ same-length c = search needs
 returns : tie.Need-returns
 returns c =
     let m = c .before .before .before .before .before in
-    tail-read (m .before .before .before .before .before .before .before .before .signed .ensures) (m .before .before .before .before .before .before .put-ttl .ensures .done) (m .before .before .literal .ensures) (m .rdata .ensures) (c .before .literal2 .ensures) (c .shows-edns .ensures)
+    tail-read (m .before .before .before .before .before .before .before .before .signed .ensures)
+    (m .before .before .before .before .before .before .put-ttl .ensures .done)
+    (m .before .before .literal .ensures) (m .rdata .ensures) (c .before .literal2 .ensures)
+    (c .shows-edns .ensures)
 
 pub tail-spec : {M : Type 1} → statement M
 tail-spec =

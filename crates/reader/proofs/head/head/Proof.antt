@@ -41,7 +41,18 @@ same-length c = search needs
 
 returns : tie.Need-returns
 returns c = (
-  head-read (c .before .before .before .before .before .before .before .before .before .before .before .before .before .before .before .before .before .before .literal .ensures) (c .before .before .before .before .before .before .before .before .before .before .before .before .before .before .before .before .till .ensures) (c .before .before .before .before .before .before .before .before .before .before .before .before .before .before .before .high-flags .ensures) (c .before .before .before .before .before .before .before .before .before .before .before .before .before .before .low-flags .ensures) (c .before .before .before .before .before .before .before .before .before .before .before .before .before .read-counts .ensures) (c .before .before .before .before .before .before .before .before .before .before .before .put-word .ensures .done) (c .before .before .before .before .before .before .before .put-flags .ensures) (c .before .before .before .put-counts .ensures) (search needs),
+  head-read (c .before .before .before .before .before .before .before .before .before .before .before .before .before
+      .before .before .before .before .before .literal .ensures)
+      (c .before .before .before .before .before .before .before .before .before .before .before .before .before .before
+      .before .before .till .ensures)
+      (c .before .before .before .before .before .before .before .before .before .before .before .before .before .before
+      .before .high-flags .ensures)
+      (c .before .before .before .before .before .before .before .before .before .before .before .before .before .before
+      .low-flags .ensures) (c .before .before .before .before .before .before .before .before .before .before .before
+      .before .before .read-counts .ensures)
+      (c .before .before .before .before .before .before .before .before .before .before .before .put-word .ensures
+      .done) (c .before .before .before .before .before .before .before .put-flags .ensures)
+      (c .before .before .before .put-counts .ensures) (search needs),
   search needs,
 )
 

@@ -21,7 +21,9 @@ same-length c = search needs
 returns : tie.Need-returns
 returns c =
     let m = c .before .before .before .before .before .before in
-    put-counts (m .before .before .before .before .before .before .before .before .put-word .ensures .done) (m .before .before .before .before .put-word2 .ensures .done) (m .put-word3 .ensures .done) (c .before .before .put-word4 .ensures .done)
+    put-counts (m .before .before .before .before .before .before .before .before .put-word .ensures .done)
+    (m .before .before .before .before .put-word2 .ensures .done) (m .put-word3 .ensures .done)
+    (c .before .before .put-word4 .ensures .done)
 
 pub put-counts-spec : {M : Type 1} → statement M
 put-counts-spec =

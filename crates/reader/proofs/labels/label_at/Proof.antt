@@ -1,4 +1,5 @@
-use Rattle.reader.specs.Label.{Letters, letters-start, label-none, letters-long, letters-end, letters-bad, letters-far, letters-more}
+use Rattle.reader.specs.Label.{Letters, letters-start, label-none, letters-long, letters-end, letters-bad}
+use Rattle.reader.specs.Label.{letters-far, letters-more}
 use native.Mathlib.Omega.{arith}
 use Prim.Native.Nat.{_-_}
 use lib.ListN.{length}
@@ -69,7 +70,11 @@ add-n c = search needs
 loop-less : tie.Need-loop-less Inv-loop μ-loop
 loop-less c =
     let m = c .before .before .before .before .before .before in
-    omega (arith, letters-far (m .before .before .before .loop .inv) (m .before .before .octet-at2 .ensures) (m .before .if2 .left) (m .octet .ensures) (c .before .before .before .before .if4 .left))
+    omega (
+      arith,
+      letters-far (m .before .before .before .loop .inv) (m .before .before .octet-at2 .ensures)
+          (m .before .if2 .left) (m .octet .ensures) (c .before .before .before .before .if4 .left),
+    )
 
 loop-again : tie.Need-loop-again Inv-loop μ-loop
 loop-again c = search (letters-more, needs)

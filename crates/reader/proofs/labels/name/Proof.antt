@@ -12,7 +12,13 @@ octet-at-requires : tie.Need-octet-at-requires
 octet-at-requires c κs = search needs
 
 root-requires : tie.Need-root-requires
-root-requires c κs = (search needs, (not-false _ (c .before .before .before .if1 .left), byte-as (c .before .before .octet-at .ensures) (c .before .if2 .taken)))
+root-requires c κs = (
+  search needs,
+  (
+    not-false _ (c .before .before .before .if1 .left),
+    byte-as (c .before .before .octet-at .ensures) (c .before .if2 .taken),
+  ),
+)
 
 same-length : tie.Need-same-length
 same-length c = search needs

@@ -51,12 +51,19 @@ add-requires c κs = search needs
 loop-less : tie.Need-loop-less Inv-loop μ-loop
 loop-less c =
     let m = c .before .before .before .before in
-    omega (arith, chars-far (m .before .before .before .before .before .loop .inv) (m .before .before .char-at .ensures) (m .if3 .left), c .before .before .add .ensures .emits .at, c .before .before .add .ensures .came .at)
+    omega (
+      arith,
+      chars-far (m .before .before .before .before .before .loop .inv) (m .before .before .char-at .ensures)
+          (m .if3 .left),
+      c .before .before .add .ensures .emits .at,
+      c .before .before .add .ensures .came .at,
+    )
 
 loop-again : tie.Need-loop-again Inv-loop μ-loop
 loop-again c =
     let m = c .before .before .before .before in
-    chars-more (m .before .before .before .before .before .loop .inv) (m .before .before .char-at .ensures) (m .if3 .left) (c .before .before .add .ensures) (search needs)
+    chars-more (m .before .before .before .before .before .loop .inv) (m .before .before .char-at .ensures)
+    (m .if3 .left) (c .before .before .add .ensures) (search needs)
 
 pub string-spec : {M : Type 1} → statement M
 string-spec =

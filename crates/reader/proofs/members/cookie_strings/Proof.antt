@@ -5,7 +5,8 @@ use borrow.Author.Needs.{needs}
 use borrow.Author.Tests.{not-true}
 use lib.ListN.{length}
 use Rattle.tokens.specs.Step.{found-stuck}
-use Rattle.reader.specs.Values.{Cookies, cookieParse, cookies-start, cookies-end, cookies-stop, cookies-far, cookies-more}
+use Rattle.reader.specs.Values.{Cookies, cookieParse, cookies-start, cookies-end, cookies-stop, cookies-far}
+use Rattle.reader.specs.Values.{cookies-more}
 use Rattle.reader.proofs.members.cookie_strings.Statement.{statement}
 use Rattle.reader.proofs.members.cookie_strings.Tie as tie
 
@@ -57,7 +58,12 @@ next-part-requires c κs = search needs
 loop-less : tie.Need-loop-less Inv-loop μ-loop
 loop-less c =
     let m = c .before .before .before .before .before in
-    omega (arith, cookies-far (m .before .before .before .before .before .before .if1 .left) (m .before .before .before .before .before .loop .inv) (m .before .before .comma .ensures) (m .cookie-string .ensures) (c .before .if3 .left))
+    omega (
+      arith,
+      cookies-far (m .before .before .before .before .before .before .if1 .left)
+          (m .before .before .before .before .before .loop .inv) (m .before .before .comma .ensures)
+          (m .cookie-string .ensures) (c .before .if3 .left),
+    )
 
 loop-again : tie.Need-loop-again Inv-loop μ-loop
 loop-again c = search (cookies-more, needs)

@@ -33,7 +33,14 @@ judge-requires : tie.Need-judge-requires
 judge-requires c κs = search needs
 
 put-opt-requires : tie.Need-put-opt-requires
-put-opt-requires c κs = (c .before .before .before .before .before .before .before .before .before .number .ensures .keeps .safe .room, omega (arith, c .before .judge .ensures .to, c .before .before .before .before .before .options .ensures .moves .safe .room))
+put-opt-requires c κs = (
+  c .before .before .before .before .before .before .before .before .before .number .ensures .keeps .safe .room,
+  omega (
+    arith,
+    c .before .judge .ensures .to,
+    c .before .before .before .before .before .options .ensures .moves .safe .room,
+  ),
+)
 
 same-length : tie.Need-same-length
 same-length c = search needs
@@ -42,7 +49,11 @@ returns : tie.Need-returns
 returns c =
     let m = c .before .before .before .before .before .before .before .before .before .before in
     let k = m .before .before .before in
-    edns-read (k .before .before .before .before .before .before .args .rcode) (k .before .before .till .ensures) (k .before .flags .ensures) (k .full-rcode .ensures) (m .before .before .number .ensures) (m .hold .ensures) (c .before .before .before .before .before .before .before .before .options .ensures) (c .before .before .before .before .before .edns-fits .ensures) (c .before .before .before .before .judge .ensures) (c .before .before .put-opt .ensures)
+    edns-read (k .before .before .before .before .before .before .args .rcode) (k .before .before .till .ensures)
+    (k .before .flags .ensures) (k .full-rcode .ensures) (m .before .before .number .ensures) (m .hold .ensures)
+    (c .before .before .before .before .before .before .before .before .options .ensures)
+    (c .before .before .before .before .before .edns-fits .ensures)
+    (c .before .before .before .before .judge .ensures) (c .before .before .put-opt .ensures)
 
 pub edns-spec : {M : Type 1} → statement M
 edns-spec =

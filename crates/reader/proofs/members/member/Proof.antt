@@ -7,7 +7,8 @@ member-name-requires : tie.Need-member-name-requires
 member-name-requires c κs = search needs
 
 known-requires : tie.Need-known-requires
-known-requires c κs = (search needs, name-word (c .before .before .before .member-name .ensures) (c .before .if1 .taken))
+known-requires c κs =
+    (search needs, name-word (c .before .before .before .member-name .ensures) (c .before .if1 .taken))
 
 slice-aggregate-literal : tie.Need-slice-aggregate-literal
 slice-aggregate-literal c = search needs

@@ -5,7 +5,8 @@ use borrow.Author.Needs.{needs}
 use borrow.Author.Tests.{not-true}
 use lib.ListN.{length}
 use Rattle.tokens.specs.Step.{found-stuck}
-use Rattle.reader.specs.Values.{Numerals, numeralsParse, numerals-start, numerals-end, numerals-stop, numerals-far, numerals-more}
+use Rattle.reader.specs.Values.{Numerals, numeralsParse, numerals-start, numerals-end, numerals-stop}
+use Rattle.reader.specs.Values.{numerals-far, numerals-more}
 use Rattle.reader.proofs.members.numerals.Statement.{statement}
 use Rattle.reader.proofs.members.numerals.Tie as tie
 
@@ -51,7 +52,11 @@ returns-3 c = search (numerals-stop, needs)
 loop-less : tie.Need-loop-less Inv-loop μ-loop
 loop-less c =
     let m = c .before .before .before .before .before .before in
-    omega (arith, numerals-far (m .before .before .before .before .if1 .left) (m .before .before .before .loop .inv) (m .comma .ensures) (c .before .before .before .before .numeral .ensures) (c .if3 .left))
+    omega (
+      arith,
+      numerals-far (m .before .before .before .before .if1 .left) (m .before .before .before .loop .inv)
+          (m .comma .ensures) (c .before .before .before .before .numeral .ensures) (c .if3 .left),
+    )
 
 loop-again : tie.Need-loop-again Inv-loop μ-loop
 loop-again c = search (numerals-more, needs)

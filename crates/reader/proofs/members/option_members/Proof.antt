@@ -5,7 +5,8 @@ use borrow.Author.Needs.{needs}
 use borrow.Author.Tests.{not-true}
 use lib.ListN.{length}
 use Rattle.tokens.specs.Step.{found-stuck}
-use Rattle.reader.specs.Options.{Rising, membersParse, rising-start, rising-end, rising-stop, rising-far, rising-more}
+use Rattle.reader.specs.Options.{Rising, membersParse, rising-start, rising-end, rising-stop, rising-far}
+use Rattle.reader.specs.Options.{rising-more}
 use Rattle.reader.proofs.members.option_members.Statement.{statement}
 use Rattle.reader.proofs.members.option_members.Tie as tie
 
@@ -54,7 +55,11 @@ add-least c = search needs
 loop-less : tie.Need-loop-less Inv-loop μ-loop
 loop-less c =
     let m = c .before .before .before .before .before .before in
-    omega (arith, rising-far (m .before .before .before .before .before .if1 .left) (m .before .before .before .before .loop .inv) (m .rising-member .ensures) (c .before .if3 .left))
+    omega (
+      arith,
+      rising-far (m .before .before .before .before .before .if1 .left)
+          (m .before .before .before .before .loop .inv) (m .rising-member .ensures) (c .before .if3 .left),
+    )
 
 loop-again : tie.Need-loop-again Inv-loop μ-loop
 loop-again c = search (rising-more, needs)

@@ -23,7 +23,8 @@ all-zero-requires : tie.Need-all-zero-requires
 all-zero-requires c κs = search needs
 
 returns-2 : tie.Need-returns-2
-returns-2 c = fits-same (c .before .before .before .size-of .ensures) (search needs) (c .before .before .if1 .left) (c .all-zero .ensures)
+returns-2 c = fits-same (c .before .before .before .size-of .ensures) (search needs) (c .before .before .if1 .left)
+    (c .all-zero .ensures)
 
 pub padding-fits-spec : {M : Type 1} → statement M
 padding-fits-spec =

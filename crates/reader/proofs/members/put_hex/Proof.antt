@@ -23,8 +23,11 @@ part-put-octets-end c = search needs
 
 put-octets-requires : tie.Need-put-octets-requires
 put-octets-requires c κs =
-    let m = c .before .before .before .before in
-    (m .before .before .before .before .pre .0 .digits, hex-room (m .before .size-of .ensures) (m .hold .ensures) (m .before .before .before .before .pre .0) (c .before .before .if1 .left))
+    let m = c .before .before .before .before in (
+      m .before .before .before .before .pre .0 .digits,
+      hex-room (m .before .size-of .ensures) (m .hold .ensures) (m .before .before .before .before .pre .0)
+          (c .before .before .if1 .left),
+    )
 
 same-length : tie.Need-same-length
 same-length c = search needs

@@ -53,7 +53,9 @@ same-length c = search needs
 returns-2 : tie.Need-returns-2
 returns-2 c =
     let m = c .before .before .before .before .before .before .before .before .before .before in
-    opt-fronted refl refl refl (m .before .before .before .before .before .before .before .before .put .ensures) (m .before .before .before .before .put-two .ensures) (m .put-two2 .ensures) (c .before .before .before .before .before .before .put-four .ensures) (c .before .before .put-two3 .ensures)
+    opt-fronted refl refl refl (m .before .before .before .before .before .before .before .before .put .ensures)
+    (m .before .before .before .before .put-two .ensures) (m .put-two2 .ensures)
+    (c .before .before .before .before .before .before .put-four .ensures) (c .before .before .put-two3 .ensures)
 
 pub put-opt-spec : {M : Type 1} → statement M
 put-opt-spec =

@@ -88,7 +88,8 @@ same-length-7 c = search needs
 
 returns-7 : tie.Need-returns-7
 unfolding lookup rows formOf
-returns-7 c = at-form (c .before .before .before .before .before .before .before .args .code) 11 (c .before .before .before .before .match .keys7) refl (word-value (c .before .before .numeral .ensures))
+returns-7 c = at-form (c .before .before .before .before .before .before .before .args .code) 11
+    (c .before .before .before .before .match .keys7) refl (word-value (c .before .before .numeral .ensures))
 
 same-length-8 : tie.Need-same-length-8
 same-length-8 c = search needs
@@ -113,7 +114,8 @@ returns-10 c = search (at-form, needs)
 
 returns-11 : tie.Need-returns-11
 unfolding rows
-returns-11 c = no-form (c .before .before .before .before .args .code) (no-row _ (c .before .match .rest)) (search needs) (c .stop .ensures)
+returns-11 c = no-form (c .before .before .before .before .args .code) (no-row _ (c .before .match .rest))
+    (search needs) (c .stop .ensures)
 
 pub value-spec : {M : Type 1} → statement M
 value-spec =

@@ -1,4 +1,5 @@
--- `spelling::widths::widths` meets its contract: the table of the code is the list of the rule's values, which antt computes.
+-- `spelling::widths::widths` meets its contract: the table of the code is the list of the rule's values, which antt
+-- computes.
 use mathlib.Core.Path.{refl}
 use Rattle.spelling.specs.Spelling.{plain?}
 use Rattle.spelling.specs.Width.{width, widthTable}
