@@ -1,8 +1,8 @@
 /* collector: messages from standard input, each with the two-octet length of DNS over TCP before it, as texts, one a line.
    collector -r: texts from standard input, one a line, as messages with their lengths.
 
-   One pool buffer takes every message, and is never cleared: what a message does not fill still holds octets of earlier ones. A refusal is
-   printed as `refused N at P`; with -r, to standard error. */
+   One pool buffer takes every message, and is never cleared: what a message does not fill still holds octets of earlier
+   ones. A refusal is printed as `refused N at P`; with -r, to standard error. */
 
 #include "velvetshelf.h"
 
@@ -48,8 +48,8 @@ static int to_text(void)
     return 0;
 }
 
-/* The next line of standard input in `text`, without its end: its length, or -1 at the end of the input. A line that is longer than every text is
-   cut to one octet more than the longest, and so refused. */
+/* The next line of standard input in `text`, without its end: its length, or -1 at the end of the input. A line that is
+   longer than every text is cut to one octet more than the longest, and so refused. */
 static long next_line(void)
 {
     long length = 0;

@@ -1,14 +1,15 @@
-/* Velvetshelf: one DNS message to one JSON text, and back. What the two functions promise is proved; see docs/CLAIMS.md.
+/* Velvetshelf: one DNS message to one JSON text, and back. What the two functions promise is proved; see
+   docs/CLAIMS.md.
 
    Both take an input, a buffer lent for the call, and the address of a number.
-   - On success they return 0, `*value` is the length of the output, the output stands in the buffer from its first octet on, and every octet
-     of the buffer behind it is as it was. Outputs are not ended by a zero octet.
+   - On success they return 0, `*value` is the length of the output, the output is at the start of the buffer, and
+     every octet of the buffer after it is as it was. Outputs are not ended by a zero octet.
    - On a refusal they return its number, `*value` is its place, and every octet of the buffer is as it was.
    The answer and the octets written depend on the input and the buffer's length alone, not on what the buffer held.
 
-   The caller owns everything. A pointer must be valid for its length for the time of the call, and not null even where the length is 0;
-   input, buffer and number must not overlap. Nothing is allocated, no state is kept, nothing outside the input is read: calls from several threads
-   are safe if their buffers and numbers are different. */
+   The caller owns everything. A pointer must be valid for its length for the time of the call, and not null even
+   where the length is 0; input, buffer and number must not overlap. Nothing is allocated, no state is kept, nothing
+   outside the input is read: calls from several threads are safe if their buffers and numbers are different. */
 
 #ifndef VELVETSHELF_H
 #define VELVETSHELF_H
@@ -43,15 +44,18 @@ enum {
     VELVETSHELF_MESSAGE_BUFFER = 23     /* message longer than the buffer */
 };
 
-/* A buffer of this many octets holds the text of every message that is accepted; one of the second holds every message that a text says. */
+/* A buffer of LONGEST_TEXT octets holds the text of every message that is accepted, one of LONGEST_MESSAGE octets the
+   message of every text. */
 #define VELVETSHELF_LONGEST_TEXT 655750
 #define VELVETSHELF_LONGEST_MESSAGE 65535
 
 /* Writes the profile text of a message. */
-uint32_t velvetshelf_to_text(const uint8_t *message, size_t message_length, uint8_t *text, size_t text_length, uint64_t *value);
+uint32_t velvetshelf_to_text(const uint8_t *message, size_t message_length, uint8_t *text, size_t text_length,
+                             uint64_t *value);
 
-/* Writes the message that a profile text says, its names uncompressed. */
-uint32_t velvetshelf_to_wire(const uint8_t *text, size_t text_length, uint8_t *message, size_t message_length, uint64_t *value);
+/* Writes the message of a profile text, its names uncompressed. */
+uint32_t velvetshelf_to_wire(const uint8_t *text, size_t text_length, uint8_t *message, size_t message_length,
+                             uint64_t *value);
 
 #ifdef __cplusplus
 }

@@ -85,7 +85,8 @@ pub fn run(seed: u64) {
     long_texts();
 }
 
-/// The proved reader on texts with one part of two and of twenty million repetitions: the time for an octet must not grow.
+/// The proved reader on texts with one part of two and of twenty million repetitions: the time for an octet must not
+/// grow.
 fn long_texts() {
     let head = |questions: u8, additional: u8| {
         format!(

@@ -166,7 +166,8 @@ pub fn padded_texts(seed: u64, count: usize) -> Result<Tally, String> {
     Ok(tally)
 }
 
-/// There and back with the proved library alone: the text of a message is read as its uncompressed form, and that has the same text.
+/// There and back with the proved library alone: the text of a message is read as its uncompressed form, and that has
+/// the same text.
 pub fn there_and_back(seed: u64, count: usize) -> Result<usize, String> {
     let mut random = Random::new(seed);
     let mut text = vec![0; 1 << 20];
@@ -234,8 +235,9 @@ pub fn words(alphabet: &[u8], longest: usize) -> Vec<Vec<u8>> {
     all
 }
 
-/// All names of one or two labels of up to `longest` octets over a small alphabet, as the question of a message: two texts are equal exactly when
-/// the two names are. The texts of different names are all different exactly if no two of them, sorted, stand side by side equal.
+/// All names of one or two labels of up to `longest` octets over a small alphabet, as the question of a message: two
+/// texts are equal exactly when the two names are. The texts of different names are all different exactly if no two of
+/// them, sorted, stand side by side equal.
 pub fn look_alikes(longest: usize) -> Result<usize, String> {
     let alphabet = [b'.', b'\\', b'"', 0, b'0', b'4', b'6', b'a'];
     let labels = words(&alphabet, longest);

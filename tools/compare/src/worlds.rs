@@ -1,4 +1,5 @@
-//! Small worlds, every message of which is compared: tails over a few octets at every cut, and every pointer target against short messages.
+//! Small worlds, every message of which is compared: tails over a few octets at every cut, and every pointer target
+//! against short messages.
 
 use crate::checks::{agree, words};
 use crate::proved;
@@ -14,8 +15,8 @@ fn header(questions: u8, answers: u8) -> Vec<u8> {
     vec![0, 0, 0, 0, 0, questions, 0, answers, 0, 0, 0, 0]
 }
 
-/// A header with one question, and behind it every tail, as octets left over and as the beginning of an answer; and every tail in place of the
-/// question's name, with TYPE and CLASS behind it. At every cut.
+/// A header with one question, and behind it every tail, as octets left over and as the beginning of an answer; and
+/// every tail in place of the question's name, with TYPE and CLASS behind it. At every cut.
 pub fn every_tail() -> Result<usize, String> {
     let question = [1, b'a', 0, 0, 1, 0, 1];
     let mut compared = 0;
@@ -33,8 +34,9 @@ pub fn every_tail() -> Result<usize, String> {
     Ok(compared)
 }
 
-/// Every pointer target in a question's name at the end of a message, against every length of the message from 14 to 64, with labels before the
-/// pointer; two different leftovers stand behind the message in memory, and the answers and the buffers must be the same.
+/// Every pointer target in a question's name at the end of a message, against every length of the message from 14 to
+/// 64, with labels before the pointer; two different leftovers stand behind the message in memory, and the answers and
+/// the buffers must be the same.
 pub fn every_target() -> Result<usize, String> {
     let leftovers = [vec![0; 64], [1, b'v', 0xC0, 12].repeat(16)];
     let mut compared = 0;
