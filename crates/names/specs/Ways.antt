@@ -126,7 +126,7 @@ pub keep-none : (more : ℕ) (b : List ℕ) (to : ℕ) → KeptOctets more b to 
 keep-none more b to = record { wrote = λ h. nothing b to }
 
 -- x is the length octet of a label
-pub record LabelAt (s : List ℕ) (limit : Limit) (at end x : ℕ) : Type 0 where
+pub record LabelWalk (s : List ℕ) (limit : Limit) (at end x : ℕ) : Type 0 where
   pub bound : end ≡ endOf s (limitOf limit)
   pub inside : endOf s (limitOf limit) ≤ length s
   pub within : at < end
@@ -135,7 +135,7 @@ pub record LabelAt (s : List ℕ) (limit : Limit) (at end x : ℕ) : Type 0 wher
   pub few : x ≤ 63
 
 -- one octet more, within the end
-pub keep-more : {s : List ℕ} {limit : Limit} {at end x : ℕ} → LabelAt s limit at end x
+pub keep-more : {s : List ℕ} {limit : Limit} {at end x : ℕ} → LabelWalk s limit at end x
     → (k : ℕ) {more : ℕ} {b b₁ b₂ : List ℕ}
     {to r₁ r₂ : ℕ} → at + 1 + k < end → KeptOctets more b to (part s (at + 1) k) b₁ r₁
     → KeptOctets more b₁ r₁ (getD s (at + 1 + k) 0 ∷ []) b₂ r₂ → KeptOctets more b to (part s (at + 1) (k + 1)) b₂ r₂
@@ -203,7 +203,7 @@ module _ {s : List ℕ} {v : NameRead} {form : List ℕ} {limit : Limit} {run ne
 
 -- the ways of a label
 module _ {s : List ℕ} {v : NameRead} {form : List ℕ} {limit : Limit} {run next total at end x : ℕ}
-    (w : WalkLoop s v form limit run next total at) (l : LabelAt s limit at end x) where
+    (w : WalkLoop s v form limit run next total at) (l : LabelWalk s limit at end x) where
   at-label : LengthOctet s (limitOf limit) at x
   at-label = record { within = omega arith; octet = l .octet }
 

@@ -5,6 +5,7 @@ use Prim.Native.Nat.{ℕ}
 use lib.ListN.{replicate}
 use Rattle.octets.specs.Lists.{hexed, lookup, each}
 use Rattle.octets.specs.Fields.{two}
+use Rattle.names.proofs.Boundaries.{labelOf}
 use Rattle.names.specs.Name.{nameForm}
 use Rattle.names.specs.Walk.{walk, nameFrom}
 use Rattle.records.specs.Layout.{layouts, layoutOf, pieces, rdataAt}
@@ -36,10 +37,6 @@ asks name = counts 1 0 ++ name ++ hexed "00010001"
 -- an answer of TYPE whose owner is the root, with this RDATA
 abbrev pub answers : ℕ → ℕ → List ℕ → List ℕ
 answers type size rdata = counts 0 1 ++ hexed "00" ++ two type ++ hexed "000100000000" ++ two size ++ rdata
-
--- a label of n octets
-abbrev pub labelOf : ℕ → List ℕ
-labelOf n = n ∷ replicate n 97
 
 -- three labels of 63 and one of n octets, and the root octet
 abbrev pub long : ℕ → List ℕ

@@ -8,7 +8,7 @@ use borrow.Author.Needs.{needs}
 use lib.ListN.{length}
 use Rattle.names.specs.Walk.{part, endOf, nameAt}
 use Rattle.names.specs.Answer.{limitOf, nameRead}
-use Rattle.names.specs.Ways.{WalkLoop, from-start, KeptOctets, LabelAt, keep-none, keep-more, name-past}
+use Rattle.names.specs.Ways.{WalkLoop, from-start, KeptOctets, LabelWalk, keep-none, keep-more, name-past}
 use Rattle.names.specs.Ways.{root-read, label-cut, label-long, label-read, bits-reserved, pointer-cut, target-low}
 use Rattle.names.specs.Ways.{target-far, jump-read}
 use Rattle.names.proofs.name_at.Statement.{statement}
@@ -17,7 +17,7 @@ use Rattle.names.proofs.name_at.Tie as tie
 abbrev Inv-loop : tie.InvT-loop
 Inv-loop s at bound low place total next form₀ end x more to₀ k₀ form to k =
     (k ≤ x) × (place + 1 + k ≤ end) × (to ≡ total + 1 + k) × (length form ≡ 255)
-    × KeptOctets more form₀ to₀ (part s (place + 1) k) form to × LabelAt s bound place end x
+    × KeptOctets more form₀ to₀ (part s (place + 1) k) form to × LabelWalk s bound place end x
 
 abbrev μ-loop : tie.MeasureT-loop
 μ-loop s at bound low place total next form₀ end x more to₀ k₀ form to k = x - k
