@@ -1,5 +1,5 @@
 -- What is promised, each demand in words and symbols; every proof is one citation. FrontPage/Words.antt has the words.
--- `Converts c` is what `to_text::convert` and `velvetshelf_to_text` ensure of a call c, `Reads c` what `reader::read`
+-- `Converts c` is what `to_text::convert` and `velvetshelf_to_text` ensure of a call c, `Reads c` what `to_wire::read`
 -- and `velvetshelf_to_wire` ensure. None of the four has a `requires`: every message, text and buffer of every length
 -- gets an answer, and nothing undefined happens.
 use Rattle.demands.specs.Examples.{Example, examples, examples-hold}

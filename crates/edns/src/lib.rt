@@ -1,14 +1,14 @@
 // Whether a record is an EDNS element. Its RDATA is octets or hexadecimal digits: `hex` says which.
 // The definitions are in specs/.
-use either::count;
-use either::two_at;
+use hex_or_octets::count;
+use hex_or_octets::two_at;
 use octets::wide;
 ghost use mathlib.Core.Path.{_≡_};
 ghost use mathlib.Core.Bool.{_||_};
 ghost use Prim.Native.Nat.{_<_};
 ghost use lib.Dec.{eqb};
 ghost use Rattle.octets.specs.Lists.{key?};
-ghost use Rattle.either.specs.Either.{octetsIn, Spelled};
+ghost use Rattle.hex_or_octets.specs.Either.{octetsIn, Spelled};
 ghost use Rattle.edns.specs.Edns.{rcodes};
 ghost use Rattle.edns.specs.Table.{tableOctets, rowAt};
 ghost use Rattle.edns.specs.Element.{optionsRise, ednsFields, showsEdns};

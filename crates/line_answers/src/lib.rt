@@ -75,7 +75,7 @@ fn put_wire(line: &[u8], message: &mut [u8], text: &mut [u8]) -> usize
     ensures { λ r. ⌜ r ≤ 8192 ⌝ }
     ensures { λ r. ⌜ now (message .exit) ≡ toWire (now (line .entry)) (now (message .entry)) .buffer ⌝ }
 {
-    match reader::read(line, message) {
+    match to_wire::read(line, message) {
         Outcome::Length(n) => put_hex(text, 0, &message[0..n]),
         Outcome::Refused(number, place) => put_refusal(text, 0, number, place as u32),
     }

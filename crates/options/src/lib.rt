@@ -1,11 +1,11 @@
 // EDNS options: tests of their values, which are octets or hexadecimal digits: `hex` says which.
 // The definitions are in specs/.
-use either::count;
-use either::octet;
+use hex_or_octets::count;
+use hex_or_octets::octet;
 ghost use mathlib.Core.Path.{_≡_};
 ghost use lib.ListN.{drop};
 ghost use Rattle.octets.specs.Lists.{present?, all};
-ghost use Rattle.either.specs.Either.{octetsIn, Spelled};
+ghost use Rattle.hex_or_octets.specs.Either.{octetsIn, Spelled};
 ghost use Rattle.spelling.specs.Spelling.{printable?};
 ghost use Rattle.options.specs.Options.{zero?, formOf, shape};
 ghost use Rattle.options.specs.Shapes.{expirySize, cookieSize, errorShape};

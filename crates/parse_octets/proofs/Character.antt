@@ -11,8 +11,8 @@ use lib.ListN.{length, drop, drop-of-length-le}
 use Rattle.octets.specs.Parsed.{took, stuck, and-then, strip}
 use Rattle.spelling.specs.Spelling.{printable?}
 use Rattle.strict.specs.Spelt.{bare?, quoted, stringAt}
-use Rattle.tokens.specs.Many.{le-or-lt}
-use Rattle.tokens.specs.Place.{Byte, inside, from-byte, no-strip}
+use Rattle.parse_tokens.specs.Many.{le-or-lt}
+use Rattle.parse_tokens.specs.Place.{Byte, inside, from-byte, no-strip}
 use Rattle.parse_octets.specs.Octet.{LetterAt, nowhere, letter, letter-none, letter-one}
 
 -- ---- which octets stand for themselves

@@ -12,9 +12,9 @@ use Rattle.octets.specs.Bits.{same?, same, upto, below}
 use Rattle.octets.specs.Parsed.{Parsed, took, stuck, and-then, strip}
 use Rattle.spelling.specs.Spelling.{plain?}
 use Rattle.strict.specs.Spelt.{coded?, coded-from?, leads?, ddd, escape, spelledAt, plain-in}
-use Rattle.tokens.specs.Cursor.{Got, clash}
-use Rattle.tokens.specs.Many.{le-or-lt}
-use Rattle.tokens.specs.Place.{Byte, inside, from-byte, no-strip}
+use Rattle.parse_tokens.specs.Cursor.{Got, clash}
+use Rattle.parse_tokens.specs.Many.{le-or-lt}
+use Rattle.parse_tokens.specs.Place.{Byte, inside, from-byte, no-strip}
 use Rattle.parse_octets.specs.declared.Letter.{Letter}
 
 -- ---- what a reader reports of a place

@@ -7,7 +7,7 @@ ghost use Rattle.spelling.specs.Spelling.{plain?};
 ghost use Rattle.strict.specs.Spelt.{coded?, ddd, escape, spelledAt, bare?, stringAt};
 ghost use Rattle.parse_octets.specs.Octet.{Lowest, Highest, LetterAt};
 use octets::wide;
-use tokens::octet_at;
+use parse_tokens::octet_at;
 
 // An octet that was read, and the place after it; or the place at which nothing goes on.
 pub struct Letter {

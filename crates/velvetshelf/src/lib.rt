@@ -1,7 +1,7 @@
 // The two conversions as functions for programs in C.
 use octets::Outcome;
-use reader::read;
 use to_text::convert;
+use to_wire::read;
 ghost use mathlib.Core.Path.{_≡_};
 ghost use Rattle.octets.specs.Calls.{Call};
 ghost use Rattle.json.specs.Converted.{Converts};

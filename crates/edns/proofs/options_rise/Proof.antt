@@ -1,6 +1,6 @@
 -- `edns::options_rise` meets its contract: what is read from `at` on gives the whole answer.
 use Prim.Native.Nat.{_≤_, _-_}
-use Rattle.either.specs.Either.{octetsIn}
+use Rattle.hex_or_octets.specs.Either.{octetsIn}
 use Rattle.edns.specs.Element.{optionsRise}
 use Rattle.edns.proofs.Ways.{RiseLoop, rises-start, rises-cut, rises-short, rises-low, rises-more, rises-end}
 use borrow.Author.Needs.{needs}

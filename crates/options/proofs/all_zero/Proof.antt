@@ -1,10 +1,10 @@
 -- `options::all_zero` meets its contract: as long as no octet differs from zero, those from `i` on decide.
 use Prim.Native.Nat.{_-_}
 use Rattle.octets.specs.Lists.{all}
-use Rattle.either.specs.Either.{octetsIn}
+use Rattle.hex_or_octets.specs.Either.{octetsIn}
 use Rattle.options.specs.Options.{zero?}
 use Rattle.options.proofs.Every.{zero-is, zero-not}
-use Rattle.either.proofs.Every.{EveryLoop, rest-start, rest-next, rest-fails, rest-ends}
+use Rattle.hex_or_octets.proofs.Every.{EveryLoop, rest-start, rest-next, rest-fails, rest-ends}
 use borrow.Author.Needs.{needs}
 use Rattle.options.proofs.all_zero.Statement.{statement}
 use Rattle.options.proofs.all_zero.Tie as tie

@@ -2,10 +2,10 @@
 use Prim.Native.Nat.{_-_}
 use lib.ListN.{drop}
 use Rattle.octets.specs.Lists.{all}
-use Rattle.either.specs.Either.{octetsIn}
+use Rattle.hex_or_octets.specs.Either.{octetsIn}
 use Rattle.spelling.specs.Spelling.{printable?}
 use Rattle.options.proofs.Every.{printable-is, printable-low, printable-high}
-use Rattle.either.proofs.Every.{EveryLoop, rest-start, rest-next, rest-fails, rest-ends}
+use Rattle.hex_or_octets.proofs.Every.{EveryLoop, rest-start, rest-next, rest-fails, rest-ends}
 use borrow.Author.Needs.{needs}
 use Rattle.options.proofs.is_text.Statement.{statement}
 use Rattle.options.proofs.is_text.Tie as tie

@@ -1,5 +1,5 @@
 use Rattle.parse_octets.specs.Octet.{letter-plain, letter-other, letter-single, letter-escape}
-use Rattle.tokens.specs.Place.{inside}
+use Rattle.parse_tokens.specs.Place.{inside}
 use native.Mathlib.Omega.{arith}
 use borrow.Author.Needs.{needs}
 use Rattle.parse_octets.proofs.octet.Statement.{statement}

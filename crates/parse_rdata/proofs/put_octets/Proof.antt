@@ -1,0 +1,76 @@
+-- `parse_rdata::put_octets` meets its contract: past the end nothing is written; else, after `i` turns, the first `i` octets
+-- are written.
+use mathlib.Core.Path.{_≡_}
+use Prim.Native.Nat.{_≤_, _+_, _-_}
+use lib.ListN.{take}
+use Rattle.octets.specs.Lists.{paired}
+use Rattle.octets.specs.Overlay.{Wrote, nothing, same-long}
+use Rattle.parse_rdata.proofs.Digits.{octets-past, octets-step, octets-end}
+use borrow.Author.Needs.{needs}
+use Rattle.parse_rdata.proofs.put_octets.Statement.{statement}
+use Rattle.parse_rdata.proofs.put_octets.Tie as tie
+
+abbrev Inv-loop : tie.InvT-loop
+Inv-loop out₀ at hex size end to₀ i₀ out to i = (i ≤ size) × (to ≡ at + i) × Wrote out₀ at (take i (paired hex)) out to
+
+abbrev μ-loop : tie.MeasureT-loop
+μ-loop out₀ at hex size end to₀ i₀ out to i = size - i
+
+count-requires : tie.Need-count-requires Inv-loop μ-loop
+count-requires c κs = search needs
+
+add-end : tie.Need-add-end Inv-loop μ-loop
+add-end c = search needs
+
+returns : tie.Need-returns Inv-loop μ-loop
+returns c = search (octets-past, needs)
+
+loop-holds : tie.Need-loop-holds Inv-loop μ-loop
+loop-holds c = (search needs, search needs, nothing _ _)
+
+octet-requires : tie.Need-octet-requires Inv-loop μ-loop
+octet-requires c κs = search needs
+
+put-requires : tie.Need-put-requires Inv-loop μ-loop
+put-requires c κs = search needs
+
+add-i : tie.Need-add-i Inv-loop μ-loop
+add-i c = search needs
+
+loop-less : tie.Need-loop-less Inv-loop μ-loop
+loop-less c = search needs
+
+loop-again : tie.Need-loop-again Inv-loop μ-loop
+loop-again c =
+    let d = c .before .before .before .before .before .before in
+    let e = d .before .before in
+    let s = paired (e .before .before .before .args .hex .now) in (
+      search needs,
+      search needs,
+      octets-step s (e .count .ensures .0) (c .before .before .before .before .before .loop-test .taken)
+          (c .before .before .before .octet .ensures) (d .loop .inv .2) (c .before .before .put .ensures),
+    )
+
+same-length : tie.Need-same-length Inv-loop μ-loop
+same-length c = same-long (c .before .loop .inv .2)
+
+returns-2 : tie.Need-returns-2 Inv-loop μ-loop
+returns-2 c = search (octets-end, needs)
+
+pub put-octets-spec : {M : Type 1} → statement M
+put-octets-spec =
+    tie.close
+    (tie.spec
+    Inv-loop
+    μ-loop
+    count-requires
+    add-end
+    returns
+    loop-holds
+    octet-requires
+    put-requires
+    add-i
+    loop-less
+    loop-again
+    same-length
+    returns-2)

@@ -1,0 +1,308 @@
+-- Hexadecimal digits two by two, up to the quote: how a reader goes through them.
+use mathlib.Core.Path.{_≡_, refl, sym, _∙_, ap, subst}
+use mathlib.Core.Bool.{Bool, true, false, not}
+use mathlib.Core.List.{List, [], _∷_, _++_, append-nil}
+use Prim.Native.Nat.{ℕ, _+_, _-_, _*_, _/_, _%_, _≤_, _<_}
+use native.Mathlib.Omega.{arith}
+use borrow.Author.Tests.{not-true, not-false, lt-ltb, le-ltb}
+use lib.Dec.{T, not-T, leb, ltb, leb→le, ltb→lt}
+use lib.ListN.{length, take, drop, getD, length-append, length-drop, drop-of-length-le}
+use lib.Seq.{take-add, drop-drop}
+use Rattle.octets.specs.Lists.{Octets, each}
+use Rattle.octets.specs.Bits.{is-false, and-left, and-right, All-append}
+use Rattle.octets.specs.Parsed.{took, stuck, and-then, otherwise, strip}
+use Rattle.octets.specs.Codec.{Avoids}
+use Rattle.octets.specs.Overlay.{each-append, each-single}
+use Rattle.octets.specs.Decimal.{digit?, digit-in}
+use Rattle.octets.specs.Hexadecimal.{hexDigit, hexDigit-in, hexOctet, capital?, unhex, unhex-back, octetCodec}
+use Rattle.octets.specs.Hexadecimal.{hexOctet-avoids, hex}
+use Rattle.octets.specs.Fields.{drop-one}
+use Rattle.parse_tokens.specs.declared.Cursor.{Cursor}
+use Rattle.parse_tokens.specs.declared.Span.{Span}
+use Rattle.parse_tokens.specs.Cursor.{left-of, rest, Safe, Keeps, keeps-same, keeps-then, Passed, Came, Stopped}
+use Rattle.parse_tokens.specs.Cursor.{went-keeps, Finds, stopped, taken, clash}
+use Rattle.parse_tokens.specs.Step.{Found, found-stuck, moves}
+use Rattle.parse_tokens.specs.Many.{run-of, Going, going-start, going-more, going-stop, many-once}
+use Rattle.parse_tokens.specs.Leaf.{found-stop, stays-at, strip-at-once, strip-first}
+
+-- the octets l are in the text from `from` to `end`, two digits each
+pub record HexRun (t : List ℕ) (r : Span) (l : List ℕ) : Type 0 where
+  pub digits : take (r .end - r .from) (drop (r .from) t) ≡ each hexOctet l
+  pub octets : Octets l
+  pub ordered : r .from ≤ r .end
+  pub within : r .end ≤ length t
+  pub long : r .end ≡ r .from + 2 * length l
+
+-- octets were read; where the reader stopped, those before that. Between `from` and `end` are the whole pairs of digits
+-- from c's place to the reader's.
+pub record HexRead (t : List ℕ) (c : Cursor) (r : Span) : Type 0 where
+  pub found : Found (hex .parse) (HexRun t r) t c (r .cursor)
+  pub keeps : Keeps t c (r .cursor)
+  pub from : r .from ≡ c .at
+  pub end : r .end ≡ c .at + (r .cursor .at - c .at) / 2 * 2
+  pub so-far : List ℕ
+  pub run : HexRun t r so-far
+
+-- ---- one digit
+-- x is the digit of n
+pub record HexValue (x : ℕ) : Type 0 where
+  pub n : ℕ
+  pub small : n < 16
+  pub is : hexDigit n ≡ x
+
+-- r is whether x is a digit
+pub record HexTest (x : ℕ) (r : Bool) : Type 0 where
+  pub yes : r ≡ true → HexValue x
+  pub no : r ≡ false → (w : List ℕ) → unhex (x ∷ w) ≡ stuck (x ∷ w)
+
+-- r is whether a digit is at a place
+pub record HexAt (t : List ℕ) (at : ℕ) (r : Bool) : Type 0 where
+  pub inside : r ≡ true → at < length t
+  pub yes : r ≡ true → HexValue (getD t at 0)
+  pub no : r ≡ false → unhex (drop at t) ≡ stuck (drop at t)
+
+module _ {x : ℕ} where
+  is-none : (48 ≤ x → x ≤ 57 → ⊥) → (65 ≤ x → x < 71 → ⊥) → HexTest x false
+  unfolding unhex
+  is-none f g = record {
+    yes = λ e. clash refl e;
+    no = λ e w. rw (
+      is-false (digit? x) (not-T (digit? x) λ u. let z = digit-in x u in f (z .0) (z .1)),
+      unhex,
+      is-false (capital? x) (not-T (capital? x) no),
+    );
+  }
+    where
+      no : T (capital? x) → ⊥
+      no u = g (leb→le 65 x (and-left (leb 65 x) (ltb x 71) u)) (ltb→lt x 71 (and-right (leb 65 x) (ltb x 71) u))
+
+  is-one : {n : ℕ} → n < 16 → hexDigit n ≡ x → HexTest x true
+  is-one {n} h e = record { yes = λ d. record { n = n; small = h; is = e }; no = λ d. clash d refl }
+
+  pub hex-below : x < 48 → HexTest x false
+  hex-below h = is-none (λ a b. omega arith) (λ a b. omega arith)
+
+  pub hex-decimal : 48 ≤ x → x < 58 → HexTest x true
+  hex-decimal h k = is-one {n = x - 48} (omega arith) (rw (lt-ltb (x - 48) 10 (omega arith)) (omega arith))
+
+  pub hex-between : 58 ≤ x → x < 65 → HexTest x false
+  hex-between h k = is-none (λ a b. omega arith) (λ a b. omega arith)
+
+  pub hex-capital : 65 ≤ x → x < 71 → HexTest x true
+  hex-capital h k = is-one {n = x - 55} (omega arith) (rw (le-ltb (x - 55) 10 (omega arith)) (omega arith))
+
+  pub hex-above : 71 ≤ x → HexTest x false
+  hex-above h = is-none (λ a b. omega arith) (λ a b. omega arith)
+
+module _ {t : List ℕ} {at : ℕ} where
+  pub hex-past : length t ≤ at → HexAt t at false
+  unfolding unhex
+  hex-past h = record { inside = λ e. clash refl e; yes = λ e. clash refl e; no = λ e. rw (drop-of-length-le t h) }
+
+  pub hex-here : {r : Bool} → at < length t → HexTest (getD t at 0) r → HexAt t at r
+  hex-here h q = record { inside = λ e. h; yes = q .yes; no = λ e. rw (drop-one t at h) (q .no e _) }
+
+-- ---- two digits
+module _ (w : List ℕ) where
+  pair-none : {u : List ℕ} → unhex w ≡ stuck u → octetCodec .parse w ≡ stuck u
+  pair-none e = rw e
+
+  module _ {n : ℕ} {v : List ℕ} (e : unhex w ≡ took n v) where
+    pair-half : {u : List ℕ} → unhex v ≡ stuck u → octetCodec .parse w ≡ stuck u
+    pair-half d = rw (e, d)
+
+    pair-took : {m : ℕ} {u : List ℕ} → unhex v ≡ took m u → octetCodec .parse w ≡ took (n * 16 + m) u
+    pair-took d = rw (e, d)
+
+-- the octet of two digits is written so
+pair-text : (n m : ℕ) → m < 16 → hexOctet (n * 16 + m) ≡ hexDigit n ∷ hexDigit m ∷ []
+pair-text n m h =
+    let p : (n * 16 + m) / 16 ≡ n = omega arith in
+    let q : (n * 16 + m) % 16 ≡ m = omega arith in
+    rw (p, q)
+
+digit-there : (t : List ℕ) (at : ℕ) → at < length t → (x : HexValue (getD t at 0))
+    → unhex (drop at t) ≡ took (x .n) (drop (at + 1) t)
+digit-there t at h x =
+    rw (drop-one t at h) (subst (λ y. unhex (y ∷ drop (at + 1) t) ≡ took (x .n) (drop (at + 1) t)) (x .is)
+    (unhex-back (x .n) (drop (at + 1) t) (x .small)))
+
+-- two octets more of a text
+two-more : (t : List ℕ) (from at : ℕ) → from ≤ at → at + 1 < length t
+    → take (at + 2 - from) (drop from t) ≡ take (at - from) (drop from t) ++ (getD t at 0 ∷ getD t (at + 1) 0 ∷ [])
+two-more t from at h k =
+    let p : at + 2 - from ≡ at - from + 2 = omega arith in
+    let q : from + (at - from) ≡ at = omega arith in
+    rw (
+      p,
+      take-add (at - from) 2 (drop from t),
+      drop-drop (at - from) from t,
+      q,
+      drop-one t at (omega arith),
+      drop-one t (at + 1) k,
+    )
+
+-- ---- the quote
+pub record Quoted (t : List ℕ) (c : Cursor) (at : ℕ) (r : Cursor) : Type 0 where
+  pub left : rest t r ≡ strip (34 ∷ []) (drop at t)
+  pub keeps : Keeps t c r
+
+module _ {t : List ℕ} {c x : Cursor} {at : ℕ} where
+  pub came-safe : Safe t c → at ≤ length t → Came c at x → Safe t x
+  came-safe f h s = record { inside = omega (arith, s .at); room = omega (arith, s .to, f .room) }
+
+  pub quoted : {r : Cursor} → Safe t c → c .at ≤ at → at ≤ length t → Came c at x → Passed (34 ∷ []) t x r
+      → Quoted t c at r
+  quoted f h k s q = record {
+    left = rw (s .is, s .at) at (q .left);
+    keeps = keeps-then (went-keeps f s h k) (q .keeps);
+  }
+
+-- the reader is at the place or one past it
+quoted-near : {t : List ℕ} {c r : Cursor} {at : ℕ} → at ≤ length t → Quoted t c at r → (at ≤ r .at) × (r .at ≤ at + 1)
+quoted-near {t} {c} {r} {at} h q = go (r .spelled) (q .left)
+  where
+    near : (n : ℕ) → n ≤ 1 → length (drop at t) ≡ n + length (drop (r .at) t) → (at ≤ r .at) × (r .at ≤ at + 1)
+    near n k e =
+        let d : length t - at ≡ n + (length t - r .at) = omega (arith, e, length-drop at t, length-drop (r .at) t) in
+        let i = q .keeps .safe .inside in
+        (omega arith, omega arith)
+
+    go : (b : Bool) → left-of b (drop (r .at) t) ≡ strip (34 ∷ []) (drop at t) → (at ≤ r .at) × (r .at ≤ at + 1)
+    go true e = near 1 (omega arith) (omega (arith, ap length (strip-first 34 (drop at t) (drop (r .at) t) (sym e))))
+    go false e = near 0 (omega arith) (omega (arith, ap length (stays-at (strip-at-once 34 (drop at t)) (sym e))))
+
+-- ---- the octets so far
+no-quote : Avoids (λ x. x < 256) hexOctet 34
+no-quote = hexOctet-avoids 34 (omega arith)
+
+no-octet : octetCodec .parse [] ≡ stuck []
+unfolding unhex
+no-octet = refl
+
+pub record Pairs (t : List ℕ) (c : Cursor) (at : ℕ) : Type 0 where
+  pub l : List ℕ
+  pub goes : Going (run-of 34 octetCodec) t (run-of 34 octetCodec (drop (c .at) t)) at l
+  pub digits : take (at - c .at) (drop (c .at) t) ≡ each hexOctet l
+  pub octets : Octets l
+  pub within : at ≤ length t
+  pub long : at ≡ c .at + 2 * length l
+
+pub pairs-start : (t : List ℕ) (c : Cursor) → Safe t c → Pairs t c (c .at)
+unfolding each
+pairs-start t c h = record {
+  l = [];
+  goes = going-start (run-of 34 octetCodec) t (c .at);
+  digits =
+      let z : c .at - c .at ≡ 0 = omega arith in
+      rw z;
+  octets = tt;
+  within = h .inside;
+  long = omega arith;
+}
+
+module _ {t : List ℕ} {c : Cursor} {at : ℕ} (w : Pairs t c at) where
+  run-here : {r : Cursor} → HexRun t (record { cursor = r; from = c .at; end = at }) (w .l)
+  run-here = record {
+    digits = w .digits;
+    octets = w .octets;
+    ordered = omega (arith, w .long);
+    within = w .within;
+    long = w .long;
+  }
+
+  module _ {b : Bool} (p : HexAt t at b) where
+    -- no digit: the quote, or the reader stops there
+    pub pairs-close : {r : Cursor} → Safe t c → not (c .spelled) ≡ false → not b ≡ true → Quoted t c at r
+        → HexRead t c (record { cursor = r; from = c .at; end = at })
+    unfolding hex
+    pairs-close {r} f g k q = record {
+      found = record {
+        reads = rw (
+          not-false (c .spelled) g,
+          w .goes .goes,
+          many-once octetCodec 34 no-quote no-octet (drop at t),
+          pair-none (drop at t) (p .no (not-true b k)),
+          ← (q .left),
+        ) (go (r .spelled) refl (q .left));
+        moves = moves (q .keeps);
+      };
+      keeps = q .keeps;
+      from = refl;
+      end = let n = quoted-near (w .within) q in omega (arith, w .long, n .0, n .1);
+      so-far = w .l;
+      run = run-here;
+    }
+      where
+        go : (d : Bool) → r .spelled ≡ d → left-of d (drop (r .at) t) ≡ strip (34 ∷ []) (drop at t)
+            → Finds t (HexRun t (record { cursor = r; from = c .at; end = at })) r
+            (and-then (otherwise (and-then (left-of d (drop (r .at) t)) λ u r. took [] r) (stuck (drop at t))) λ u
+            r. took (w .l ++ u) r)
+        go true e d = rw (append-nil) (taken e run-here)
+        go false e d = rw (stays-at (strip-at-once 34 (drop at t)) (sym d)) (stopped e)
+
+    module _ (k : not b ≡ false) where
+      first : HexValue (getD t at 0)
+      first = p .yes (not-false b k)
+
+      pub pairs-inside : at < length t
+      pairs-inside = p .inside (not-false b k)
+
+      module _ {e : Bool} (q : HexAt t (at + 1) e) where
+        -- a digit, and no second one
+        pub pairs-half : {r : Cursor} → Safe t c → not (c .spelled) ≡ false → not e ≡ true → Stopped c (at + 1) r
+            → HexRead t c (record { cursor = r; from = c .at; end = at })
+        unfolding hex
+        pairs-half f g h s = record {
+          found = found-stop f (not-false (c .spelled) g)
+              (going-stop octetCodec 34 no-quote no-octet (w .goes)
+              (λ d. omega (arith, first .is, hexDigit-in (first .n) (first .small) .0))
+              (pair-half (drop at t) (digit-there t at pairs-inside first) (q .no (not-true e h))))
+              (omega (arith, w .long)) (omega (arith, pairs-inside)) s;
+          keeps = went-keeps f s (omega (arith, w .long)) (omega (arith, pairs-inside));
+          from = refl;
+          end = omega (arith, w .long, s .at);
+          so-far = w .l;
+          run = run-here;
+        }
+
+        -- two digits
+        pub pairs-room : not e ≡ false → at + 1 < length t
+        pairs-room h = q .inside (not-false e h)
+
+        pub pairs-more : not e ≡ false → Pairs t c (at + 2)
+        pairs-more h =
+            let second = q .yes (not-false e h) in
+            let x = first .n * 16 + second .n in
+            let two : at + 1 + 1 ≡ at + 2 = omega arith in
+            record {
+              l = w .l ++ (x ∷ []);
+              goes = going-more octetCodec 34 no-quote no-octet (w .goes)
+                  (pair-took (drop at t) (digit-there t at pairs-inside first)
+                  (rw two at (digit-there t (at + 1) (pairs-room h) second)));
+              digits = two-more t (c .at) at (omega (arith, w .long)) (pairs-room h)
+                  ∙ rw (
+                    w .digits,
+                    each-append,
+                    each-single,
+                    pair-text (first .n) (second .n) (second .small),
+                    first .is,
+                    second .is,
+                  );
+              octets = All-append (λ x. x < 256) (w .l) (x ∷ []) (w .octets)
+                  (omega (arith, first .small, second .small), tt);
+              within = omega (arith, pairs-room h);
+              long = rw length-append (omega (arith, w .long));
+            }
+
+-- a reader that has stopped
+pub hex-stuck : {t : List ℕ} {c : Cursor} → Safe t c → not (c .spelled) ≡ true
+    → HexRead t c (record { cursor = c; from = c .at; end = c .at })
+hex-stuck {t} {c} h g = record {
+  found = found-stuck (hex .parse) t c h (not-true (c .spelled) g);
+  keeps = keeps-same h;
+  from = refl;
+  end = omega arith;
+  so-far = pairs-start t c h .l;
+  run = run-here (pairs-start t c h);
+}

@@ -1,0 +1,223 @@
+-- How a loop tries the titles of a table, row by row.
+use mathlib.Core.Path.{_≡_, refl, sym, _∙_, ap, subst}
+use mathlib.Core.Bool.{Bool, true, false, cond}
+use mathlib.Core.List.{List}
+use Prim.Native.Nat.{ℕ, zero, suc, _+_, _-_, _≤_, _<_, max}
+use Prim.Native.String.{String}
+use native.Mathlib.Omega.{arith}
+use borrow.Author.Tests.{ltb-true, ltb-false}
+use lib.Dec.{ltb}
+use lib.ListN.{length, drop, getD}
+use Rattle.octets.specs.Parsed.{Parsed, stuck, and-then}
+use Rattle.octets.specs.Codec.{tried}
+use Rattle.parse_tokens.specs.declared.Cursor.{Cursor}
+use Rattle.parse_tokens.specs.declared.Row.{Row}
+use Rattle.parse_tokens.specs.Cursor.{left-of, Safe, Keeps, keeps-then, Passed, Stopped, cursors, Finds, stopped, clash}
+use Rattle.parse_tokens.specs.Step.{Found, moves}
+use Rattle.parse_tokens.specs.Leaf.{rowParser, found-same, found-entry}
+use Rattle.parse_tokens.specs.Choice.{choice, found-first, Further, further-keeps, second-further}
+use Rattle.edns.specs.Table.{tableOctets}
+use Rattle.parse_tokens.specs.Table.{triedRows, triedIn, rows-tried}
+use Rattle.parse_tokens.specs.Table.{RowAt, titleAt, rows-end, rows-cut, rows-row}
+
+-- one of several titles was read, and this is its key; on a stop the key is 0
+pub record RowRead (p : List ℕ → Parsed ℕ) (t : List ℕ) (c : Cursor) (r : Row) : Type 0 where
+  pub found : Found p (λ n. r .key ≡ n) t c (r .cursor)
+  pub keeps : Keeps t c (r .cursor)
+  pub stop : r .cursor .spelled ≡ false → r .key ≡ 0
+
+-- by another parser that answers the same
+row-same : {p : List ℕ → Parsed ℕ} {t : List ℕ} {c : Cursor} {r : Row} (q : List ℕ → Parsed ℕ)
+    → ((w : List ℕ) → p w ≡ q w) → RowRead p t c r → RowRead q t c r
+row-same {t = t} {c = c} q e x = record {
+  found = found-same q (λ g. e (drop (c .at) t)) (x .found);
+  keeps = x .keeps;
+  stop = x .stop;
+}
+
+-- a table's octets in the place of its rows
+pub row-of : {table t : List ℕ} {c : Cursor} {r : Row} (rows : List (ℕ × String)) → table ≡ tableOctets rows
+    → RowRead (triedIn table) t c r → RowRead (tried rows) t c r
+row-of rows e = row-same (tried rows) (λ w. rw e (rows-tried rows (length (tableOctets rows)) w (omega arith)))
+
+-- ---- a stop is at the furthest place that a row reached
+-- a reader that stopped, brought on to place n
+abbrev onTo : ℕ → Cursor → Cursor
+onTo n c = record {
+  at = cond (c .spelled) (c .at) (max n (c .at));
+  to = c .to;
+  spelled = c .spelled;
+  meant = c .meant;
+  small = c .small;
+}
+
+abbrev rowOnTo : ℕ → Row → Row
+rowOnTo n r = record { cursor = onTo n (r .cursor); key = r .key }
+
+largest : (m n : ℕ) → cond (ltb m n) n m ≡ max n m
+largest m n = go (ltb m n) refl
+  where
+    go : (b : Bool) → ltb m n ≡ b → cond b n m ≡ max n m
+    go true e = omega (arith, ltb-true m n e)
+    go false e = omega (arith, ltb-false m n e)
+
+on-further : (n : ℕ) (c : Cursor) → Further n c (onTo n c)
+on-further n c = record {
+  goes = λ g. cursors (rw g) refl refl refl refl;
+  stops = λ g. record { is = g; at = rw (g, largest (c .at) n); to = refl; meant = refl; small = refl };
+}
+
+-- a reader that is there already
+on-past : (n : ℕ) (c : Cursor) → n ≤ c .at → onTo n c ≡ c
+on-past n c h = cursors (go (c .spelled)) refl refl refl refl
+  where
+    go : (b : Bool) → cond b (c .at) (max n (c .at)) ≡ c .at
+    go true = refl
+    go false = omega arith
+
+on-on : (k m n : ℕ) (c : Cursor) → k ≡ max m n → onTo m (onTo n c) ≡ onTo k c
+on-on k m n c e = cursors (go (c .spelled)) refl refl refl refl
+  where
+    go : (b : Bool) → let at = cond b (c .at) (max n (c .at)) in cond b at (max m at) ≡ cond b (c .at) (max k (c .at))
+    go true = refl
+    go false = omega arith
+
+-- ---- one row
+-- a reader that stops where it is
+abbrev halted : Cursor → Cursor
+halted c = record { at = c .at; to = c .to; spelled = false; meant = c .meant; small = c .small }
+
+module _ {t : List ℕ} {c : Cursor} where
+  -- no row
+  row-none : Safe t c → RowRead (λ w. stuck w) t c (record { cursor = halted c; key = 0 })
+  row-none f = record {
+    found = record { reads = go (c .spelled); moves = moves keeps };
+    keeps = keeps;
+    stop = λ e. refl;
+  }
+    where
+      keeps : Keeps t c (halted c)
+      keeps = record {
+        safe = record { inside = f .inside; room = f .room };
+        onward = omega arith;
+        to = refl;
+        meant = refl;
+        small = refl;
+      }
+
+      go : (b : Bool) → Finds {A = ℕ} t (λ n. 0 ≡ n) (halted c) (and-then (left-of b (drop (c .at) t)) (λ u w. stuck w))
+      go true = stopped refl
+      go false = stopped refl
+
+  module _ {title : List ℕ} (key : ℕ) {d : Cursor} (later : List ℕ → Parsed ℕ) (q : Passed title t c d) where
+    -- its title is there
+    row-here : d .spelled ≡ true → RowRead (choice (rowParser title key) later) t c (record { cursor = d; key = key })
+    row-here g = record {
+      found = found-first (rowParser title key) later (found-entry q key refl) g;
+      keeps = q .keeps;
+      stop = λ e. clash e g;
+    }
+
+    -- its title is not there: one of the rows after it, or the further place
+    row-other : {r : Row} → d .spelled ≡ false → RowRead later t c r
+        → RowRead (choice (rowParser title key) later) t c (rowOnTo (d .at) r)
+    row-other {r} g y =
+        let f = on-further (d .at) (r .cursor) in
+        let x = found-entry q {P = λ n. key ≡ n} key refl in
+        record {
+          found = second-further (rowParser title key) later (λ z n. r .key ≡ n) x (y .found) g f (λ n h. h);
+          keeps = keeps-then (y .keeps) (further-keeps (y .keeps .safe) (q .keeps .safe .inside) f);
+          stop = y .stop;
+        }
+
+-- ---- the loop
+-- No title of the rows before `from` is in the text, and `far` is the furthest place that one reached. So what the rows
+-- from there on find, brought on to that place, is what the whole table finds.
+pub record Trying (table t : List ℕ) (c : Cursor) (from : ℕ) (far : Cursor) : Type 0 where
+  pub left : ℕ
+  pub enough : length table ≤ from + left
+  pub within : from ≤ length table
+  pub stopped : Stopped c (far .at) far
+  pub onward : c .at ≤ far .at
+  pub goes : (r : Row) → RowRead (triedRows left (drop from table)) t c r
+      → RowRead (triedIn table) t c (rowOnTo (far .at) r)
+
+pub trying-start : {t : List ℕ} {c far : Cursor} (table : List ℕ) → Stopped c (c .at) far → Trying table t c 0 far
+trying-start {t} {c} {far} table s = record {
+  left = length table;
+  enough = omega arith;
+  within = omega arith;
+  stopped = record { is = s .is; at = refl; to = s .to; meant = s .meant; small = s .small };
+  onward = omega (arith, s .at);
+  goes = λ r x.
+      let e = on-past (far .at) (r .cursor) (omega (arith, s .at, x .keeps .onward)) in
+      subst (λ (z : Cursor). RowRead (triedIn table) t c (record { cursor = z; key = r .key })) (sym e) x;
+}
+
+module _ {table t : List ℕ} {c : Cursor} {from : ℕ} {far : Cursor} (y : Trying table t c from far) where
+  abbrev Reading : Cursor → ℕ → Type 0
+  Reading r key = RowRead (triedIn table) t c (record { cursor = r; key = key })
+
+  -- no row is left
+  ends : Safe t c → ((w : List ℕ) → triedRows (y .left) (drop from table) w ≡ stuck w) → Reading far 0
+  ends f none = subst (λ (z : Cursor). Reading z 0) there (y .goes _ (row-same _ (λ w. sym (none w)) (row-none f)))
+    where
+      there : onTo (far .at) (halted c) ≡ far
+      there =
+          let s = y .stopped in
+          cursors (omega (arith, y .onward)) (sym (s .to)) (sym (s .is)) (sym (s .meant)) (sym (s .small))
+
+  pub trying-end : Safe t c → length table - from < 2 → Reading far 0
+  trying-end f h = ends f (rows-end table (y .left) from h)
+
+  pub trying-cut : {size : ℕ} → Safe t c → 2 ≤ length table - from → size ≡ getD table (from + 1) 0
+      → length table - (from + 2) < size → Reading far 0
+  trying-cut f h e k = ends f (rows-cut table (y .left) from h e k)
+
+  module _ {size : ℕ} {d : Cursor} (a : RowAt table from size) (q : Passed (titleAt table from size) t c d) where
+    -- the rows that are left, one fewer
+    fewer : (n : ℕ) × (y .left ≡ suc n)
+    fewer = go (y .left) (y .enough)
+      where
+        go : (m : ℕ) → length table ≤ from + m → (n : ℕ) × (m ≡ suc n)
+        go zero h = absurd (omega (arith, a .two))
+        go (suc n) h = (n, refl)
+
+    abbrev later : List ℕ → Parsed ℕ
+    later = triedRows (fewer .0) (drop (from + 2 + size) table)
+
+    onwards : (r : Row) → RowRead (choice (rowParser (titleAt table from size) (getD table from 0)) later) t c r
+        → RowRead (triedIn table) t c (rowOnTo (far .at) r)
+    onwards r x = y .goes r (row-same _ (λ w. sym (begins w)) x)
+      where
+        begins : (w : List ℕ) → triedRows (y .left) (drop from table) w
+            ≡ choice (rowParser (titleAt table from size) (getD table from 0)) later w
+        begins w = ap (λ (m : ℕ). triedRows m (drop from table) w) (fewer .1) ∙ rows-row table (fewer .0) from a w
+
+    pub trying-here : {key : ℕ} → d .spelled ≡ true → key ≡ getD table from 0 → Reading d key
+    trying-here {key} g e =
+        let there = on-further (far .at) d .goes g in
+        rw e (subst (λ (z : Cursor). Reading z (getD table from 0)) there (onwards _ (row-here _ later q g)))
+
+    pub trying-more : {next : Cursor} → d .spelled ≡ false → Further (d .at) far next
+        → Trying table t c (from + 2 + size) next
+    trying-more {next} g f =
+        let s = f .stops (y .stopped .is) in
+        let k : next .at ≡ max (far .at) (d .at) = s .at ∙ largest (far .at) (d .at) ∙ omega arith in
+        let o = y .stopped in
+        record {
+          left = fewer .0;
+          enough = omega (arith, y .enough, fewer .1);
+          within = omega (arith, a .two, a .whole);
+          stopped = record {
+            is = s .is;
+            at = refl;
+            to = s .to ∙ o .to;
+            meant = s .meant ∙ o .meant;
+            small = s .small ∙ o .small;
+          };
+          onward = omega (arith, k, y .onward);
+          goes = λ r x.
+              let e = on-on (next .at) (far .at) (d .at) (r .cursor) k in
+              subst (λ (z : Cursor). Reading z (r .key)) e (onwards _ (row-other _ later q g x));
+        }

@@ -1,0 +1,57 @@
+use borrow.Author.Needs.{needs}
+use Rattle.to_wire.specs.Sections.{one-asked, one-titled, one-item}
+use Rattle.to_wire.proofs.entries.one.Statement.{statement}
+use Rattle.to_wire.proofs.entries.one.Tie as tie
+
+enum-told : tie.Need-enum-told
+enum-told c = search needs
+
+asked-requires : tie.Need-asked-requires
+asked-requires c κs = search needs
+
+enum-told-2 : tie.Need-enum-told-2
+enum-told-2 c = search needs
+
+titled-requires : tie.Need-titled-requires
+titled-requires c κs = search needs
+
+enum-told-3 : tie.Need-enum-told-3
+enum-told-3 c = search needs
+
+item-requires : tie.Need-item-requires
+item-requires c κs = search needs
+
+same-length : tie.Need-same-length
+same-length c = search needs
+
+returns : tie.Need-returns
+returns c = search (one-asked, needs)
+
+same-length-2 : tie.Need-same-length-2
+same-length-2 c = search needs
+
+returns-2 : tie.Need-returns-2
+returns-2 c = search (one-titled, needs)
+
+same-length-3 : tie.Need-same-length-3
+same-length-3 c = search needs
+
+returns-3 : tie.Need-returns-3
+returns-3 c = search (one-item, needs)
+
+pub one-spec : {M : Type 1} → statement M
+one-spec =
+    tie.close
+    (tie.spec
+    enum-told
+    asked-requires
+    enum-told-2
+    titled-requires
+    enum-told-3
+    item-requires
+    same-length
+    returns
+    same-length-2
+    returns-2
+    same-length-3
+    returns-3)

@@ -1,0 +1,81 @@
+use borrow.Author.Needs.{needs}
+use native.Mathlib.Omega.{arith}
+use Rattle.to_wire.specs.Reading.{record-read}
+use Rattle.to_wire.proofs.entries.record.Statement.{statement}
+use Rattle.to_wire.proofs.entries.record.Tie as tie
+
+name-requires : tie.Need-name-requires
+name-requires c κs = search needs
+
+slice-aggregate-literal : tie.Need-slice-aggregate-literal
+slice-aggregate-literal c = search needs
+
+literal-requires : tie.Need-literal-requires
+literal-requires c κs = search needs
+
+word-requires : tie.Need-word-requires
+word-requires c κs = search needs
+
+slice-aggregate-literal-2 : tie.Need-slice-aggregate-literal-2
+slice-aggregate-literal-2 c = search needs
+
+literal-requires-2 : tie.Need-literal-requires-2
+literal-requires-2 c κs = search needs
+
+word-requires-2 : tie.Need-word-requires-2
+word-requires-2 c κs = search needs
+
+slice-aggregate-literal-3 : tie.Need-slice-aggregate-literal-3
+slice-aggregate-literal-3 c = search needs
+
+literal-requires-3 : tie.Need-literal-requires-3
+literal-requires-3 c κs = search needs
+
+sub-tail : tie.Need-sub-tail
+sub-tail c = (c .before .before .before .before .before .before .before .before .before .before .before .before .before
+    .before .before .before .name .ensures .moves .onward)
+
+tail-requires : tie.Need-tail-requires
+tail-requires c κs = (
+  (c .before .literal3 .ensures .keeps .safe),
+  c .before .before .before .before .before .before .before .before .before .before .before .before .before .before
+      .before .before .before .before .before .before .before .pre .1,
+)
+
+same-length : tie.Need-same-length
+same-length c =
+    let m = c .before .before .before .before .before .before .before in
+    omega (
+      arith,
+      m .before .before .before .before .before .before .before .before .before .before .before .before .out
+          .given,
+      m .before .before .before .before .before .before .out2 .given,
+      m .out3 .given,
+      c .before .out4 .given,
+    )
+
+returns : tie.Need-returns
+returns c =
+    let m = c .before .before .before .before .before .before .before .before in
+    let k = m .before .before .before .before .before .before in
+    record-read (k .before .before .before .before .before .before .name .ensures) (search needs)
+    (k .before .before .literal .ensures) (k .word .ensures) (m .before .before .literal2 .ensures)
+    (m .word2 .ensures) (c .before .before .before .before .literal3 .ensures) (c .before .before .tail .ensures)
+
+pub record-spec : {M : Type 1} → statement M
+record-spec =
+    tie.close
+    (tie.spec
+    name-requires
+    slice-aggregate-literal
+    literal-requires
+    word-requires
+    slice-aggregate-literal-2
+    literal-requires-2
+    word-requires-2
+    slice-aggregate-literal-3
+    literal-requires-3
+    sub-tail
+    tail-requires
+    same-length
+    returns)

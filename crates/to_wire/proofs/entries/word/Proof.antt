@@ -1,0 +1,19 @@
+use borrow.Author.Needs.{needs}
+use Rattle.to_wire.specs.Reading.{word-read}
+use Rattle.to_wire.proofs.entries.word.Statement.{statement}
+use Rattle.to_wire.proofs.entries.word.Tie as tie
+
+number-requires : tie.Need-number-requires
+number-requires c κs = search needs
+
+put-word-requires : tie.Need-put-word-requires
+put-word-requires c κs = search needs
+
+same-length : tie.Need-same-length
+same-length c = search needs
+
+returns : tie.Need-returns
+returns c = search (word-read, needs)
+
+pub word-spec : {M : Type 1} → statement M
+word-spec = tie.close (tie.spec number-requires put-word-requires same-length returns)

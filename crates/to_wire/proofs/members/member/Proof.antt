@@ -1,0 +1,54 @@
+use borrow.Author.Needs.{needs}
+use Rattle.to_wire.specs.Options.{member-known, member-other, name-word}
+use Rattle.to_wire.proofs.members.member.Statement.{statement}
+use Rattle.to_wire.proofs.members.member.Tie as tie
+
+member-name-requires : tie.Need-member-name-requires
+member-name-requires c κs = search needs
+
+known-requires : tie.Need-known-requires
+known-requires c κs =
+    (search needs, name-word (c .before .before .before .member-name .ensures) (c .before .if1 .taken))
+
+slice-aggregate-literal : tie.Need-slice-aggregate-literal
+slice-aggregate-literal c = search needs
+
+literal-requires : tie.Need-literal-requires
+literal-requires c κs = search needs
+
+further-requires : tie.Need-further-requires
+further-requires c κs = search needs
+
+same-length : tie.Need-same-length
+same-length c = search needs
+
+returns : tie.Need-returns
+returns c = search (member-known, needs)
+
+other-requires : tie.Need-other-requires
+other-requires c κs = search needs
+
+further-requires-2 : tie.Need-further-requires-2
+further-requires-2 c κs = search needs
+
+same-length-2 : tie.Need-same-length-2
+same-length-2 c = search needs
+
+returns-2 : tie.Need-returns-2
+returns-2 c = search (member-other, needs)
+
+pub member-spec : {M : Type 1} → statement M
+member-spec =
+    tie.close
+    (tie.spec
+    member-name-requires
+    known-requires
+    slice-aggregate-literal
+    literal-requires
+    further-requires
+    same-length
+    returns
+    other-requires
+    further-requires-2
+    same-length-2
+    returns-2)

@@ -1,0 +1,38 @@
+-- `members::rising_member` meets its contract.
+use borrow.Author.Needs.{needs}
+use Rattle.to_wire.specs.Options.{rising-read}
+use Rattle.to_wire.proofs.members.rising_member.Statement.{statement}
+use Rattle.to_wire.proofs.members.rising_member.Tie as tie
+
+slice-aggregate-literal : tie.Need-slice-aggregate-literal
+slice-aggregate-literal c = search needs
+
+literal-requires : tie.Need-literal-requires
+literal-requires c κs = search needs
+
+member-requires : tie.Need-member-requires
+member-requires c κs = search needs
+
+cast-judge : tie.Need-cast-judge
+cast-judge c = search needs
+
+judge-requires : tie.Need-judge-requires
+judge-requires c κs = search needs
+
+same-length : tie.Need-same-length
+same-length c = search needs
+
+returns : tie.Need-returns
+returns c = search (rising-read, needs)
+
+pub rising-member-spec : {M : Type 1} → statement M
+rising-member-spec =
+    tie.close
+    (tie.spec
+    slice-aggregate-literal
+    literal-requires
+    member-requires
+    cast-judge
+    judge-requires
+    same-length
+    returns)

@@ -1,0 +1,261 @@
+-- The EDNS element after its title: what its reader shows.
+use mathlib.Core.Path.{_≡_, refl, sym, _∙_, ap, subst}
+use mathlib.Core.Bool.{Bool, true, false, _&&_}
+use mathlib.Core.List.{List, [], _∷_, _++_, map}
+use Prim.Native.Nat.{ℕ, _+_, _-_, _*_, _/_, _%_, _≤_, _<_}
+use native.Mathlib.Omega.{arith}
+use borrow.Author.Tests.{eqb-true, lt-ltb}
+use lib.Dec.{T, ltb, eqb, ltb→lt}
+use lib.ListN.{length}
+use Rattle.octets.specs.Lists.{ascii, all, All, each, octet?, key?, rowText}
+use Rattle.octets.specs.Bits.{is-true, and-left, and-right}
+use Rattle.octets.specs.Fields.{two, four}
+use Rattle.octets.specs.Parsed.{Parsed, took, stuck, and-then, strip}
+use Rattle.octets.specs.Codec.{Any, Codec, on, joined, table, _▷_, _◁_, _⊗_, tried}
+use Rattle.octets.specs.Decimal.{decimal, number, till}
+use Rattle.octets.specs.Overlay.{Wrote, then}
+use Rattle.names.specs.Name.{nameForm}
+use Rattle.records.specs.Message.{recordForm, bit?}
+use Rattle.options.specs.Options.{Member}
+use Rattle.edns.specs.Edns.{rcodes, flags, fullRcode, optionForm, option?, rising?, edns?, ednsRecord, EdnsItem}
+use Rattle.strict.specs.Grammar.{MemberIn, EdnsIn}
+use Rattle.strict.specs.Parser.{flags-distinct, rcodes-distinct, membersEndText, options-fit, optionMembers}
+use Rattle.strict.specs.Parser.{ednsElement}
+use Rattle.strict.specs.Members.{optionOf, member?}
+use Rattle.strict.proofs.OptionLaws.{key-holds, option-member}
+use Rattle.strict.specs.Meaning.{itemEdns, ednsItem?}
+use Rattle.parse_tokens.specs.declared.Cursor.{Cursor}
+use Rattle.parse_tokens.specs.Cursor.{Keeps, keeps-then, Passed}
+use Rattle.parse_tokens.specs.Step.{Found, Put, Step, Held, Judged, found-at, found-from, found-sound, found-map, found-lit}
+use Rattle.parse_tokens.specs.Step.{found-behind, found-pair, put-from, put-as, put-before, put-judged}
+use Rattle.parse_tokens.specs.declared.Amount.{Amount}
+use Rattle.parse_tokens.specs.declared.Row.{Row}
+use Rattle.parse_tokens.specs.Number.{capped, capped-below, capped-is, NumberRead, TillRead}
+use Rattle.parse_tokens.specs.Rows.{RowRead}
+use Rattle.to_wire.specs.Options.{options?, OptionsStep}
+
+-- ---- the parser after the title
+abbrev pub EdnsFields : Type 0
+EdnsFields = ℕ × (ℕ × (ℕ × (ℕ × List Member)))
+
+abbrev pub itemOf : EdnsFields → EdnsItem
+itemOf (v, (f, (c, (s, o)))) = record { version = v; flags = f; rcode = c; size = s; options = o }
+
+abbrev pub behindText : EdnsItem → List ℕ
+behindText e = (decimal (e .version) ++ ascii ",\"FLAGS\":")
+    ++ (rowText (e .flags) flags ++ ((ascii ",\"RCODE\":\"" ++ (rowText (e .rcode) rcodes ++ ascii "\",\"UDPSIZE\":"))
+    ++ (decimal (e .size) ++ membersEndText (e .options))))
+
+unfoldable pub ednsBehind : Codec EdnsIn behindText Any
+ednsBehind = on (λ e. (e .version, (e .flags, (e .rcode, (e .size, e .options))))) itemOf (λ e h. (h, refl))
+    (λ e h. (h, refl))
+    (till ",\"FLAGS\":" tt number
+    ⊗ table flags flags-distinct
+    ⊗ ",\"RCODE\":\"" ▷ table rcodes rcodes-distinct ◁ "\",\"UDPSIZE\":"
+    ⊗ joined number optionMembers (λ o r h m. options-fit o r))
+
+unfoldable pub ednsRest : List ℕ → Parsed EdnsItem
+ednsRest = ednsBehind .parse
+
+-- with the title it is that of the element
+then-thrice : {A B C D : Type 0} (o : Parsed A) (f : A → List ℕ → Parsed B) (g : B → List ℕ → Parsed C) (h : C → List ℕ
+    → Parsed D)
+    → and-then (and-then (and-then o f) g) h ≡ and-then o (λ a r. and-then (and-then (f a r) g) h)
+then-thrice (took a r) f g h = refl
+then-thrice (stuck w) f g h = refl
+
+pub edns-parse : (w : List ℕ)
+    → ednsElement .parse w ≡ and-then (strip (ascii "{\"EDNS\":{\"Version\":") w) (λ u r. ednsRest r)
+unfolding ednsElement ednsRest ednsBehind
+edns-parse w = then-thrice (strip (ascii "{\"EDNS\":{\"Version\":") w)
+    (λ u r. till ",\"FLAGS\":" tt number .parse r) _ _
+
+-- ---- its fields
+abbrev pub rcodeCodec : Codec (λ n. T (key? n rcodes)) (λ n. ascii ",\"RCODE\":\""
+    ++ (rowText n rcodes ++ ascii "\",\"UDPSIZE\":")) Any
+rcodeCodec = ",\"RCODE\":\"" ▷ table rcodes rcodes-distinct ◁ "\",\"UDPSIZE\":"
+
+pub record RcodeRead (t : List ℕ) (c : Cursor) (r : Row) : Type 0 where
+  pub found : Found (rcodeCodec .parse) (λ n. r .key ≡ n) t c (r .cursor)
+  pub keeps : Keeps t c (r .cursor)
+
+pub rcode-read : {t : List ℕ} {c r s : Cursor} {n : Row} → Passed (ascii ",\"RCODE\":\"") t c r
+    → RowRead (tried rcodes) t r n → Passed (ascii "\",\"UDPSIZE\":") t (n .cursor) s
+    → RcodeRead t c (record { cursor = s; key = n .key })
+rcode-read q x e = record {
+  found = found-lit q (found-behind (x .found) e);
+  keeps = keeps-then (q .keeps) (keeps-then (x .keeps) (e .keeps));
+}
+
+-- ---- what they must be
+abbrev pub ednsFits? : ℕ → ℕ → ℕ → ℕ → Bool
+ednsFits? version full rcode size = eqb version 0 && eqb (full % 16) rcode && ltb size 65536
+
+-- the rest of the conditions follows from the grammar
+abbrev pub element? : ℕ → EdnsItem → Bool
+element? rcode e = ednsItem? rcode e && edns? rcode (itemEdns e)
+
+options-valid : (l : List Member) → All MemberIn l → T (all member? l) → all option? (map optionOf l) ≡ true
+options-valid [] i h = refl
+options-valid (m ∷ l) i h = rw (
+  is-true (option? (optionOf m)) (option-member m (i .0) (and-left (member? m) (all member? l) h) .1),
+  options-valid l (i .1) (and-right (member? m) (all member? l) h),
+)
+
+flags-bit : (n : ℕ) → T (key? n flags) → n < 2
+unfolding flags
+flags-bit n h = ltb→lt n 2 (key-holds bit? flags n tt h)
+
+rcode-octet : (n : ℕ) → T (key? n rcodes) → n / 16 < 256
+unfolding rcodes
+rcode-octet n h = ltb→lt (n / 16) 256 (key-holds (λ n. octet? (n / 16)) rcodes n tt h)
+
+element-is : (rcode : ℕ) (e : EdnsItem) → EdnsIn e
+    → element? rcode e ≡ (options? (e .options) && ednsFits? (e .version) (e .rcode) rcode (e .size))
+unfolding ednsItem? edns? itemEdns
+element-is rcode e i =
+    rw (
+      lt-ltb (e .rcode / 16) 256 (rcode-octet (e .rcode) (i .1 .1 .0)),
+      lt-ltb (e .flags) 2 (flags-bit (e .flags) (i .1 .0)),
+    )
+    (go (eqb (e .version) 0) (eqb (e .rcode % 16) rcode) (all member? (e .options)) (ltb (e .size) 65536)
+    (rising? (map optionOf (e .options))) full (options-valid (e .options) (i .1 .1 .1 .1)))
+  where
+    full : eqb (e .rcode % 16) rcode ≡ true → key? (fullRcode rcode (e .rcode / 16)) rcodes ≡ true
+    full d = let z : fullRcode rcode (e .rcode / 16) ≡ e .rcode = omega (arith, eqb-true (e .rcode % 16) rcode d) in
+        rw z (is-true _ (i .1 .1 .0))
+
+    go : {k p : Bool} (a b m s r : Bool) → (b ≡ true → k ≡ true) → (T m → p ≡ true)
+        → (((a && b) && m) && (((((s && true) && true) && k) && p) && r)) ≡ ((m && r) && ((a && b) && s))
+    go true true true s r f g = rw (f refl, g tt) (swap s r)
+      where
+        swap : (s r : Bool) → (((((s && true) && true) && true) && true) && r) ≡ (r && s)
+        swap true true = refl
+        swap true false = refl
+        swap false true = refl
+        swap false false = refl
+    go true true false s r f g = refl
+    go true false true s true f g = refl
+    go true false true s false f g = refl
+    go true false false s r f g = refl
+    go false b true s true f g = refl
+    go false b true s false f g = refl
+    go false b false s r f g = refl
+
+-- ---- the octets before the options
+abbrev pub optFront : ℕ → ℕ → ℕ → List ℕ
+optFront size ttl n = (0 ∷ []) ++ two 41 ++ two size ++ four ttl ++ two n
+
+abbrev pub optTtl : ℕ → ℕ → ℕ
+optTtl full flags = full / 16 * 16777216 + flags * 32768
+
+-- they were written at `start`, where the options end at `to`
+pub record OptFronted (size full flags start to : ℕ) (b b′ : List ℕ) (r : ℕ) : Type 0 where
+  pub wrote : size < 65536 → full / 16 < 256 → flags < 2 → start + 11 ≤ to
+      → Wrote b start (optFront size (optTtl full flags) (to - (start + 11))) b′ r
+
+pub opt-none : {size full flags start to r : ℕ} (b : List ℕ) → to < start + 11
+    → OptFronted size full flags start to b b r
+opt-none b h = record { wrote = λ i j k l. absurd (omega arith) }
+
+pub opt-fronted : {size full flags start to class ttl n : ℕ} {b b₁ b₂ b₃ b₄ b₅ : List ℕ} {r₁ r₂ r₃ r₄ r₅ : ℕ}
+    → class ≡ size % 65536 → ttl ≡ full / 16 % 256 * 16777216 + flags % 2 * 32768 → n ≡ to - (start + 11)
+    → Wrote b start (0 ∷ []) b₁ r₁ → Wrote b₁ r₁ (two 41) b₂ r₂ → Wrote b₂ r₂ (two class) b₃ r₃
+    → Wrote b₃ r₃ (four ttl) b₄ r₄ → Wrote b₄ r₄ (two n) b₅ r₅
+    → OptFronted size full flags start to b b₅ r₅
+opt-fronted {size} {full} {flags} {start} {to} {class} {ttl} {n} {b} {b₅ = b₅} {r₅ = r₅} e d m v w x y z = record {
+  wrote = λ i j k l.
+      let s : class ≡ size = omega (arith, e) in
+      let u : ttl ≡ optTtl full flags = omega (arith, d) in
+      subst (λ (i : ℕ). Wrote b start (optFront i (optTtl full flags) (to - (start + 11))) b₅ r₅) s
+      (subst (λ (i : ℕ). Wrote b start (optFront class i (to - (start + 11))) b₅ r₅) u
+      (subst (λ (i : ℕ). Wrote b start (optFront class ttl i) b₅ r₅) m (then (then (then (then v w) x) y) z)));
+}
+
+-- ---- the whole
+each-option : (l : List Member) → each optionForm (map optionOf l) ≡ each (λ m. optionForm (optionOf m)) l
+unfolding each
+each-option [] = refl
+each-option (m ∷ l) = ap (λ (z : List ℕ). optionForm (optionOf m) ++ z) (each-option l)
+
+abbrev rdataOf : EdnsItem → List ℕ
+rdataOf e = each (λ m. optionForm (optionOf m)) (e .options)
+
+abbrev pub elementForm : EdnsItem → List ℕ
+elementForm e = recordForm (ednsRecord (itemEdns e))
+
+form-is : (e : EdnsItem) → elementForm e ≡ optFront (e .size) (optTtl (e .rcode) (e .flags)) (length (rdataOf e))
+    ++ rdataOf e
+unfolding recordForm ednsRecord itemEdns nameForm
+form-is e = rw (each-option (e .options))
+
+abbrev pub EdnsStep : ℕ → List ℕ → Cursor → List ℕ → Cursor → List ℕ → Type 0
+EdnsStep rcode t c b r b′ = Step (element? rcode) elementForm ednsRest t c b r b′
+
+pub edns-read : (rcode : ℕ) {t : List ℕ} {c h o j : Cursor} {b b₁ b₂ : List ℕ} {v s : Amount} {f x : Row} {ok : Bool}
+    {e : ℕ} → TillRead (ascii ",\"FLAGS\":") t c v → RowRead (tried flags) t (v .cursor) f → RcodeRead t (f .cursor) x
+    → NumberRead t (x .cursor) s
+    → Held 11 (s .cursor) h → OptionsStep (optionMembers .parse) t h b o b₁
+    → ok ≡ ednsFits? (v .value) (x .key) rcode (s .value) → Judged ok o j
+    → OptFronted (s .value) (x .key) (f .key) (s .cursor .to) (j .to) b₁ b₂ e → EdnsStep rcode t c b j b₂
+unfolding ednsRest ednsBehind
+edns-read rcode {t} {c} {h} {o} {j} {b} {b₁} {b₂} {v} {s} {f} {x} {ok} {e = end} version row full size places members
+    fit judged front =
+    found-at (found-sound ednsBehind fields) (judged .at) (judged .spelled)
+    (omega (arith, judged .to, members .moves .safe .room)) λ e k. done e (k .0) (k .1)
+  where
+    Q : EdnsItem → Type 0
+    Q e = (v .value ≡ capped (e .version))
+        × ((f .key ≡ e .flags)
+        × ((x .key ≡ e .rcode)
+        × ((s .value ≡ capped (e .size)) × Put options? (each (λ m. optionForm (optionOf m))) h b o b₁ (e .options))))
+
+    fields : Found (ednsBehind .parse) Q t c o
+    fields = found-map itemOf (λ u k. k)
+        (found-pair (version .found)
+        (found-pair (row .found)
+        (found-pair (full .found) (found-pair (size .found) (found-from (places .at) (places .spelled) members)))))
+
+    frontOf : EdnsItem → List ℕ
+    frontOf e = optFront (e .size) (optTtl (e .rcode) (e .flags)) (length (rdataOf e))
+
+    done : (e : EdnsItem) → EdnsIn e → Q e → Put (element? rcode) elementForm c b j b₂ e
+    done e i q = put-from
+        (keeps-then (version .keeps) (keeps-then (row .keeps) (keeps-then (full .keeps) (size .keeps))))
+        (put-as refl (form-is e) (put-before frontOf places refl p before))
+      where
+        fits : ok ≡ ednsFits? (e .version) (e .rcode) rcode (e .size)
+        fits = fit ∙ rw (
+          q .0,
+          capped-is (e .version) 0 (omega arith),
+          q .1 .1 .0,
+          q .1 .1 .1 .0,
+          capped-below (e .size) 65536 (omega arith),
+        )
+
+        p : Put (element? rcode) rdataOf h b j b₁ e
+        p = put-judged (put-as {ok′ = λ e. options? (e .options)} {wire′ = rdataOf} {a′ = e} refl refl (q .1 .1 .1 .1))
+            judged (element-is rcode e i ∙ ap (λ (k : Bool). options? (e .options) && k) (sym fits))
+
+        before : T (j .meant) → T (j .small) → Wrote b₁ (s .cursor .to) (frontOf e) b₂ end
+        before y z =
+            let start = s .cursor .to in
+            let w : T (options? (e .options) && ednsFits? (e .version) (e .rcode) rcode (e .size)) =
+            subst T (element-is rcode e i) (and-right (h .meant) (element? rcode e) (subst T (p .meant) y)) in
+            let l : e .size < 65536 =
+            ltb→lt (e .size) 65536
+            (and-right (eqb (e .version) 0 && eqb (e .rcode % 16) rcode) (ltb (e .size) 65536)
+            (and-right (options? (e .options)) _ w)) in
+            let u : j .to ≡ start + 11 + length (rdataOf e) =
+            omega (arith, places .to (and-left (h .small) _ (subst T (p .small y) z)), p .wrote y z .place) in
+            let n : j .to - (start + 11) ≡ length (rdataOf e) = omega (arith, u) in
+            let g : s .value ≡ e .size = omega (arith, q .1 .1 .1 .0) in
+            let k = front .wrote (omega (arith, g)) (rw (q .1 .1 .0) (rcode-octet (e .rcode) (i .1 .1 .0)))
+            (rw (q .1 .0) (flags-bit (e .flags) (i .1 .0))) (omega (arith, u)) in
+            subst (λ (m : ℕ). Wrote b₁ start (optFront (e .size) (optTtl (e .rcode) (e .flags)) m) b₂ end) n
+            (subst (λ (m : ℕ). Wrote b₁ start (optFront m (optTtl (e .rcode) (e .flags)) (j .to - (start + 11))) b₂ end)
+            g
+            (subst (λ (m : ℕ). Wrote b₁ start (optFront (s .value) (optTtl m (e .flags)) (j .to - (start + 11))) b₂ end)
+            (q .1 .1 .0)
+            (subst (λ (m : ℕ). Wrote b₁ start (optFront (s .value) (optTtl (x .key) m) (j .to - (start + 11))) b₂ end)
+            (q .1 .0) k)))

@@ -1,0 +1,316 @@
+-- The head of a text: how its numbers are read, judged and written.
+use mathlib.Core.Path.{_≡_, refl, sym, _∙_, subst}
+use mathlib.Core.Bool.{Bool, true, false, _&&_}
+use mathlib.Core.List.{List, [], _∷_, _++_}
+use Prim.Native.Nat.{ℕ, _+_, _*_, _%_}
+use native.Mathlib.Omega.{arith}
+use lib.Dec.{T, ltb→lt}
+use Rattle.octets.specs.Lists.{ascii, word?}
+use Rattle.octets.specs.Fields.{two}
+use Rattle.octets.specs.Bits.{and-left, and-right}
+use Rattle.octets.specs.Parsed.{Parsed}
+use Rattle.octets.specs.Codec.{_⊗_}
+use Rattle.octets.specs.Decimal.{number, till}
+use Rattle.records.specs.Message.{bit?, four-bits?}
+use Rattle.parse_tokens.specs.declared.Cursor.{Cursor}
+use Rattle.parse_tokens.specs.declared.Amount.{Amount}
+use Rattle.parse_tokens.specs.Cursor.{Keeps, keeps-then, Passed}
+use Rattle.parse_tokens.specs.Step.{Found, found-as, found-lit, found-map, found-pair, found-at, Put, put-from, put-as}
+use Rattle.parse_tokens.specs.Step.{Judged, Emits}
+use Rattle.parse_tokens.specs.Number.{capped, capped-below, NumberRead, TillRead}
+use Rattle.parse_tokens.specs.Fields.{Done, done-then}
+use Rattle.strict.specs.Parser.{Head, head}
+use Rattle.to_wire.specs.Meant.{highMeant?, highOctet, lowMeant?, lowOctet, headMeant?, headOctets}
+use Rattle.to_wire.specs.declared.head.Flags.{Flags}
+use Rattle.to_wire.specs.declared.head.Counts.{Counts}
+use Rattle.to_wire.specs.declared.head.Header.{Header}
+
+-- ---- the flags
+abbrev pub Five : Type 0
+Five = ℕ × (ℕ × (ℕ × (ℕ × ℕ)))
+
+abbrev pub Four : Type 0
+Four = ℕ × (ℕ × (ℕ × ℕ))
+
+-- the octet, with each number brought into its range, and whether each was in range
+pub record HighBits (c : Cursor) (u : Five) (r : Flags) : Type 0 where
+  pub same : r .cursor ≡ c
+  pub octet : r .octet ≡ u .0 % 2 * 128 + u .1 .0 % 16 * 8 + u .1 .1 .0 % 2 * 4 + u .1 .1 .1 .0 % 2 * 2 + u .1 .1 .1 .1
+      % 2
+  pub fits : r .fits ≡ highMeant? u
+
+pub record LowBits (c : Cursor) (u : Four) (r : Flags) : Type 0 where
+  pub same : r .cursor ≡ c
+  pub octet : r .octet ≡ u .0 % 2 * 128 + u .1 .0 % 2 * 32 + u .1 .1 .0 % 2 * 16 + u .1 .1 .1 % 16
+  pub fits : r .fits ≡ lowMeant? u
+
+pub high-bits : {c : Cursor} {u : Five} {o : ℕ} {w x y z : Bool}
+    → o ≡ u .0 % 2 * 128 + u .1 .0 % 16 * 8 + u .1 .1 .0 % 2 * 4 + u .1 .1 .1 .0 % 2 * 2 + u .1 .1 .1 .1 % 2
+    → w ≡ (bit? (u .1 .1 .1 .0) && bit? (u .1 .1 .1 .1)) → x ≡ (bit? (u .1 .1 .0) && w)
+    → y ≡ (four-bits? (u .1 .0) && x) → z ≡ (bit? (u .0) && y)
+    → HighBits c u (record { cursor = c; octet = o; fits = z })
+high-bits o d e f g = record { same = refl; octet = o; fits = g ∙ rw (f, e, d) }
+
+pub low-bits : {c : Cursor} {u : Four} {o : ℕ} {x y z : Bool}
+    → o ≡ u .0 % 2 * 128 + u .1 .0 % 2 * 32 + u .1 .1 .0 % 2 * 16 + u .1 .1 .1 % 16
+    → x ≡ (bit? (u .1 .1 .0) && four-bits? (u .1 .1 .1)) → y ≡ (bit? (u .1 .0) && x) → z ≡ (bit? (u .0) && y)
+    → LowBits c u (record { cursor = c; octet = o; fits = z })
+low-bits o e f g = record { same = refl; octet = o; fits = g ∙ rw (f, e) }
+
+-- what is known of the flags that were read
+abbrev pub FlagsKept : {A : Type 0} → (A → Bool) → (A → ℕ) → Flags → A → Type 0
+FlagsKept meant? octet r u = (r .fits ≡ meant? u) × (T (r .fits) → r .octet ≡ octet u)
+
+abbrev pub highParse : List ℕ → Parsed Five
+highParse = (till ",\"Opcode\":" tt number ⊗ till ",\"AA\":" tt number ⊗ till ",\"TC\":" tt number ⊗ till ",\"RD\":" tt
+    number ⊗ till ",\"RA\":" tt number) .parse
+
+abbrev pub lowParse : List ℕ → Parsed Four
+lowParse = (till ",\"AD\":" tt number ⊗ till ",\"CD\":" tt number ⊗ till ",\"RCODE\":" tt number ⊗ till ",\"QDCOUNT\":"
+    tt number) .parse
+
+abbrev pub countsParse : List ℕ → Parsed Four
+countsParse = (till ",\"ANCOUNT\":" tt number ⊗ till ",\"NSCOUNT\":" tt number ⊗ till ",\"ARCOUNT\":" tt number ⊗
+    number) .parse
+
+pub record FlagsRead {A : Type 0} (p : List ℕ → Parsed A) (meant? : A → Bool) (octet : A
+    → ℕ) (t : List ℕ) (c : Cursor) (r : Flags) : Type 0 where
+  pub found : Found p (FlagsKept meant? octet r) t c (r .cursor)
+  pub keeps : Keeps t c (r .cursor)
+
+abbrev pub HighRead : List ℕ → Cursor → Flags → Type 0
+HighRead = FlagsRead highParse highMeant? highOctet
+
+abbrev pub LowRead : List ℕ → Cursor → Flags → Type 0
+LowRead = FlagsRead lowParse lowMeant? lowOctet
+
+-- what was kept of the numbers
+bit-kept : (n : ℕ) → bit? (capped n) ≡ bit? n
+bit-kept n = capped-below n 2 (omega arith)
+
+four-bits-kept : (n : ℕ) → four-bits? (capped n) ≡ four-bits? n
+four-bits-kept n = capped-below n 16 (omega arith)
+
+bit-in : (n : ℕ) → T (bit? n) → capped n % 2 ≡ n
+bit-in n h = omega (arith, ltb→lt n 2 h)
+
+four-bits-in : (n : ℕ) → T (four-bits? n) → capped n % 16 ≡ n
+four-bits-in n h = omega (arith, ltb→lt n 16 h)
+
+high-kept : {c : Cursor} {r : Flags} (a b d e f : ℕ)
+    → HighBits c (capped a, (capped b, (capped d, (capped e, capped f)))) r
+    → FlagsKept highMeant? highOctet r (a, (b, (d, (e, f))))
+high-kept a b d e f x = (x .fits ∙ same, λ t. let h = subst T (x .fits ∙ same) t in x .octet ∙ octet h)
+  where
+    same : highMeant? (capped a, (capped b, (capped d, (capped e, capped f)))) ≡ highMeant? (a, (b, (d, (e, f))))
+    same = rw (bit-kept a, four-bits-kept b, bit-kept d, bit-kept e, bit-kept f)
+
+    octet : T (highMeant? (a, (b, (d, (e, f)))))
+        → capped a % 2 * 128 + capped b % 16 * 8 + capped d % 2 * 4 + capped e % 2 * 2 + capped
+        f % 2 ≡ a * 128 + b * 8 + d * 4 + e * 2 + f
+    octet h =
+        let h2 = and-right (bit? a) _ h in
+        let h3 = and-right (four-bits? b) _ h2 in
+        let h4 = and-right (bit? d) _ h3 in
+        rw (
+          bit-in a (and-left (bit? a) _ h),
+          four-bits-in b (and-left (four-bits? b) _ h2),
+          bit-in d (and-left (bit? d) _ h3),
+          bit-in e (and-left (bit? e) _ h4),
+          bit-in f (and-right (bit? e) _ h4),
+        )
+
+low-kept : {c : Cursor} {r : Flags} (a b d e : ℕ) → LowBits c (capped a, (capped b, (capped d, capped e))) r
+    → FlagsKept lowMeant? lowOctet r (a, (b, (d, e)))
+low-kept a b d e x = (x .fits ∙ same, λ t. let h = subst T (x .fits ∙ same) t in x .octet ∙ octet h)
+  where
+    same : lowMeant? (capped a, (capped b, (capped d, capped e))) ≡ lowMeant? (a, (b, (d, e)))
+    same = rw (bit-kept a, bit-kept b, bit-kept d, four-bits-kept e)
+
+    octet : T (lowMeant? (a, (b, (d, e))))
+        → capped a % 2 * 128 + capped b % 2 * 32 + capped d % 2 * 16 + capped e % 16 ≡ a * 128 + b * 32 + d * 16 + e
+    octet h =
+        let h2 = and-right (bit? a) _ h in
+        let h3 = and-right (bit? b) _ h2 in
+        rw (
+          bit-in a (and-left (bit? a) _ h),
+          bit-in b (and-left (bit? b) _ h2),
+          bit-in d (and-left (bit? d) _ h3),
+          four-bits-in e (and-right (bit? d) _ h3),
+        )
+
+-- the flags by their numbers, read one after another
+pub high-read : {t : List ℕ} {c : Cursor} {a b d e f : Amount} {r : Flags}
+    → TillRead (ascii ",\"Opcode\":") t c a → TillRead (ascii ",\"AA\":") t (a .cursor) b
+    → TillRead (ascii ",\"TC\":") t (b .cursor) d
+    → TillRead (ascii ",\"RD\":") t (d .cursor) e → TillRead (ascii ",\"RA\":") t (e .cursor) f
+    → HighBits (f .cursor) (a .value, (b .value, (d .value, (e .value, f .value)))) r → HighRead t c r
+high-read {t} {c} {a} {b} {d} {e} {f} {r} v w x y z k = record {
+  found = rw (k .same) (found-as
+      (found-pair (v .found) (found-pair (w .found) (found-pair (x .found) (found-pair (y .found) (z .found))))) kept);
+  keeps = rw (k .same) (keeps-then (v .keeps)
+      (keeps-then (w .keeps) (keeps-then (x .keeps) (keeps-then (y .keeps) (z .keeps)))));
+}
+  where
+    kept : (u : Five) → (a .value ≡ capped (u .0))
+        × ((b .value ≡ capped (u .1 .0))
+        × ((d .value ≡ capped (u .1 .1 .0))
+        × ((e .value ≡ capped (u .1 .1 .1 .0)) × (f .value ≡ capped (u .1 .1 .1 .1)))))
+        → FlagsKept highMeant? highOctet r u
+    kept u h = high-kept (u .0) (u .1 .0) (u .1 .1 .0) (u .1 .1 .1 .0) (u .1 .1 .1 .1)
+        (rw (h .0, h .1 .0, h .1 .1 .0, h .1 .1 .1 .0, h .1 .1 .1 .1) at k)
+
+pub low-read : {t : List ℕ} {c : Cursor} {a b d e : Amount} {r : Flags}
+    → TillRead (ascii ",\"AD\":") t c a → TillRead (ascii ",\"CD\":") t (a .cursor) b
+    → TillRead (ascii ",\"RCODE\":") t (b .cursor) d
+    → TillRead (ascii ",\"QDCOUNT\":") t (d .cursor) e
+    → LowBits (e .cursor) (a .value, (b .value, (d .value, e .value))) r → LowRead t c r
+low-read {t} {c} {a} {b} {d} {e} {r} v w x y k = record {
+  found = rw (k .same) (found-as (found-pair (v .found) (found-pair (w .found) (found-pair (x .found) (y .found))))
+      kept);
+  keeps = rw (k .same) (keeps-then (v .keeps) (keeps-then (w .keeps) (keeps-then (x .keeps) (y .keeps))));
+}
+  where
+    kept : (u : Four) → (a .value ≡ capped (u .0))
+        × ((b .value ≡ capped (u .1 .0)) × ((d .value ≡ capped (u .1 .1 .0)) × (e .value ≡ capped (u .1 .1 .1))))
+        → FlagsKept lowMeant? lowOctet r u
+    kept u h = low-kept (u .0) (u .1 .0) (u .1 .1 .0) (u .1 .1 .1) (rw (h .0, h .1 .0, h .1 .1 .0, h .1 .1 .1) at k)
+
+-- ---- the counts
+abbrev pub Counted : Counts → Four → Type 0
+Counted r u = (r .questions ≡ capped (u .0))
+    × ((r .answers ≡ capped (u .1 .0)) × ((r .authority ≡ capped (u .1 .1 .0)) × (r .additional ≡ capped (u .1 .1 .1))))
+
+pub record CountsRead (t : List ℕ) (c : Cursor) (r : Counts) : Type 0 where
+  pub found : Found countsParse (Counted r) t c (r .cursor)
+  pub keeps : Keeps t c (r .cursor)
+
+pub counts-read : {t : List ℕ} {c : Cursor} {a b d e : Amount}
+    → TillRead (ascii ",\"ANCOUNT\":") t c a → TillRead (ascii ",\"NSCOUNT\":") t (a .cursor) b
+    → TillRead (ascii ",\"ARCOUNT\":") t (b .cursor) d → NumberRead t (d .cursor) e
+    → CountsRead t c (record {
+      cursor = e .cursor;
+      questions = a .value;
+      answers = b .value;
+      authority = d .value;
+      additional = e .value;
+    })
+counts-read v w x y = record {
+  found = found-pair (v .found) (found-pair (w .found) (found-pair (x .found) (y .found)));
+  keeps = keeps-then (v .keeps) (keeps-then (w .keeps) (keeps-then (x .keeps) (y .keeps)));
+}
+
+-- ---- what is written
+abbrev pub PutFlags : Flags → Flags → Cursor → List ℕ → Cursor → List ℕ → Type 0
+PutFlags high low = Done {A = Five × Four} (λ u. FlagsKept highMeant? highOctet high (u .0)
+    × FlagsKept lowMeant? lowOctet low (u .1)) (λ u. highMeant? (u .0) && lowMeant? (u .1))
+    (λ u. highOctet (u .0) ∷ lowOctet (u .1) ∷ [])
+
+pub put-flags : (high low : Flags) {c d r : Cursor} {b b′ : List ℕ} {f : Bool} → f ≡ (high .fits && low .fits)
+    → Judged f c d → Emits (high .octet ∷ low .octet ∷ []) d b r b′ → PutFlags high low c b r b′
+put-flags high low {c} {f = f} e j m = record {
+  at = m .at ∙ j .at;
+  spelled = m .spelled ∙ j .spelled;
+  room = m .room;
+  put = λ u h. record {
+    meant = m .meant ∙ j .meant ∙ rw (e, h .0 .0, h .1 .0);
+    small = λ k. m .small ∙ rw (j .small, j .to);
+    wrote = λ k l.
+        let t : T (high .fits && low .fits) = subst T e (and-right (c .meant) f (subst T (m .meant ∙ j .meant) k)) in
+        rw (← (h .0 .1 (and-left (high .fits) _ t)), ← (h .1 .1 (and-right (high .fits) _ t)), ← (j .to)) (m .wrote l);
+  };
+}
+
+abbrev pub words? : Four → Bool
+words? u = word? (u .0) && (word? (u .1 .0) && (word? (u .1 .1 .0) && word? (u .1 .1 .1)))
+
+abbrev pub fourWords : Four → List ℕ
+fourWords u = two (u .0) ++ (two (u .1 .0) ++ (two (u .1 .1 .0) ++ two (u .1 .1 .1)))
+
+abbrev pub PutCounts : Counts → Cursor → List ℕ → Cursor → List ℕ → Type 0
+PutCounts counts = Done (Counted counts) words? fourWords
+
+abbrev pub Words : ℕ → Cursor → List ℕ → Cursor → List ℕ → Type 0
+Words value = Done (λ n. value ≡ capped n) word? two
+
+pub put-counts : {q a n r : ℕ} {c d e f g : Cursor} {b b₁ b₂ b₃ b₄ : List ℕ} → Words q c b d b₁ → Words a d b₁ e b₂
+    → Words n e b₂ f b₃ → Words r f b₃ g b₄
+    → Done {A = Four} (λ u. (q ≡ capped (u .0))
+    × ((a ≡ capped (u .1 .0)) × ((n ≡ capped (u .1 .1 .0)) × (r ≡ capped (u .1 .1 .1))))) words? fourWords c b g b₄
+put-counts w x y z = done-then w (done-then x (done-then y z))
+
+-- ---- the head
+-- what the head gives: RCODE, if all is meant, and the counts
+pub record Told (r : Header) (h : Head) : Type 0 where
+  pub rcode : T (r .cursor .meant) → r .rcode ≡ h .0 .rcode
+  pub counts : Counted (r .counts) (h .1)
+
+abbrev pub HeadRead : List ℕ → Cursor → List ℕ → Header → List ℕ → Type 0
+HeadRead t c b r b′ =
+    Found (head .parse) (λ h. Put headMeant? headOctets c b (r .cursor) b′ h × Told r h) t c (r .cursor)
+
+abbrev Numbers : Type 0
+Numbers = ℕ × (Five × (Four × Four))
+
+abbrev headFrom : Numbers → Head
+headFrom (id, ((qr, (opcode, (aa, (tc, rd)))), ((ra, (ad, (cd, rcode))), n))) = (
+  record { id = id; qr = qr; opcode = opcode; aa = aa; tc = tc; rd = rd; ra = ra; ad = ad; cd = cd; rcode = rcode },
+  n,
+)
+
+pub head-read : {t b b₁ b₂ b₃ : List ℕ} {c start d e r : Cursor} {id : Amount} {high low : Flags} {counts : Counts}
+    {rcode : ℕ}
+    → Passed (ascii "{\"ID\":") t c start → TillRead (ascii ",\"QR\":") t start id → HighRead t (id .cursor) high
+    → LowRead t (high .cursor) low → CountsRead t (low .cursor) counts
+    → Words (id .value) (counts .cursor) b d b₁ → PutFlags high low d b₁ e b₂ → PutCounts counts e b₂ r b₃
+    → rcode ≡ low .octet % 16
+    → HeadRead t c b (record { cursor = r; rcode = rcode; counts = counts }) b₃
+unfolding head headMeant? headOctets
+head-read {t} {b} {b₁} {b₂} {b₃} {c} {start} {d} {e} {r} {id} {high} {low} {counts} {rcode} q i h l n w f g z =
+    found-map headFrom (λ u k. k)
+    (found-at {Q = λ u. Put headMeant? headOctets c b r b₃ (headFrom u)
+    × Told (record { cursor = r; rcode = rcode; counts = counts }) (headFrom u)}
+    (found-pair (found-lit q (i .found)) (found-pair (h .found) (found-pair (l .found) (n .found))))
+    (all .at) (all .spelled) (all .room) told)
+  where
+    all : Done {A = ℕ × ((Five × Four) × Four)} (λ u. (id .value ≡ capped (u .0))
+        × ((FlagsKept highMeant? highOctet high (u .1 .0 .0) × FlagsKept lowMeant? lowOctet low (u .1 .0 .1))
+        × Counted counts (u .1 .1)))
+        (λ u. word? (u .0) && ((highMeant? (u .1 .0 .0) && lowMeant? (u .1 .0 .1)) && words? (u .1 .1)))
+        (λ u. two (u .0) ++ ((highOctet (u .1 .0 .0) ∷ lowOctet (u .1 .0 .1) ∷ []) ++ fourWords (u .1 .1)))
+        (counts .cursor) b r b₃
+    all = done-then w (done-then f g)
+
+    keeps : Keeps t c (counts .cursor)
+    keeps = keeps-then (q .keeps) (keeps-then (i .keeps) (keeps-then (h .keeps) (keeps-then (l .keeps) (n .keeps))))
+
+    told : (u : Numbers) → (id .value ≡ capped (u .0))
+        × (FlagsKept highMeant? highOctet high (u .1 .0)
+        × (FlagsKept lowMeant? lowOctet low (u .1 .1 .0) × Counted counts (u .1 .1 .1)))
+        → Put headMeant? headOctets c b r b₃ (headFrom u) × Told (record { cursor = r; rcode = rcode; counts = counts })
+        (headFrom u)
+    told u k =
+        let p = put-from keeps
+        (all .put (u .0, ((u .1 .0, u .1 .1 .0), u .1 .1 .1)) (k .0, ((k .1 .0, k .1 .1 .0), k .1 .1 .1))) in (
+          put-as (inner (word? (u .0)) (highMeant? (u .1 .0)) (lowMeant? (u .1 .1 .0)) (words? (u .1 .1 .1))) refl p,
+          record { rcode = code p; counts = k .1 .1 .1 },
+        )
+      where
+        inner : (a x y v : Bool) → a && (x && (y && v)) ≡ a && ((x && y) && v)
+        inner true true y v = refl
+        inner true false y v = refl
+        inner false x y v = refl
+
+        code : Put {A = ℕ × ((Five × Four) × Four)} (λ v. word? (v .0)
+            && ((highMeant? (v .1 .0 .0) && lowMeant? (v .1 .0 .1)) && words? (v .1 .1))) (λ v. two (v .0)
+            ++ ((highOctet (v .1 .0 .0) ∷ lowOctet (v .1 .0 .1) ∷ []) ++ fourWords (v .1 .1))) c b r b₃
+            (u .0, ((u .1 .0, u .1 .1 .0), u .1 .1 .1))
+            → T (r .meant) → rcode ≡ u .1 .1 .0 .1 .1 .1
+        code p m =
+            let t0 = and-right (c .meant) _ (subst T (p .meant) m) in
+            let t1 = and-left (highMeant? (u .1 .0) && lowMeant? (u .1 .1 .0)) _ (and-right (word? (u .0)) _ t0) in
+            let t2 = and-right (highMeant? (u .1 .0)) _ t1 in
+            let o = k .1 .1 .0 .1 (subst T (sym (k .1 .1 .0 .0)) t2) in
+            let t3 = and-right (bit? (u .1 .1 .0 .1 .1 .0)) _
+            (and-right (bit? (u .1 .1 .0 .1 .0)) _ (and-right (bit? (u .1 .1 .0 .0)) _ t2)) in
+            omega (arith, z, o, ltb→lt (u .1 .1 .0 .1 .1 .1) 16 t3)

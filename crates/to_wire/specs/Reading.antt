@@ -1,0 +1,336 @@
+-- How questions, records and elements are read, judged and written.
+use mathlib.Core.Path.{_≡_, refl, sym, _∙_, ap, subst}
+use mathlib.Core.Bool.{Bool, true, false, not, cond, _&&_, and-true, and-assoc}
+use mathlib.Core.Option.{none}
+use mathlib.Core.List.{List, [], _∷_, _++_, append-assoc}
+use Prim.Native.Nat.{ℕ, _+_, _-_, _/_, _%_, _≤_, _<_}
+use native.Mathlib.Omega.{arith}
+use borrow.Author.Tests.{lt-ltb, le-ltb, eq-eqb, ne-eqb, eqb-false}
+use lib.Dec.{T, ltb, eqb, ltb→lt, lt→ltb, nltb→le, eqb→eq}
+use lib.ListN.{length, take, drop}
+use Rattle.octets.specs.Lists.{ascii, all, none?, Octets, octet?, word?, long?, paired, lookup}
+use Rattle.octets.specs.Bits.{is-true, and-left, and-right, octets-test}
+use Rattle.octets.specs.Fields.{two, four}
+use Rattle.octets.specs.Parsed.{Parsed, took, stuck, and-then, strip}
+use Rattle.octets.specs.Codec.{_▷_, _⊗_, _◁_}
+use Rattle.octets.specs.Decimal.{natural, number, till}
+use Rattle.octets.specs.Hexadecimal.{hex}
+use Rattle.names.specs.Name.{Name, name?, nameForm}
+use Rattle.records.specs.Layout.{layouts, layoutOf, rdataAt, rdataFits?}
+use Rattle.records.proofs.Pieces.{layout-beyond}
+use Rattle.records.specs.Message.{record?, question?, questionForm, recordForm, opt?}
+use Rattle.spelling.specs.Spelling.{Signed}
+use Rattle.edns.specs.Element.{showsEdns, shows-edns}
+use Rattle.json.specs.Document.{RecordItem}
+use Rattle.strict.specs.Grammar.{SignedNumber}
+use Rattle.strict.specs.Spelt.{name, signedNumber}
+use Rattle.strict.specs.Parser.{questionCodec, recordCodec}
+use Rattle.strict.specs.Meaning.{itemRecord, ttl?, unsigned}
+use Rattle.strict.proofs.MeaningLaws.{unsigned-back}
+use Rattle.parse_tokens.specs.declared.Cursor.{Cursor}
+use Rattle.parse_tokens.specs.declared.Amount.{Amount}
+use Rattle.parse_tokens.specs.declared.Span.{Span}
+use Rattle.parse_tokens.specs.declared.Ttl.{Ttl}
+use Rattle.parse_tokens.specs.Cursor.{Passed}
+use Rattle.parse_tokens.specs.Step.{Found, found-as, found-sound, found-lit, found-map, found-behind, found-pair, found-at}
+use Rattle.parse_tokens.specs.Step.{Put, put-then, put-from, put-to, put-as, put-nothing, put-judged, put-emit, Step}
+use Rattle.parse_tokens.specs.Step.{step-lit, step-pair, step-behind, step-on, Judged, Emits}
+use Rattle.parse_tokens.specs.Number.{capped, capped-is, NumberRead}
+use Rattle.parse_tokens.specs.Signed.{TtlKept, SignedRead}
+use Rattle.parse_tokens.specs.Hex.{HexRun, HexRead}
+use Rattle.parse_tokens.specs.Fields.{Done}
+use Rattle.to_wire.specs.Name.{NameRead}
+use Rattle.to_wire.specs.Values.{sizeOf, run-octets}
+use Rattle.to_wire.specs.Meant.{recordMeant?, recordOctets, hides?}
+use Rattle.to_wire.specs.declared.entries.Entry.{Entry}
+
+-- ---- a number of two octets
+abbrev pub WordRead : List ℕ → Cursor → List ℕ → Amount → List ℕ → Type 0
+WordRead t c b r b′ = Found natural (λ n. Put word? two c b (r .cursor) b′ n × (r .value ≡ capped n)) t c (r .cursor)
+
+pub word-read : {t : List ℕ} {c d : Cursor} {n : Amount} {b b′ : List ℕ} → NumberRead t c n
+    → Done (λ m. n .value ≡ capped m) word? two (n .cursor) b d b′
+    → WordRead t c b (record { cursor = d; value = n .value }) b′
+word-read x w = found-at (x .found) (w .at) (w .spelled) (w .room) λ m e. (put-from (x .keeps) (w .put m e), e)
+
+-- ---- questions
+pub question-read : {t b b₁ b₂ b₃ : List ℕ} {c d e f g r : Cursor} {k l : Amount}
+    → Passed (ascii "{\"NAME\":\"") t c d → NameRead t d b e b₁ → Passed (ascii ",\"TYPE\":") t e f
+    → WordRead t f b₁ k b₂ → Passed (ascii ",\"CLASS\":") t (k .cursor) g
+    → WordRead t g b₂ l b₃ → Passed (ascii "}") t (l .cursor) r
+    → Step question? questionForm (questionCodec .parse) t c b r b₃
+unfolding questionCodec question? questionForm
+question-read p n q k s l z =
+    step-on {ok = λ u. name? (u .0) && (word? (u .1 .0) && word? (u .1 .1))} {wire = λ u. nameForm (u .0)
+    ++ (two (u .1 .0) ++ two (u .1 .1))}
+    (λ (n, (t, c)). record { name = n; type = t; class = c })
+    (λ (n, (t, c)). and-assoc (name? n) (word? t) (word? c)) (λ (n, (t, c)). append-assoc (nameForm n) (two t) (two c))
+    (step-pair (step-lit p (found-as n λ a h. h .0))
+    (step-pair (step-lit q (step-behind (found-as k λ a h. h .0) s)) (step-behind (found-as l λ a h. h .0) z)))
+
+-- ---- RDATA
+-- the TYPE as the code judges it
+abbrev pub typeOr0 : ℕ → ℕ
+typeOr0 value = cond (ltb 65535 value) 0 value
+
+pub record RdataRead (kind : ℕ) (t : List ℕ) (c : Cursor) (b : List ℕ) (r : Span) (b′ : List ℕ) : Type 0 where
+  pub found : Found (hex .parse) (λ l. ((n : ℕ) → kind ≡ capped n
+      → Put (rdataFits? n) (λ l. two (length l) ++ l) c b (r .cursor) b′ l) × HexRun t r l) t c (r .cursor)
+  pub so-far : List ℕ
+  pub run : HexRun t r so-far
+  pub still : T (r .cursor .meant) → T (c .meant)
+
+pub kind-over : {v : ℕ} → 65535 < v → 0 ≡ typeOr0 v
+kind-over {v} h = rw (lt-ltb 65535 v h)
+
+pub kind-in : {v : ℕ} → v ≤ 65535 → v ≡ typeOr0 v
+kind-in {v} h = rw (le-ltb 65535 v h)
+
+-- a TYPE that is out of range is not listed, so any RDATA fits
+unlisted : (n : ℕ) → 65535 < n → layoutOf n ≡ none
+unlisted n h = layout-beyond n (omega arith)
+
+fits-same : (n m : ℕ) (l : List ℕ) → layoutOf n ≡ layoutOf m → rdataFits? n l ≡ rdataFits? m l
+unfolding rdataFits? rdataAt
+fits-same n m l e = rw e
+
+zero-unlisted : layoutOf 0 ≡ none
+unfolding layoutOf layouts lookup
+zero-unlisted = refl
+
+pub kind-fits : (n : ℕ) (l : List ℕ) → rdataFits? (typeOr0 (capped n)) l ≡ rdataFits? n l
+kind-fits n l = go (ltb 65535 (capped n)) refl
+  where
+    go : (b : Bool) → ltb 65535 (capped n) ≡ b → rdataFits? (cond b 0 (capped n)) l ≡ rdataFits? n l
+    go true e = fits-same 0 n l (zero-unlisted
+        ∙ sym (unlisted n (omega (arith, ltb→lt 65535 (capped n) (subst T (sym e) tt)))))
+    go false e = let k : capped n ≡ n = omega (arith, nltb→le 65535 (capped n) (subst (λ b. T (not b)) (sym e) tt)) in
+        ap (λ m. rdataFits? m l) k
+
+-- the same digits, with the cursor elsewhere
+run-at : {t l : List ℕ} {s : Span} (r : Cursor) → HexRun t s l
+    → HexRun t (record { cursor = r; from = s .from; end = s .end }) l
+run-at r h = record { digits = h .digits; octets = h .octets; ordered = h .ordered; within = h .within; long = h .long }
+
+pub rdata-read : {kind f n : ℕ} {t b b₁ b₂ h : List ℕ} {c d e r : Cursor} {s : Span} {ok : Bool} → HexRead t c s
+    → h ≡ take (s .end - s .from) (drop (s .from) t) → f ≡ typeOr0 kind → ok ≡ rdataFits? f (paired h)
+    → Judged ok (s .cursor) d → n ≡ sizeOf s → Emits ((n / 256 % 256) ∷ (n % 256) ∷ []) d b e b₁
+    → Done (HexRun t s) (λ l. true) (λ l. l) e b₁ r b₂
+    → RdataRead kind t c b (record { cursor = r; from = s .from; end = s .end }) b₂
+rdata-read {kind} {f} {n} {t} {b} {b₁} {b₂} {h} {c} {d} {e} {r} {s} {ok} x g k o j i y z = record {
+  found = found-at (x .found) (z .at ∙ y .at ∙ j .at) (z .spelled ∙ y .spelled ∙ j .spelled) (z .room) told;
+  so-far = x .so-far;
+  run = run-at r (x .run);
+  still = λ m. subst T (x .keeps .meant)
+      (and-left (s .cursor .meant) ok
+      (subst T (y .meant ∙ j .meant) (and-left (e .meant) true (subst T (z .put (x .so-far) (x .run) .meant) m))));
+}
+  where
+    told : (l : List ℕ) → HexRun t s l
+        → ((m : ℕ) → kind ≡ capped m → Put (rdataFits? m) (λ l. two (length l) ++ l) c b r b₂ l)
+        × HexRun t (record { cursor = r; from = s .from; end = s .end }) l
+    told l v = (put, run-at r v)
+      where
+        octets : paired h ≡ l
+        octets = ap paired g ∙ run-octets v
+
+        size : n ≡ length l
+        size = omega (arith, i, v .long)
+
+        judged : (m : ℕ) → kind ≡ capped m → ok ≡ rdataFits? m l
+        judged m q = o ∙ rw (k, octets, q) (kind-fits m l)
+
+        put : (m : ℕ) → kind ≡ capped m → Put (rdataFits? m) (λ l. two (length l) ++ l) c b r b₂ l
+        put m q = put-as (sym (and-true (rdataFits? m l))) (rw (← size))
+            (put-then (put-emit {wire = λ l. []}
+            (put-judged {wire = λ l. []} {ok = λ l. true} {ok′ = rdataFits? m}
+            (put-nothing b {a = l} (x .keeps) refl refl) j (sym (judged m q))) y) (z .put l v))
+
+-- ---- records
+abbrev pub tailParse : List ℕ → Parsed (Signed × List ℕ)
+tailParse = (till ",\"RDATAHEX\":\"" tt signedNumber ⊗ hex ◁ "}") .parse
+
+-- TTL and RDATA were read, of a record of a TYPE whose owner is the root or not
+pub record Tail (kind : ℕ) (root : Bool) (rcode : ℕ) (c : Cursor) (b : List ℕ) (r : Entry) (b′ : List ℕ)
+    (u : Signed × List ℕ) : Type 0 where
+  pub put : (n : ℕ) → kind ≡ capped n
+      → Put (λ u. ttl? (u .0) && rdataFits? n (u .1)) (λ u. four (unsigned (u .0)) ++ (two (length (u .1)) ++ u .1)) c b
+      (r .cursor) b′ u
+  pub signed : SignedNumber (u .0)
+  pub octets : Octets (u .1)
+  pub opt : r .opt ≡ eqb kind 41
+  pub shown : r .shown ≡ false
+  pub hidden : T (r .cursor .meant) → r .hidden ≡ (eqb kind 41 && showsEdns root (unsigned (u .0)) rcode (u .1))
+
+abbrev pub TailRead : ℕ → Bool → ℕ → List ℕ → Cursor → List ℕ → Entry → List ℕ → Type 0
+TailRead kind root rcode t c b r b′ = Found tailParse (Tail kind root rcode c b r b′) t c (r .cursor)
+
+-- whether the RDATA of a span, of a record of this TYPE, is an EDNS element
+pub record CouldBeElement (kind : ℕ) (root : Bool) (bits rcode : ℕ) (t : List ℕ) (s : Span) (r : Bool) : Type 0 where
+  pub shows : r ≡ (eqb kind 41 && showsEdns root bits rcode (paired (take (s .end - s .from) (drop (s .from) t))))
+
+pub shows-not : {kind bits rcode : ℕ} {root : Bool} {t : List ℕ} {s : Span} → (kind ≡ 41 → ⊥)
+    → CouldBeElement kind root bits rcode t s false
+shows-not {kind} h = record { shows = rw (ne-eqb kind 41 h) }
+
+pub shows-edns-of : {kind bits rcode : ℕ} {root r : Bool} {t : List ℕ} {s : Span} → kind ≡ 41
+    → r ≡ showsEdns root bits rcode (paired (take (s .end - s .from) (drop (s .from) t)))
+    → CouldBeElement kind root bits rcode t s r
+shows-edns-of {kind} e f = record { shows = f ∙ rw (eq-eqb kind 41 e) }
+
+pub tail-read : {kind rcode : ℕ} {root h : Bool} {t b b₁ b₂ : List ℕ} {c d e r : Cursor} {v : Ttl} {s : Span}
+    → SignedRead t c v → Done (TtlKept (v .fits) (v .bits)) ttl? (λ s. four (unsigned s)) (v .cursor) b d b₁
+    → Passed (ascii ",\"RDATAHEX\":\"") t d e → RdataRead kind t e b₁ s b₂
+    → Passed (ascii "}") t (s .cursor) r → CouldBeElement kind root (v .bits) rcode t s h
+    → TailRead kind root rcode t c b (record { cursor = r; opt = eqb kind 41; shown = false; hidden = h }) b₂
+tail-read {kind} {rcode} {root} {h} {t} {b} {b₁} {b₂} {c} {d} {e} {r} {v} {s} x w q y z g =
+    found-as (found-pair (found-behind (found-sound signedNumber ttl) q) (found-behind (y .found) z)) told
+  where
+    ttl : Found (signedNumber .parse) (λ a. Put ttl? (λ s. four (unsigned s)) c b d b₁ a
+        × TtlKept (v .fits) (v .bits) a) t c d
+    ttl = found-at (x .found) (w .at) (w .spelled) (w .room) λ a k. (put-from (x .keeps) (w .put a k), k)
+
+    told : (u : Signed × List ℕ)
+        → (SignedNumber (u .0)
+        × (Put ttl? (λ s. four (unsigned s)) c b d b₁ (u .0) × TtlKept (v .fits) (v .bits) (u .0)))
+        × (((n : ℕ) → kind ≡ capped n → Put (rdataFits? n) (λ l. two (length l) ++ l) e b₁ (s .cursor) b₂ (u .1))
+        × HexRun t s (u .1))
+        → Tail kind root rcode c b (record { cursor = r; opt = eqb kind 41; shown = false; hidden = h }) b₂ u
+    told u k = record {
+      put = all;
+      signed = k .0 .0;
+      octets = k .1 .1 .octets;
+      opt = refl;
+      shown = refl;
+      hidden = λ m. g .shows ∙ rw (run-octets (k .1 .1), k .0 .1 .1 .1 (in-range m));
+    }
+      where
+        all : (n : ℕ) → kind ≡ capped n
+            → Put (λ u. ttl? (u .0) && rdataFits? n (u .1)) (λ u. four (unsigned (u .0))
+            ++ (two (length (u .1)) ++ u .1)) c b r b₂ u
+        all n i = put-then (k .0 .1 .0) (put-to (put-from (q .keeps) (k .1 .0 n i)) (z .keeps))
+
+        in-range : T (r .meant) → T (v .fits)
+        in-range m =
+            let e′ : T (e .meant) = y .still (subst T (z .keeps .meant) m) in
+            subst T (sym (k .0 .1 .1 .0)) (and-right (c .meant) _ (subst T (q .keeps .meant ∙ k .0 .1 .0 .meant) e′))
+
+-- a record from its owner on
+abbrev Fields : Type 0
+Fields = Name × (ℕ × (ℕ × (Signed × List ℕ)))
+
+abbrev recordFrom : Fields → RecordItem
+recordFrom (n, (t, (c, (l, d)))) = record { name = n; type = t; class = c; ttl = l; rdata = d }
+
+abbrev fieldsParse : List ℕ → Parsed Fields
+fieldsParse = (name ⊗ ",\"TYPE\":" ▷ till ",\"CLASS\":" tt number ⊗ till ",\"TTL\":" tt number ⊗ till ",\"RDATAHEX\":\""
+    tt signedNumber ⊗ hex ◁ "}") .parse
+
+unfoldable pub recordRest : List ℕ → Parsed RecordItem
+recordRest w = and-then (fieldsParse w) λ u r. took (recordFrom u) r
+
+pub entry-parse : (w : List ℕ) → recordCodec .parse w ≡ and-then (strip (ascii "{\"NAME\":\"") w) (λ u r. recordRest r)
+unfolding recordCodec recordRest
+entry-parse w = go (strip (ascii "{\"NAME\":\"") w)
+  where
+    go : (o : Parsed (Unit {0})) → and-then (and-then (and-then o (λ u r. name .parse r))
+        (λ a w. and-then ((",\"TYPE\":" ▷ till ",\"CLASS\":" tt number ⊗ till ",\"TTL\":" tt number ⊗ till
+        ",\"RDATAHEX\":\"" tt signedNumber ⊗ hex ◁ "}") .parse w) λ b r. took (a, b) r))
+        (λ u r. took (recordFrom u) r)
+        ≡ and-then o (λ u r. and-then (fieldsParse r) λ u r. took (recordFrom u) r)
+    go (took u r) = refl
+    go (stuck r) = refl
+
+-- what is reported of an entry
+pub record Facts {A : Type 0} (ok : A → Bool) (wire : A → List ℕ) (opt shown hides : A
+    → Bool) (c : Cursor) (b : List ℕ) (r : Entry) (b′ : List ℕ) (a : A) : Type 0 where
+  pub put : Put ok wire c b (r .cursor) b′ a
+  pub is-opt : r .opt ≡ opt a
+  pub is-shown : r .shown ≡ shown a
+  pub is-hidden : T (r .cursor .meant) → r .hidden ≡ hides a
+
+abbrev pub RecordFacts : ℕ → Cursor → List ℕ → Entry → List ℕ → RecordItem → Type 0
+RecordFacts rcode = Facts recordMeant? recordOctets (λ r. opt? (itemRecord r)) (λ r. false) (hides? rcode)
+
+abbrev pub RecordRead : ℕ → List ℕ → Cursor → List ℕ → Entry → List ℕ → Type 0
+RecordRead rcode t c b r b′ = Found recordRest (RecordFacts rcode c b r b′) t c (r .cursor)
+
+-- a record in the grammar, judged part by part
+record-judged : (u : Fields) → SignedNumber (u .1 .1 .1 .0) → Octets (u .1 .1 .1 .1)
+    → recordMeant? (recordFrom u) ≡ (name? (u .0)
+    && (word? (u .1 .0) && (word? (u .1 .1 .0) && (ttl? (u .1 .1 .1 .0) && rdataFits? (u .1 .0) (u .1 .1 .1 .1)))))
+unfolding recordMeant? record? itemRecord
+record-judged (n, (t, (c, (s, l)))) i o =
+    rw (is-true (all octet? l) (octets-test l o))
+    (go (name? n) (word? t) (word? c) (ttl? s) (rdataFits? t l)
+    (λ h. is-true (long? (unsigned s)) (lt→ltb (unsigned s) 4294967296 (unsigned-back s i h .1))))
+  where
+    go : (a b c d e : Bool) → (T d → long? (unsigned s) ≡ true)
+        → d && (a && b && c && long? (unsigned s) && true && e) ≡ (a && (b && (c && (d && e))))
+    go a b c true e h = rw (h tt) (all a b c)
+      where
+        all : (a b c : Bool) → (a && b && c && true && true && e) ≡ (a && (b && (c && e)))
+        all true true true = refl
+        all true true false = refl
+        all true false c = refl
+        all false b c = refl
+    go true true true false e h = refl
+    go true true false false e h = refl
+    go true false c false e h = refl
+    go false b c false e h = refl
+
+two-behind : (m n : ℕ) → m ≤ n → eqb (n - m) 2 ≡ eqb n (m + 2)
+two-behind m n h = go (eqb n (m + 2)) refl
+  where
+    go : (b : Bool) → eqb n (m + 2) ≡ b → eqb (n - m) 2 ≡ b
+    go true e = eq-eqb (n - m) 2 (omega (arith, eqb→eq n (m + 2) (subst T (sym e) tt)))
+    go false e = ne-eqb (n - m) 2 (λ d. eqb-false n (m + 2) e (omega (arith, d)))
+
+pub record-read : {rcode : ℕ} {root : Bool} {t b b₁ b₂ b₃ b₄ : List ℕ} {c d f g h : Cursor} {k l : Amount} {r : Entry}
+    → NameRead t c b d b₁ → root ≡ eqb (d .at - c .at) 2 → Passed (ascii ",\"TYPE\":") t d f → WordRead t f b₁ k b₂
+    → Passed (ascii ",\"CLASS\":") t (k .cursor) g
+    → WordRead t g b₂ l b₃ → Passed (ascii ",\"TTL\":") t (l .cursor) h → TailRead (k .value) root rcode t h b₃ r b₄
+    → RecordRead rcode t c b r b₄
+unfolding recordRest recordOctets recordForm itemRecord hides?
+record-read {rcode} {root} {t} {b} {b₁} {b₂} {b₃} {b₄} {c} {d} {f} {g} {h} {k} {l} {r} n e p x q y s z =
+    found-map recordFrom (λ u v. v)
+    (found-as (found-pair n (found-pair (found-lit p (found-behind x q)) (found-pair (found-behind y s) z))) told)
+  where
+    wire : (u : Fields) → recordOctets (recordFrom u) ≡ nameForm (u .0)
+        ++ (two (u .1 .0) ++ (two (u .1 .1 .0)
+        ++ (four (unsigned (u .1 .1 .1 .0)) ++ (two (length (u .1 .1 .1 .1)) ++ u .1 .1 .1 .1))))
+    wire u = chain (nameForm (u .0)) (two (u .1 .0)) (two (u .1 .1 .0)) (four (unsigned (u .1 .1 .1 .0)))
+        (two (length (u .1 .1 .1 .1))) (u .1 .1 .1 .1)
+      where
+        chain : (a b c d e f : List ℕ) → a ++ b ++ c ++ d ++ e ++ f ≡ a ++ (b ++ (c ++ (d ++ (e ++ f))))
+        chain a b c d e f = simp append-assoc
+
+    hides : (u : Fields) → none? (u .0) ≡ root → k .value ≡ capped (u .1 .0)
+        → (eqb (k .value) 41 && showsEdns root (unsigned (u .1 .1 .1 .0)) rcode (u .1 .1 .1 .1)) ≡ hides? rcode
+        (recordFrom u)
+    hides u e d = rw (d, capped-is (u .1 .0) 41 (omega arith), ← e)
+        (ap (λ x. eqb (u .1 .0) 41 && x) (shows-edns rcode (itemRecord (recordFrom u))))
+
+    told : (u : Fields) → (Put name? nameForm c b d b₁ (u .0) × (none? (u .0) ≡ eqb (d .at) (c .at + 2)))
+        × ((Put word? two f b₁ (k .cursor) b₂ (u .1 .0) × (k .value ≡ capped (u .1 .0)))
+        × ((Put word? two g b₂ (l .cursor) b₃ (u .1 .1 .0) × (l .value ≡ capped (u .1 .1 .0)))
+        × Tail (k .value) root rcode h b₃ r b₄ (u .1 .1 .1)))
+        → RecordFacts rcode c b r b₄ (recordFrom u)
+    told u v = record {
+      put = put-as (record-judged u (v .1 .1 .1 .signed) (v .1 .1 .1 .octets)) (wire u) all;
+      is-opt = v .1 .1 .1 .opt ∙ rw (v .1 .0 .1) (capped-is (u .1 .0) 41 (omega arith));
+      is-shown = v .1 .1 .1 .shown;
+      is-hidden = λ m. v .1 .1 .1 .hidden m ∙ hides u (v .0 .1 ∙ sym (two-behind (c .at) (d .at) (n .moves .onward))
+          ∙ sym e) (v .1 .0 .1);
+    }
+      where
+        all : Put {A = Fields} (λ u. name? (u .0)
+            && (word? (u .1 .0) && (word? (u .1 .1 .0)
+            && (ttl? (u .1 .1 .1 .0) && rdataFits? (u .1 .0) (u .1 .1 .1 .1)))))
+            (λ u. nameForm (u .0)
+            ++ (two (u .1 .0) ++ (two (u .1 .1 .0)
+            ++ (four (unsigned (u .1 .1 .1 .0)) ++ (two (length (u .1 .1 .1 .1)) ++ u .1 .1 .1 .1))))) c b
+            (r .cursor) b₄ u
+        all = put-as refl refl
+            (put-then (v .0 .0) (put-then (put-to (put-from (p .keeps) (v .1 .0 .0)) (q .keeps))
+            (put-then (put-to (v .1 .1 .0 .0) (s .keeps)) (v .1 .1 .1 .put (u .1 .0) (v .1 .0 .1)))))

@@ -1,0 +1,302 @@
+// Questions, records and elements of a text, and the arrays of them. What is judged and written of each is defined in
+// specs/.
+ghost use mathlib.Core.Path.{_≡_};
+ghost use Prim.Native.Nat.{_+_, _≤_, _<_};
+ghost use Rattle.parse_tokens.specs.Cursor.{Safe};
+ghost use Rattle.parse_tokens.specs.Step.{Step};
+ghost use Rattle.to_wire.specs.Values.{HexSpan};
+ghost use Rattle.records.specs.Message.{question?, questionForm};
+ghost use Rattle.strict.specs.Parser.{questionCodec};
+ghost use Rattle.to_wire.specs.Reading.{WordRead, typeOr0, RdataRead, CouldBeElement, TailRead, RecordRead};
+ghost use Rattle.to_wire.specs.Items.{ItemRead};
+ghost use Rattle.to_wire.specs.Sections.{AskedRead, TitledRead, OneRead, NextRead, InsideRead, SectionRead};
+ghost use Rattle.to_wire.specs.Sections.{atMost65536, bit};
+use crate::labels::name;
+use crate::members::edns;
+use crate::members::put_hex;
+use crate::members::size_of;
+use edns::is_edns;
+use parse_rdata::fits_layout;
+use parse_tokens::Amount;
+use parse_tokens::Cursor;
+use parse_tokens::Span;
+use parse_tokens::came;
+use parse_tokens::comma;
+use parse_tokens::either;
+use parse_tokens::emit;
+use parse_tokens::further;
+use parse_tokens::hex;
+use parse_tokens::judge;
+use parse_tokens::literal;
+use parse_tokens::number;
+use parse_tokens::octet_at;
+use parse_tokens::put_ttl;
+use parse_tokens::put_word;
+use parse_tokens::signed;
+
+// What was read of an entry: whether it is of TYPE 41, whether it is an EDNS element, whether it is an ordinary record
+// that could be one.
+struct Entry {
+    cursor: Cursor,
+    opt: bool,
+    shown: bool,
+    hidden: bool,
+}
+
+// A number of two octets, and what it is.
+fn word(text: &[u8], c: Cursor, out: &mut [u8]) -> Amount
+    requires { ⌜ Safe (now text) c ⌝ }
+    ensures { λ r. ⌜ WordRead (now (text .entry)) c (now (out .entry)) r (now (out .exit)) ⌝ }
+{
+    let n = number(text, c);
+    Amount {
+        cursor: put_word(n.cursor, n.value, out),
+        value: n.value,
+    }
+}
+
+// A question.
+fn question(text: &[u8], c: Cursor, out: &mut [u8]) -> Cursor
+    requires { ⌜ Safe (now text) c ⌝ }
+    ensures { λ r. ⌜ Step question? questionForm (questionCodec .parse) (now (text .entry)) c (now (out .entry)) r
+        (now (out .exit)) ⌝ }
+{
+    let start = literal(text, c, b"{\"NAME\":\"");
+    let owner = name(text, start, out);
+    let behind = literal(text, owner, b",\"TYPE\":");
+    let kind = word(text, behind, out);
+    let further = literal(text, kind.cursor, b",\"CLASS\":");
+    let class = word(text, further, out);
+    literal(text, class.cursor, b"}")
+}
+
+// A TYPE as it is judged; one that is out of range has no layout.
+fn kind_of(value: u64) -> u32
+    ensures { λ r. ⌜ r ≡ typeOr0 value ⌝ }
+{
+    if value > 65535 {
+        return 0;
+    }
+    value as u32
+}
+
+// RDATA of a TYPE: judged, and written after its length.
+fn rdata(text: &[u8], c: Cursor, kind: u64, out: &mut [u8]) -> Span
+    requires { ⌜ Safe (now text) c ⌝ }
+    ensures { λ r. ⌜ RdataRead kind (now (text .entry)) c (now (out .entry)) r (now (out .exit)) ⌝ }
+{
+    let span = hex(text, c);
+    let from = span.from;
+    let end = span.end;
+    let size = size_of(span);
+    let d = judge(span.cursor, fits_layout(kind_of(kind), &text[from..end]));
+    let e = emit(d, &[(size / 256 % 256) as u8, (size % 256) as u8], out);
+    Span {
+        cursor: put_hex(text, span, e, out),
+        from: from,
+        end: end,
+    }
+}
+
+// Whether a record with these fields and the RDATA of this span could be an EDNS element.
+fn shows_edns(text: &[u8], span: Span, kind: u64, root: bool, bits: u32, rcode: u32) -> bool
+    requires { ⌜ HexSpan (now text) span × (rcode < 16) ⌝ }
+    ensures { λ r. ⌜ CouldBeElement kind root bits rcode (now (text .entry)) span r ⌝ }
+{
+    if kind != 41 {
+        return false;
+    }
+    let from = span.from;
+    let end = span.end;
+    is_edns(root, bits, rcode, &text[from..end], true)
+}
+
+// TTL and RDATA, and the end of a record.
+fn tail(text: &[u8], c: Cursor, kind: u64, root: bool, rcode: u32, out: &mut [u8]) -> Entry
+    requires { ⌜ Safe (now text) c × (rcode < 16) ⌝ }
+    ensures { λ r. ⌜ TailRead kind root rcode (now (text .entry)) c (now (out .entry)) r (now (out .exit)) ⌝ }
+{
+    let ttl = signed(text, c);
+    let written = put_ttl(ttl.cursor, ttl.bits, ttl.fits, out);
+    let title = literal(text, written, b",\"RDATAHEX\":\"");
+    let span = rdata(text, title, kind, out);
+    Entry {
+        cursor: literal(text, span.cursor, b"}"),
+        opt: kind == 41,
+        shown: false,
+        hidden: shows_edns(text, span, kind, root, ttl.bits, rcode),
+    }
+}
+
+// A record, from its owner on.
+fn record(text: &[u8], c: Cursor, rcode: u32, out: &mut [u8]) -> Entry
+    requires { ⌜ Safe (now text) c × (rcode < 16) ⌝ }
+    ensures { λ r. ⌜ RecordRead rcode (now (text .entry)) c (now (out .entry)) r (now (out .exit)) ⌝ }
+{
+    let start = c.at;
+    let owner = name(text, c, out);
+    let end = owner.at;
+    let behind = literal(text, owner, b",\"TYPE\":");
+    let kind = word(text, behind, out);
+    let further = literal(text, kind.cursor, b",\"CLASS\":");
+    let class = word(text, further, out);
+    let title = literal(text, class.cursor, b",\"TTL\":");
+    tail(text, title, kind.value, end - start == 2, rcode, out)
+}
+
+// An element of the additional section.
+fn item(text: &[u8], c: Cursor, rcode: u32, out: &mut [u8]) -> Entry
+    requires { ⌜ Safe (now text) c × (rcode < 16) ⌝ }
+    ensures { λ r. ⌜ ItemRead rcode (now (text .entry)) c (now (out .entry)) r (now (out .exit)) ⌝ }
+{
+    let ordinary = literal(text, c, b"{\"NAME\":\"");
+    let element = literal(text, c, b"{\"EDNS\":{\"Version\":");
+    if element.spelled {
+        let end = edns(text, element, rcode, out);
+        return Entry {
+            cursor: further(end, ordinary.at),
+            opt: true,
+            shown: true,
+            hidden: false,
+        };
+    }
+    let entry = record(text, ordinary, rcode, out);
+    Entry {
+        cursor: further(entry.cursor, element.at),
+        opt: entry.opt,
+        shown: entry.shown,
+        hidden: entry.hidden,
+    }
+}
+
+// What an array holds: questions, records, or elements of the additional section.
+pub enum Element {
+    Question,
+    Record,
+    Additional,
+}
+
+// The entries of an array: how many, how many of TYPE 41 (65,536 counts for every number above), whether an EDNS
+// element is there, whether a record that could be one is.
+pub struct Section {
+    pub cursor: Cursor,
+    pub count: u64,
+    pub opts: u64,
+    pub shown: bool,
+    pub hidden: bool,
+}
+
+// A question as an entry.
+fn asked(text: &[u8], c: Cursor, out: &mut [u8]) -> Entry
+    requires { ⌜ Safe (now text) c ⌝ }
+    ensures { λ r. ⌜ AskedRead (now (text .entry)) c (now (out .entry)) r (now (out .exit)) ⌝ }
+{
+    Entry {
+        cursor: question(text, c, out),
+        opt: false,
+        shown: false,
+        hidden: false,
+    }
+}
+
+// A record with its first title.
+fn titled(text: &[u8], c: Cursor, rcode: u32, out: &mut [u8]) -> Entry
+    requires { ⌜ Safe (now text) c × (rcode < 16) ⌝ }
+    ensures { λ r. ⌜ TitledRead rcode (now (text .entry)) c (now (out .entry)) r (now (out .exit)) ⌝ }
+{
+    let start = literal(text, c, b"{\"NAME\":\"");
+    record(text, start, rcode, out)
+}
+
+// One entry of an array.
+fn one(text: &[u8], c: Cursor, element: Element, rcode: u32, out: &mut [u8]) -> Entry
+    requires { ⌜ Safe (now text) c × (rcode < 16) ⌝ }
+    ensures { λ r. ⌜ OneRead element rcode (now (text .entry)) c (now (out .entry)) r (now (out .exit)) ⌝ }
+{
+    match element {
+        Element::Question => asked(text, c, out),
+        Element::Record => titled(text, c, rcode, out),
+        Element::Additional => item(text, c, rcode, out),
+    }
+}
+
+// One more, or not.
+fn tally(n: u64, more: bool) -> u64
+    requires { ⌜ n ≤ 65536 ⌝ }
+    ensures { λ r. ⌜ r ≡ atMost65536 (n + bit more) ⌝ }
+{
+    if !more {
+        return n;
+    }
+    if n > 65535 {
+        return n;
+    }
+    n + 1
+}
+
+// An entry, and the comma before it; the first has none.
+fn next(text: &[u8], c: Cursor, first: bool, element: Element, rcode: u32, out: &mut [u8]) -> Entry
+    requires { ⌜ Safe (now text) c × (rcode < 16) ⌝ }
+    ensures { λ r. ⌜ NextRead element first rcode (now (text .entry)) c (now (out .entry)) r (now (out .exit)) ⌝ }
+{
+    one(text, comma(text, c, first), element, rcode, out)
+}
+
+// The entries of an array, and the bracket after them.
+fn inside(text: &[u8], c: Cursor, element: Element, rcode: u32, out: &mut [u8]) -> Section
+    requires { ⌜ Safe (now text) c × (rcode < 16) ⌝ }
+    ensures { λ r. ⌜ InsideRead element rcode (now (text .entry)) c (now (out .entry)) r (now (out .exit)) ⌝ }
+{
+    let mut d = c;
+    let mut first = true;
+    let mut count = 0;
+    let mut opts = 0;
+    let mut shown = false;
+    let mut hidden = false;
+    if !d.spelled {
+        return Section {
+            cursor: d,
+            count: count,
+            opts: opts,
+            shown: shown,
+            hidden: hidden,
+        };
+    }
+    loop {
+        let at = d.at;
+        if octet_at(text, at) == b']' {
+            return Section {
+                cursor: came(d, at + 1),
+                count: count,
+                opts: opts,
+                shown: shown,
+                hidden: hidden,
+            };
+        }
+        let entry = next(text, d, first, element, rcode, out);
+        d = entry.cursor;
+        count = tally(count, true);
+        opts = tally(opts, entry.opt);
+        shown = either(shown, entry.shown);
+        hidden = either(hidden, entry.hidden);
+        if !d.spelled {
+            return Section {
+                cursor: d,
+                count: count,
+                opts: opts,
+                shown: shown,
+                hidden: hidden,
+            };
+        }
+        first = false;
+    }
+}
+
+// An array of entries.
+pub fn read_section(text: &[u8], c: Cursor, element: Element, rcode: u32, out: &mut [u8]) -> Section
+    requires { ⌜ Safe (now text) c × (rcode < 16) ⌝ }
+    ensures { λ r. ⌜ SectionRead element rcode (now (text .entry)) c (now (out .entry)) r (now (out .exit)) ⌝ }
+{
+    let open = literal(text, c, b"[");
+    inside(text, open, element, rcode, out)
+}

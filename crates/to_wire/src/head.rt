@@ -1,0 +1,152 @@
+// The head of a text: the header's numbers and the counts.
+ghost use Prim.Native.Nat.{_≤_, _<_};
+ghost use Rattle.parse_tokens.specs.Cursor.{Safe};
+ghost use Rattle.to_wire.specs.Head.{HighBits, LowBits, HighRead, LowRead, CountsRead, PutFlags, PutCounts};
+ghost use Rattle.to_wire.specs.Head.{HeadRead};
+use parse_tokens::Cursor;
+use parse_tokens::both;
+use parse_tokens::emit;
+use parse_tokens::judge;
+use parse_tokens::literal;
+use parse_tokens::number;
+use parse_tokens::put_word;
+use parse_tokens::till;
+
+// The flags of an octet of the header: the octet, and whether each is in range.
+pub struct Flags {
+    pub cursor: Cursor,
+    pub octet: u8,
+    pub fits: bool,
+}
+
+pub struct Counts {
+    pub cursor: Cursor,
+    pub questions: u64,
+    pub answers: u64,
+    pub authority: u64,
+    pub additional: u64,
+}
+
+// What the rest needs of the head: RCODE and the counts.
+pub struct Header {
+    pub cursor: Cursor,
+    pub rcode: u32,
+    pub counts: Counts,
+}
+
+fn high_bits(c: Cursor, qr: u64, opcode: u64, aa: u64, tc: u64, rd: u64) -> Flags
+    ensures { λ r. ⌜ HighBits c (qr, (opcode, (aa, (tc, rd)))) r ⌝ }
+{
+    let octet = qr % 2 * 128 + opcode % 16 * 8 + aa % 2 * 4 + tc % 2 * 2 + rd % 2;
+    Flags {
+        cursor: c,
+        octet: octet as u8,
+        fits: both(
+            qr < 2,
+            both(opcode < 16, both(aa < 2, both(tc < 2, rd < 2))),
+        ),
+    }
+}
+
+fn low_bits(c: Cursor, ra: u64, ad: u64, cd: u64, rcode: u64) -> Flags
+    ensures { λ r. ⌜ LowBits c (ra, (ad, (cd, rcode))) r ⌝ }
+{
+    let octet = ra % 2 * 128 + ad % 2 * 32 + cd % 2 * 16 + rcode % 16;
+    Flags {
+        cursor: c,
+        octet: octet as u8,
+        fits: both(ra < 2, both(ad < 2, both(cd < 2, rcode < 16))),
+    }
+}
+
+// QR, Opcode, AA, TC, RD.
+fn high_flags(text: &[u8], c: Cursor) -> Flags
+    requires { ⌜ Safe (now text) c ⌝ }
+    ensures { λ r. ⌜ HighRead (now (text .entry)) c r ⌝ }
+{
+    let qr = till(text, c, b",\"Opcode\":");
+    let opcode = till(text, qr.cursor, b",\"AA\":");
+    let aa = till(text, opcode.cursor, b",\"TC\":");
+    let tc = till(text, aa.cursor, b",\"RD\":");
+    let rd = till(text, tc.cursor, b",\"RA\":");
+    high_bits(
+        rd.cursor,
+        qr.value,
+        opcode.value,
+        aa.value,
+        tc.value,
+        rd.value,
+    )
+}
+
+// RA, AD, CD, RCODE.
+fn low_flags(text: &[u8], c: Cursor) -> Flags
+    requires { ⌜ Safe (now text) c ⌝ }
+    ensures { λ r. ⌜ LowRead (now (text .entry)) c r ⌝ }
+{
+    let ra = till(text, c, b",\"AD\":");
+    let ad = till(text, ra.cursor, b",\"CD\":");
+    let cd = till(text, ad.cursor, b",\"RCODE\":");
+    let rcode = till(text, cd.cursor, b",\"QDCOUNT\":");
+    low_bits(rcode.cursor, ra.value, ad.value, cd.value, rcode.value)
+}
+
+// QDCOUNT, ANCOUNT, NSCOUNT, ARCOUNT.
+fn read_counts(text: &[u8], c: Cursor) -> Counts
+    requires { ⌜ Safe (now text) c ⌝ }
+    ensures { λ r. ⌜ CountsRead (now (text .entry)) c r ⌝ }
+{
+    let questions = till(text, c, b",\"ANCOUNT\":");
+    let answers = till(text, questions.cursor, b",\"NSCOUNT\":");
+    let authority = till(text, answers.cursor, b",\"ARCOUNT\":");
+    let additional = number(text, authority.cursor);
+    let end = additional.cursor;
+    Counts {
+        cursor: end,
+        questions: questions.value,
+        answers: answers.value,
+        authority: authority.value,
+        additional: additional.value,
+    }
+}
+
+// Writes the octets of the flags.
+fn put_flags(c: Cursor, high: Flags, low: Flags, out: &mut [u8]) -> Cursor
+    requires { ⌜ c .to ≤ 65535 ⌝ }
+    ensures { λ r. ⌜ PutFlags high low c (now (out .entry)) r (now (out .exit)) ⌝ }
+{
+    let d = judge(c, both(high.fits, low.fits));
+    emit(d, &[high.octet, low.octet], out)
+}
+
+// Writes the counts.
+fn put_counts(c: Cursor, counts: Counts, out: &mut [u8]) -> Cursor
+    requires { ⌜ c .to ≤ 65535 ⌝ }
+    ensures { λ r. ⌜ PutCounts counts c (now (out .entry)) r (now (out .exit)) ⌝ }
+{
+    let q = put_word(c, counts.questions, out);
+    let a = put_word(q, counts.answers, out);
+    let n = put_word(a, counts.authority, out);
+    put_word(n, counts.additional, out)
+}
+
+// Reads the head and writes the header.
+pub fn head(text: &[u8], c: Cursor, out: &mut [u8]) -> Header
+    requires { ⌜ Safe (now text) c ⌝ }
+    ensures { λ r. ⌜ HeadRead (now (text .entry)) c (now (out .entry)) r (now (out .exit)) ⌝ }
+    ensures { λ r. ⌜ r .rcode < 16 ⌝ }
+{
+    let start = literal(text, c, b"{\"ID\":");
+    let id = till(text, start, b",\"QR\":");
+    let high = high_flags(text, id.cursor);
+    let low = low_flags(text, high.cursor);
+    let counts = read_counts(text, low.cursor);
+    let a = put_word(counts.cursor, id.value, out);
+    let b = put_flags(a, high, low, out);
+    let d = put_counts(b, counts, out);
+    Header {
+        cursor: d,
+        rcode: (low.octet % 16) as u32,
+        counts: counts,
+    }
+}

@@ -1,0 +1,145 @@
+// The strict reader: from a text to the message that it says. Definitions are in strict/specs, the promise in specs/.
+ghost use mathlib.Core.Path.{_≡_};
+ghost use Rattle.to_wire.specs.Meant.{documentMeant?, documentOctets};
+ghost use Rattle.strict.specs.Parser.{document};
+ghost use Rattle.parse_tokens.specs.Step.{Step};
+ghost use Prim.Native.Nat.{_<_};
+ghost use Rattle.parse_tokens.specs.Cursor.{Safe};
+ghost use Rattle.to_wire.specs.Whole.{start, ArrayRead, agreement, settledSection};
+ghost use Rattle.octets.specs.Calls.{Call};
+ghost use Rattle.strict.specs.Reading.{Reads};
+use entries::Element;
+use entries::Section;
+use entries::read_section;
+use head::Counts;
+use head::head;
+use octets::Outcome;
+use parse_tokens::Cursor;
+use parse_tokens::both;
+use parse_tokens::either;
+use parse_tokens::judge;
+use parse_tokens::literal;
+
+mod entries;
+mod head;
+mod labels;
+mod members;
+
+// A title and the array after it.
+fn array(
+    text: &[u8],
+    c: Cursor,
+    title: &[u8],
+    element: Element,
+    rcode: u32,
+    out: &mut [u8],
+) -> Section
+    requires { ⌜ Safe (now text) c × (rcode < 16) ⌝ }
+    ensures { λ r. ⌜ ArrayRead (now (title .entry)) element rcode (now (text .entry)) c (now (out .entry)) r
+        (now (out .exit)) ⌝ }
+{
+    let behind = literal(text, c, title);
+    read_section(text, behind, element, rcode, out)
+}
+
+// Whether the counts are those of the arrays.
+fn agree(counts: Counts, questions: u64, answers: u64, authority: u64, additional: u64) -> bool
+    ensures { λ r. ⌜ r ≡ agreement counts questions answers authority additional ⌝ }
+{
+    let last = both(
+        counts.authority == authority,
+        counts.additional == additional,
+    );
+    both(
+        counts.questions == questions,
+        both(counts.answers == answers, last),
+    )
+}
+
+// Whether an EDNS element is the only entry of TYPE 41, and no record that could be one is written as an ordinary
+// record.
+fn settled(section: Section) -> bool
+    ensures { λ r. ⌜ r ≡ settledSection section ⌝ }
+{
+    let lone = section.opts == 1;
+    let shown = section.shown;
+    let hidden = section.hidden;
+    both(either(!shown, lone), !both(hidden, lone))
+}
+
+// Reads the text from its first octet on.
+fn document(text: &[u8], out: &mut [u8]) -> Cursor
+    ensures { λ r. ⌜ Step documentMeant? documentOctets (document .parse) (now (text .entry)) start (now (out .entry)) r
+        (now (out .exit)) ⌝ }
+{
+    let first = Cursor {
+        at: 0,
+        to: 0,
+        spelled: true,
+        meant: true,
+        small: true,
+    };
+    let h = head(text, first, out);
+    let rcode = h.rcode;
+    let q = array(
+        text,
+        h.cursor,
+        b",\"questionRRs\":",
+        Element::Question,
+        rcode,
+        out,
+    );
+    let a = array(
+        text,
+        q.cursor,
+        b",\"answerRRs\":",
+        Element::Record,
+        rcode,
+        out,
+    );
+    let n = array(
+        text,
+        a.cursor,
+        b",\"authorityRRs\":",
+        Element::Record,
+        rcode,
+        out,
+    );
+    let r = array(
+        text,
+        n.cursor,
+        b",\"additionalRRs\":",
+        Element::Additional,
+        rcode,
+        out,
+    );
+    let end = literal(text, r.cursor, b"}");
+    let counted = agree(h.counts, q.count, a.count, n.count, r.count);
+    judge(end, both(counted, settled(r)))
+}
+
+// Writes the message that a text says. A first run over no octets finds every refusal.
+pub fn read(text: &[u8], message: &mut [u8]) -> Outcome
+    ensures { λ r. ⌜ Reads
+        (record { input = now (text .entry); before = now (message .entry); answer = r; after = now (message .exit) }) ⌝ }
+{
+    let c = document(text, &mut message[..0]);
+    if !c.spelled {
+        return Outcome::Refused(20, 0);
+    }
+    if c.at < text.len() {
+        return Outcome::Refused(20, 0);
+    }
+    if !c.meant {
+        return Outcome::Refused(21, 0);
+    }
+    if !c.small {
+        return Outcome::Refused(22, 0);
+    }
+    let size = c.to;
+    if size > message.len() {
+        return Outcome::Refused(23, 0);
+    }
+    let _again = document(text, message);
+    Outcome::Length(size)
+}

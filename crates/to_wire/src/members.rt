@@ -1,0 +1,589 @@
+// The option members of the EDNS object and the EDNS element: read, judged and written. The definitions are in specs/.
+ghost use mathlib.Core.Path.{_≡_};
+ghost use mathlib.Core.Bool.{true};
+ghost use Prim.Native.Nat.{_+_, _^_, _<_, _≤_};
+ghost use lib.ListN.{replicate};
+ghost use Rattle.octets.specs.Lists.{all, each};
+ghost use Rattle.octets.specs.Decimal.{natural};
+ghost use Rattle.octets.specs.Overlay.{Wrote};
+ghost use Rattle.options.specs.Options.{hexObject, octetList, expiry, hexList, padding, wordList, extendedError};
+ghost use Rattle.options.specs.Options.{formOf};
+ghost use Rattle.strict.specs.Members.{cookie?, text?, optional};
+ghost use Rattle.strict.specs.Parser.{optionMembers};
+ghost use Rattle.parse_tokens.specs.Cursor.{Safe};
+ghost use Rattle.parse_tokens.specs.Step.{Step};
+ghost use Rattle.parse_tokens.specs.Fields.{Done};
+ghost use Rattle.parse_tokens.specs.Hex.{HexRun};
+ghost use Rattle.to_wire.specs.Values.{HexSpan, sizeOf, numeral?, numeralForm, numeralsParse, ValueStep, part?};
+ghost use Rattle.to_wire.specs.Values.{next-part, CookieStep, cookieParse, Zeros, PaddingFits, PaddingHex};
+ghost use Rattle.to_wire.specs.Values.{PaddingEnd, ErrorText, errorEnd};
+ghost use Rattle.to_wire.specs.Options.{MemberNameRead, Fronted, KnownStep, OtherFits, optionCode, OtherHex};
+ghost use Rattle.to_wire.specs.Options.{OtherRead, MemberRead, RisingRead, OptionsStep, membersParse};
+ghost use Rattle.to_wire.specs.Element.{RcodeRead, ednsFits?, OptFronted, EdnsStep};
+use crate::labels::string;
+use octets::put;
+use octets::put_four;
+use octets::put_two;
+use options::all_zero;
+use options::has_shape;
+use parse_rdata::put_octets;
+use parse_tokens::Cursor;
+use parse_tokens::Row;
+use parse_tokens::Span;
+use parse_tokens::came;
+use parse_tokens::comma;
+use parse_tokens::flags;
+use parse_tokens::further;
+use parse_tokens::hex;
+use parse_tokens::hold;
+use parse_tokens::judge;
+use parse_tokens::literal;
+use parse_tokens::number;
+use parse_tokens::octet_at;
+use parse_tokens::option_name;
+use parse_tokens::put_long;
+use parse_tokens::put_octet;
+use parse_tokens::put_word;
+use parse_tokens::rcode;
+use parse_tokens::stop;
+use parse_tokens::till;
+
+// ---- octets in hexadecimal
+// How many octets the digits between two places are.
+pub fn size_of(h: Span) -> usize
+    ensures { λ r. ⌜ r ≡ sizeOf h ⌝ }
+{
+    let from = h.from;
+    let end = h.end;
+    if end < from {
+        return 0;
+    }
+    (end - from) / 2
+}
+
+// Writes the octets of the digits that were read, unless they go past the limit.
+pub fn put_hex(text: &[u8], h: Span, c: Cursor, out: &mut [u8]) -> Cursor
+    requires { ⌜ HexSpan (now text) h × (c .to ≤ 65535) ⌝ }
+    ensures { λ r. ⌜ Done (HexRun (now (text .entry)) h) (λ l. true) (λ l. l) c (now (out .entry)) r (now (out .exit)) ⌝ }
+{
+    let r = hold(c, size_of(h));
+    if !r.small {
+        return r;
+    }
+    let from = h.from;
+    let end = h.end;
+    let to = c.to;
+    let _end = put_octets(out, to, &text[from..end]);
+    r
+}
+
+// ---- values of options
+// A number of two octets, or of one.
+fn numeral(text: &[u8], c: Cursor, wide: bool, out: &mut [u8]) -> Cursor
+    requires { ⌜ Safe (now text) c ⌝ }
+    ensures { λ r. ⌜ Step (numeral? wide) (numeralForm wide) natural (now (text .entry)) c (now (out .entry)) r
+        (now (out .exit)) ⌝ }
+{
+    let n = number(text, c);
+    let d = n.cursor;
+    let value = n.value;
+    if wide {
+        return put_word(d, value, out);
+    }
+    put_octet(d, value, out)
+}
+
+// Numbers with commas between, and the bracket after them.
+fn numerals(text: &[u8], c: Cursor, wide: bool, out: &mut [u8]) -> Cursor
+    requires { ⌜ Safe (now text) c ⌝ }
+    ensures { λ r. ⌜ Step (all (numeral? wide)) (each (numeralForm wide)) numeralsParse (now (text .entry)) c
+        (now (out .entry)) r (now (out .exit)) ⌝ }
+{
+    if !c.spelled {
+        return c;
+    }
+    let mut d = c;
+    let mut first = true;
+    loop {
+        let at = d.at;
+        if octet_at(text, at) == b']' {
+            return came(d, at + 1);
+        }
+        let next = comma(text, d, first);
+        d = numeral(text, next, wide, out);
+        if !d.spelled {
+            return d;
+        }
+        first = false;
+    }
+}
+
+// NSID
+fn hex_object(text: &[u8], c: Cursor, out: &mut [u8]) -> Cursor
+    requires { ⌜ Safe (now text) c ⌝ }
+    ensures { λ r. ⌜ ValueStep hexObject (now (text .entry)) c (now (out .entry)) r (now (out .exit)) ⌝ }
+{
+    let open = literal(text, c, b"{\"HEX\":\"");
+    let h = hex(text, open);
+    let d = put_hex(text, h, h.cursor, out);
+    literal(text, d, b"}")
+}
+
+// DAU, DHU, N3U
+fn octet_list(text: &[u8], c: Cursor, out: &mut [u8]) -> Cursor
+    requires { ⌜ Safe (now text) c ⌝ }
+    ensures { λ r. ⌜ ValueStep octetList (now (text .entry)) c (now (out .entry)) r (now (out .exit)) ⌝ }
+{
+    let open = literal(text, c, b"[");
+    numerals(text, open, false, out)
+}
+
+// KEYTAG
+fn word_list(text: &[u8], c: Cursor, out: &mut [u8]) -> Cursor
+    requires { ⌜ Safe (now text) c ⌝ }
+    ensures { λ r. ⌜ ValueStep wordList (now (text .entry)) c (now (out .entry)) r (now (out .exit)) ⌝ }
+{
+    let open = literal(text, c, b"[");
+    numerals(text, open, true, out)
+}
+
+// EXPIRE
+fn expiry(text: &[u8], c: Cursor, out: &mut [u8]) -> Cursor
+    requires { ⌜ Safe (now text) c ⌝ }
+    ensures { λ r. ⌜ ValueStep expiry (now (text .entry)) c (now (out .entry)) r (now (out .exit)) ⌝ }
+{
+    let none = literal(text, c, b"\"NONE\"");
+    if none.spelled {
+        return none;
+    }
+    let n = number(text, c);
+    further(put_long(n.cursor, n.value, out), none.at)
+}
+
+// ---- COOKIE
+// The length that a string may have by its place: the first 8, the second 8 to 32; there is no third.
+fn cookie_part(i: usize, size: usize) -> bool
+    ensures { λ r. ⌜ r ≡ part? i size ⌝ }
+{
+    if i == 0 {
+        return size == 8;
+    }
+    if i == 1 {
+        if size < 8 {
+            return false;
+        }
+        return size <= 32;
+    }
+    false
+}
+
+fn next_part(i: usize) -> usize
+    requires { ⌜ i ≤ 2 ⌝ }
+    ensures { λ r. ⌜ r ≡ next-part i ⌝ }
+{
+    if i < 2 {
+        return i + 1;
+    }
+    2
+}
+
+fn cookie_string(text: &[u8], c: Cursor, i: usize, out: &mut [u8]) -> Cursor
+    requires { ⌜ Safe (now text) c ⌝ }
+    ensures { λ r. ⌜ CookieStep i (now (text .entry)) c (now (out .entry)) r (now (out .exit)) ⌝ }
+{
+    let open = literal(text, c, b"\"");
+    let h = hex(text, open);
+    let d = put_hex(text, h, h.cursor, out);
+    judge(d, cookie_part(i, size_of(h)))
+}
+
+// Strings with commas between, and the bracket after them.
+fn cookie_strings(text: &[u8], c: Cursor, out: &mut [u8]) -> Cursor
+    requires { ⌜ Safe (now text) c ⌝ }
+    ensures { λ r. ⌜ Step cookie? (each (λ h. h)) cookieParse (now (text .entry)) c (now (out .entry)) r
+        (now (out .exit)) ⌝ }
+{
+    if !c.spelled {
+        return c;
+    }
+    let mut d = c;
+    let mut first = true;
+    let mut i = 0;
+    loop {
+        let at = d.at;
+        if octet_at(text, at) == b']' {
+            return judge(came(d, at + 1), i > 0);
+        }
+        let next = comma(text, d, first);
+        d = cookie_string(text, next, i, out);
+        if !d.spelled {
+            return d;
+        }
+        first = false;
+        i = next_part(i);
+    }
+}
+
+fn cookie(text: &[u8], c: Cursor, out: &mut [u8]) -> Cursor
+    requires { ⌜ Safe (now text) c ⌝ }
+    ensures { λ r. ⌜ ValueStep hexList (now (text .entry)) c (now (out .entry)) r (now (out .exit)) ⌝ }
+{
+    let open = literal(text, c, b"[");
+    cookie_strings(text, open, out)
+}
+
+// ---- PADDING
+// Writes n zero octets.
+fn put_zeros(out: &mut [u8], at: usize, n: usize) -> usize
+    requires { ⌜ at + n < 2 ^ 40 ⌝ }
+    ensures { λ r. ⌜ Wrote (now (out .entry)) at (replicate n 0) (now (out .exit)) r ⌝ }
+{
+    let mut to = at;
+    let mut i = 0;
+    while i < n {
+        to = put(out, to, 0);
+        i += 1;
+    }
+    to
+}
+
+// Writes n zero octets, unless they go past the limit.
+fn zeros(c: Cursor, n: u64, out: &mut [u8]) -> Cursor
+    requires { ⌜ c .to ≤ 65535 ⌝ }
+    ensures { λ r. ⌜ Zeros n c (now (out .entry)) r (now (out .exit)) ⌝ }
+{
+    let r = hold(c, n as usize);
+    if !r.small {
+        return r;
+    }
+    let to = c.to;
+    let _end = put_zeros(out, to, n as usize);
+    r
+}
+
+// HEX has as many octets as LENGTH says, and not all of them are zero.
+fn padding_fits(text: &[u8], h: Span, n: u64) -> bool
+    requires { ⌜ HexSpan (now text) h ⌝ }
+    ensures { λ r. ⌜ PaddingFits (now (text .entry)) h n r ⌝ }
+{
+    if n != size_of(h) as u64 {
+        return false;
+    }
+    let from = h.from;
+    let end = h.end;
+    !all_zero(&text[from..end], true)
+}
+
+fn padding_hex(text: &[u8], c: Cursor, n: u64, out: &mut [u8]) -> Cursor
+    requires { ⌜ Safe (now text) c ⌝ }
+    ensures { λ r. ⌜ PaddingHex n (now (text .entry)) c (now (out .entry)) r (now (out .exit)) ⌝ }
+{
+    let open = literal(text, c, b",\"HEX\":\"");
+    let h = hex(text, open);
+    let d = put_hex(text, h, h.cursor, out);
+    literal(text, judge(d, padding_fits(text, h, n)), b"}")
+}
+
+// The end of the object: n zero octets where there is no HEX.
+fn padding_end(text: &[u8], c: Cursor, n: u64, out: &mut [u8]) -> Cursor
+    requires { ⌜ Safe (now text) c ⌝ }
+    ensures { λ r. ⌜ PaddingEnd n (now (text .entry)) c (now (out .entry)) r (now (out .exit)) ⌝ }
+{
+    let none = literal(text, c, b"}");
+    if none.spelled {
+        return zeros(none, n, out);
+    }
+    further(padding_hex(text, c, n, out), none.at)
+}
+
+fn padding(text: &[u8], c: Cursor, out: &mut [u8]) -> Cursor
+    requires { ⌜ Safe (now text) c ⌝ }
+    ensures { λ r. ⌜ ValueStep padding (now (text .entry)) c (now (out .entry)) r (now (out .exit)) ⌝ }
+{
+    let open = literal(text, c, b"{\"LENGTH\":");
+    let n = number(text, open);
+    padding_end(text, n.cursor, n.value, out)
+}
+
+// ---- EDE
+// TEXT, which is not empty, and the brace after it.
+fn error_text(text: &[u8], c: Cursor, out: &mut [u8]) -> Cursor
+    requires { ⌜ Safe (now text) c ⌝ }
+    ensures { λ r. ⌜ ErrorText (now (text .entry)) c (now (out .entry)) r (now (out .exit)) ⌝ }
+{
+    let open = literal(text, c, b",\"TEXT\":\"");
+    let d = string(text, open, out);
+    let empty = d.at == open.at + 1;
+    literal(text, judge(d, !empty), b"}")
+}
+
+fn error_end(text: &[u8], c: Cursor, out: &mut [u8]) -> Cursor
+    requires { ⌜ Safe (now text) c ⌝ }
+    ensures { λ r. ⌜ Step text? optional errorEnd (now (text .entry)) c (now (out .entry)) r (now (out .exit)) ⌝ }
+{
+    let none = literal(text, c, b"}");
+    if none.spelled {
+        return none;
+    }
+    further(error_text(text, c, out), none.at)
+}
+
+fn extended_error(text: &[u8], c: Cursor, out: &mut [u8]) -> Cursor
+    requires { ⌜ Safe (now text) c ⌝ }
+    ensures { λ r. ⌜ ValueStep extendedError (now (text .entry)) c (now (out .entry)) r (now (out .exit)) ⌝ }
+{
+    let open = literal(text, c, b"{\"CODE\":");
+    let n = number(text, open);
+    let d = put_word(n.cursor, n.value, out);
+    error_end(text, d, out)
+}
+
+// ---- a value by its option's code
+fn value(text: &[u8], c: Cursor, code: u32, out: &mut [u8]) -> Cursor
+    requires { ⌜ Safe (now text) c ⌝ }
+    ensures { λ r. ⌜ ValueStep (formOf code) (now (text .entry)) c (now (out .entry)) r (now (out .exit)) ⌝ }
+{
+    match code {
+        3 => hex_object(text, c, out),
+        5 => octet_list(text, c, out),
+        6 => octet_list(text, c, out),
+        7 => octet_list(text, c, out),
+        9 => expiry(text, c, out),
+        10 => cookie(text, c, out),
+        11 => numeral(text, c, true, out),
+        12 => padding(text, c, out),
+        14 => word_list(text, c, out),
+        15 => extended_error(text, c, out),
+        _ => stop(c, c.at),
+    }
+}
+
+// ---- members
+// A member that was read, and its option's code.
+struct Coded {
+    cursor: Cursor,
+    code: u32,
+}
+
+// The name of a member of the table, in quotes, and the colon.
+fn member_name(text: &[u8], c: Cursor) -> Row
+    requires { ⌜ Safe (now text) c ⌝ }
+    ensures { λ r. ⌜ MemberNameRead (now (text .entry)) c r ⌝ }
+{
+    let open = literal(text, c, b"\"");
+    let n = option_name(text, open);
+    let close = literal(text, n.cursor, b"\":");
+    Row {
+        cursor: close,
+        key: n.key,
+    }
+}
+
+// Writes an option's code and the length of its value before the value, which ends at `to`.
+fn put_front(out: &mut [u8], start: usize, to: usize, code: u32) -> usize
+    requires { ⌜ (start ≤ 65535) × (to ≤ 65535) ⌝ }
+    ensures { λ r. ⌜ Fronted code start to (now (out .entry)) (now (out .exit)) r ⌝ }
+{
+    if to < start + 4 {
+        return start;
+    }
+    let size = to - (start + 4);
+    let next = put_two(out, start, code % 65536);
+    put_two(out, next, size as u32)
+}
+
+// The value of a member of the table.
+fn known(text: &[u8], c: Cursor, code: u32, out: &mut [u8]) -> Cursor
+    requires { ⌜ Safe (now text) c × (code < 65536) ⌝ }
+    ensures { λ r. ⌜ KnownStep code (now (text .entry)) c (now (out .entry)) r (now (out .exit)) ⌝ }
+{
+    let held = hold(c, 4);
+    let v = value(text, held, code, out);
+    let _end = put_front(out, c.to, v.to, code);
+    v
+}
+
+// `OPTn` only where its value doesn't have the shape of a row of that code.
+fn other_fits(text: &[u8], h: Span, n: u64) -> bool
+    requires { ⌜ HexSpan (now text) h ⌝ }
+    ensures { λ r. ⌜ OtherFits (now (text .entry)) h n r ⌝ }
+{
+    if n > 65535 {
+        return false;
+    }
+    let from = h.from;
+    let end = h.end;
+    let shaped = has_shape(n as u32, &text[from..end], true);
+    !shaped
+}
+
+// The code, if it is a number of 16 bits.
+fn code_of(n: u64) -> u32
+    ensures { λ r. ⌜ r ≡ optionCode n ⌝ }
+{
+    if n < 65536 {
+        return n as u32;
+    }
+    0
+}
+
+fn other_hex(text: &[u8], c: Cursor, n: u64, out: &mut [u8]) -> Cursor
+    requires { ⌜ Safe (now text) c ⌝ }
+    ensures { λ r. ⌜ OtherHex n (now (text .entry)) c (now (out .entry)) r (now (out .exit)) ⌝ }
+{
+    let h = hex(text, c);
+    let d = h.cursor;
+    let held = hold(d, 4);
+    let v = put_hex(text, h, held, out);
+    let r = judge(v, other_fits(text, h, n));
+    let _end = put_front(out, d.to, r.to, code_of(n));
+    r
+}
+
+// `OPTn`
+fn other(text: &[u8], c: Cursor, out: &mut [u8]) -> Coded
+    requires { ⌜ Safe (now text) c ⌝ }
+    ensures { λ r. ⌜ OtherRead (now (text .entry)) c (now (out .entry)) r (now (out .exit)) ⌝ }
+{
+    let open = literal(text, c, b"\"OPT");
+    let n = number(text, open);
+    let close = literal(text, n.cursor, b"\":\"");
+    let r = other_hex(text, close, n.value, out);
+    Coded {
+        cursor: r,
+        code: code_of(n.value),
+    }
+}
+
+// A member, of the table or not.
+fn member(text: &[u8], c: Cursor, out: &mut [u8]) -> Coded
+    requires { ⌜ Safe (now text) c ⌝ }
+    ensures { λ r. ⌜ MemberRead (now (text .entry)) c (now (out .entry)) r (now (out .exit)) ⌝ }
+{
+    let n = member_name(text, c);
+    let d = n.cursor;
+    if d.spelled {
+        let v = known(text, d, n.key, out);
+        let o = literal(text, c, b"\"OPT");
+        return Coded {
+            cursor: further(v, o.at),
+            code: n.key,
+        };
+    }
+    let o = other(text, c, out);
+    Coded {
+        cursor: further(o.cursor, d.at),
+        code: o.code,
+    }
+}
+
+// A comma and a member whose code is at least `least`.
+fn rising_member(text: &[u8], c: Cursor, least: u64, out: &mut [u8]) -> Coded
+    requires { ⌜ Safe (now text) c ⌝ }
+    ensures { λ r. ⌜ RisingRead least (now (text .entry)) c (now (out .entry)) r (now (out .exit)) ⌝ }
+{
+    let next = literal(text, c, b",");
+    let m = member(text, next, out);
+    let code = m.code;
+    Coded {
+        cursor: judge(m.cursor, code as u64 >= least),
+        code: code,
+    }
+}
+
+// Members with a comma before each, codes strictly rising, and the brace after them.
+fn option_members(text: &[u8], c: Cursor, out: &mut [u8]) -> Cursor
+    requires { ⌜ Safe (now text) c ⌝ }
+    ensures { λ r. ⌜ OptionsStep membersParse (now (text .entry)) c (now (out .entry)) r (now (out .exit)) ⌝ }
+{
+    if !c.spelled {
+        return c;
+    }
+    let mut d = c;
+    let mut least = 0;
+    loop {
+        let at = d.at;
+        if octet_at(text, at) == b'}' {
+            return came(d, at + 1);
+        }
+        let m = rising_member(text, d, least, out);
+        d = m.cursor;
+        if !d.spelled {
+            return d;
+        }
+        least = m.code as u64 + 1;
+    }
+}
+
+// The same, and the last brace.
+fn options(text: &[u8], c: Cursor, out: &mut [u8]) -> Cursor
+    requires { ⌜ Safe (now text) c ⌝ }
+    ensures { λ r. ⌜ OptionsStep (optionMembers .parse) (now (text .entry)) c (now (out .entry)) r (now (out .exit)) ⌝ }
+{
+    let d = option_members(text, c, out);
+    literal(text, d, b"}")
+}
+
+// ---- the EDNS element
+// RCODE with its title, and the title of UDPSIZE.
+fn full_rcode(text: &[u8], c: Cursor) -> Row
+    requires { ⌜ Safe (now text) c ⌝ }
+    ensures { λ r. ⌜ RcodeRead (now (text .entry)) c r ⌝ }
+{
+    let open = literal(text, c, b",\"RCODE\":\"");
+    let n = rcode(text, open);
+    let close = literal(text, n.cursor, b"\",\"UDPSIZE\":");
+    Row {
+        cursor: close,
+        key: n.key,
+    }
+}
+
+// Version is 0, RCODE modulo 16 is the header's, and UDPSIZE is a number of 16 bits.
+fn edns_fits(version: u64, full: u32, rcode: u32, size: u64) -> bool
+    ensures { λ r. ⌜ r ≡ ednsFits? version full rcode size ⌝ }
+{
+    if version != 0 {
+        return false;
+    }
+    if full % 16 != rcode {
+        return false;
+    }
+    size < 65536
+}
+
+// Writes what comes before the options, which end at `to`: the root, TYPE 41, CLASS, TTL and RDLENGTH.
+fn put_opt(out: &mut [u8], start: usize, to: usize, size: u64, full: u32, flags: u32) -> usize
+    requires { ⌜ (start ≤ 65535) × (to ≤ 65535) ⌝ }
+    ensures { λ r. ⌜ OptFronted size full flags start to (now (out .entry)) (now (out .exit)) r ⌝ }
+{
+    if to < start + 11 {
+        return start;
+    }
+    let length = to - (start + 11);
+    let class = (size % 65536) as u32;
+    let ttl = full / 16 % 256 * 16777216 + flags % 2 * 32768;
+    let mut next = put(out, start, 0);
+    next = put_two(out, next, 41);
+    next = put_two(out, next, class);
+    next = put_four(out, next, ttl);
+    put_two(out, next, length as u32)
+}
+
+// The element after the title of its first member, Version. `rcode` is the header's.
+pub fn edns(text: &[u8], c: Cursor, rcode: u32, out: &mut [u8]) -> Cursor
+    requires { ⌜ Safe (now text) c ⌝ }
+    ensures { λ r. ⌜ EdnsStep rcode (now (text .entry)) c (now (out .entry)) r (now (out .exit)) ⌝ }
+{
+    let v = till(text, c, b",\"FLAGS\":");
+    let f = flags(text, v.cursor);
+    let x = full_rcode(text, f.cursor);
+    let s = number(text, x.cursor);
+    let d = s.cursor;
+    let held = hold(d, 11);
+    let o = options(text, held, out);
+    let ok = edns_fits(v.value, x.key, rcode, s.value);
+    let r = judge(o, ok);
+    let _end = put_opt(out, d.to, r.to, s.value, x.key, f.key);
+    r
+}
