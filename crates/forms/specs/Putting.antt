@@ -398,7 +398,8 @@ module _ (records : Bool) (s : List ℕ) (left at : ℕ) {k next to : ℕ} {whol
         → Onward j (sectionRun records s (left - 1) behind) whole b₀ to b₁ n
     onward-more q e = record {
       goes = λ b′ r d. w .goes b′ r
-          (rw (section-next records s left at h) (runs-after (λ i. sectionRun records s (left - 1) i) at (rw q at p) e d));
+          (rw (section-next records s left at h)
+          (runs-after (λ i. sectionRun records s (left - 1) i) at (rw q at p) e d));
     }
 
     -- a faulty one

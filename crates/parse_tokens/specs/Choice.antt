@@ -12,7 +12,8 @@ use lib.ListN.{length, drop, length-drop}
 use Rattle.octets.specs.Parsed.{Parsed, took, stuck, and-then, or-else, strip}
 use Rattle.strict.specs.Spelt.{made}
 use Rattle.parse_tokens.specs.declared.Cursor.{Cursor}
-use Rattle.parse_tokens.specs.Cursor.{left-of, Safe, Keeps, keeps-same, Passed, Stopped, went-keeps, Finds, stopped}
+use Rattle.parse_tokens.specs.Cursor.{left-of, Safe, Keeps, keeps-same, Passed, Stopped, went-keeps, Finds}
+use Rattle.parse_tokens.specs.Cursor.{stopped}
 use Rattle.parse_tokens.specs.Cursor.{taken, clash}
 use Rattle.parse_tokens.specs.Step.{Found, found-as, found-map}
 use Rattle.parse_tokens.specs.Leaf.{found-same, found-entry}

@@ -14,7 +14,8 @@ use Rattle.octets.specs.Decimal.{natural}
 use Rattle.octets.specs.Fields.{drop-one}
 use Rattle.parse_tokens.specs.declared.Cursor.{Cursor}
 use Rattle.parse_tokens.specs.declared.Amount.{Amount}
-use Rattle.parse_tokens.specs.Cursor.{Safe, Keeps, keeps-same, keeps-then, Passed, Came, Stopped, went-keeps, clash}
+use Rattle.parse_tokens.specs.Cursor.{Safe, Keeps, keeps-same, keeps-then, Passed, Came, Stopped, went-keeps}
+use Rattle.parse_tokens.specs.Cursor.{clash}
 use Rattle.parse_tokens.specs.Step.{Found, found-as, found-none, found-behind, found-stuck}
 use Rattle.parse_tokens.specs.Leaf.{found-took, found-stop, found-same, found-entry, passed-took, passed-stop}
 use Rattle.parse_tokens.specs.Leaf.{strip-first, strip-not}

@@ -12,7 +12,8 @@ use Rattle.octets.specs.Parsed.{Parsed, stuck, and-then}
 use Rattle.octets.specs.Codec.{tried}
 use Rattle.parse_tokens.specs.declared.Cursor.{Cursor}
 use Rattle.parse_tokens.specs.declared.Row.{Row}
-use Rattle.parse_tokens.specs.Cursor.{left-of, Safe, Keeps, keeps-then, Passed, Stopped, cursors, Finds, stopped, clash}
+use Rattle.parse_tokens.specs.Cursor.{left-of, Safe, Keeps, keeps-then, Passed, Stopped, cursors, Finds, stopped}
+use Rattle.parse_tokens.specs.Cursor.{clash}
 use Rattle.parse_tokens.specs.Step.{Found, moves}
 use Rattle.parse_tokens.specs.Leaf.{rowParser, found-same, found-entry}
 use Rattle.parse_tokens.specs.Choice.{choice, found-first, Further, further-keeps, second-further}

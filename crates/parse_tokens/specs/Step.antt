@@ -13,7 +13,8 @@ use Rattle.octets.specs.Parsed.{Parsed, took, stuck, and-then, strip, took≢st
 use Rattle.octets.specs.Codec.{Codec, exact}
 use Rattle.octets.specs.Overlay.{Wrote, then, nothing, before, each-append, each-single}
 use Rattle.parse_tokens.specs.declared.Cursor.{Cursor}
-use Rattle.parse_tokens.specs.Cursor.{left-of, rest, Safe, Keeps, Passed, Finds, stopped, taken, reads-as, reads-at}
+use Rattle.parse_tokens.specs.Cursor.{left-of, rest, Safe, Keeps, Passed, Finds, stopped, taken, reads-as}
+use Rattle.parse_tokens.specs.Cursor.{reads-at}
 use Rattle.parse_tokens.specs.Cursor.{clash}
 
 -- ---- what is read, whatever is done with it

@@ -216,7 +216,14 @@ module _ (s : List ℕ) (at : ℕ) {r : NameRead} (e : r ≡ nameRead (begunAt s
             × (r .octets ≡ padded (nameForm n)))
             → record {
               answer = record′.Read
-                  (record { size = size; kind = kind; class = class; ttl = ttl; rdata = next + 10; rdlength = rdlength });
+                  (record {
+                    size = size;
+                    kind = kind;
+                    class = class;
+                    ttl = ttl;
+                    rdata = next + 10;
+                    rdlength = rdlength;
+                  });
               name = r .octets;
             }
             ≡ recordRead (recordHeadAt s at)

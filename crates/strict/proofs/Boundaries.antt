@@ -91,12 +91,14 @@ readings =
     ∷ record { text = textWith "0" "1" "0" "0" "{\"NAME\":\"a\",\"TYPE\":1,\"CLASS\":1}" "" ""; gives = refuses 20 0 }
     ∷ record {
       text = textWith "0" "1" "0" "0"
-          "{\"NAME\":\"aaaaaaaaaaaaaaaaaaaaaaaaaaaaaaaaaaaaaaaaaaaaaaaaaaaaaaaaaaaaaaa.\",\"TYPE\":1,\"CLASS\":1}" "" "";
+          "{\"NAME\":\"aaaaaaaaaaaaaaaaaaaaaaaaaaaaaaaaaaaaaaaaaaaaaaaaaaaaaaaaaaaaaaa.\",\"TYPE\":1,\"CLASS\":1}" ""
+          "";
       gives = taken;
     }
     ∷ record {
       text = textWith "0" "1" "0" "0"
-          "{\"NAME\":\"aaaaaaaaaaaaaaaaaaaaaaaaaaaaaaaaaaaaaaaaaaaaaaaaaaaaaaaaaaaaaaaa.\",\"TYPE\":1,\"CLASS\":1}" "" "";
+          "{\"NAME\":\"aaaaaaaaaaaaaaaaaaaaaaaaaaaaaaaaaaaaaaaaaaaaaaaaaaaaaaaaaaaaaaaa.\",\"TYPE\":1,\"CLASS\":1}" ""
+          "";
       gives = refuses 21 0;
     }
     -- hex: lowercase, an odd number of digits

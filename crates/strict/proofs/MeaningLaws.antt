@@ -88,7 +88,8 @@ question-in : (q : Question) → T (question? q) → QuestionIn q
 unfolding question?
 question-in q h = (
   name-in (q .name)
-      (and-left (name? (q .name)) (word? (q .type)) (and-left (name? (q .name) && word? (q .type)) (word? (q .class)) h)),
+      (and-left (name? (q .name)) (word? (q .type))
+      (and-left (name? (q .name) && word? (q .type)) (word? (q .class)) h)),
   (tt, tt),
 )
 

@@ -26,7 +26,8 @@ use Rattle.strict.proofs.OptionLaws.{key-holds, option-member}
 use Rattle.strict.specs.Meaning.{itemEdns, ednsItem?}
 use Rattle.parse_tokens.specs.declared.Cursor.{Cursor}
 use Rattle.parse_tokens.specs.Cursor.{Keeps, keeps-then, Passed}
-use Rattle.parse_tokens.specs.Step.{Found, Put, Step, Held, Judged, found-at, found-from, found-sound, found-map, found-lit}
+use Rattle.parse_tokens.specs.Step.{Found, Put, Step, Held, Judged, found-at, found-from, found-sound, found-map}
+use Rattle.parse_tokens.specs.Step.{found-lit}
 use Rattle.parse_tokens.specs.Step.{found-behind, found-pair, put-from, put-as, put-before, put-judged}
 use Rattle.parse_tokens.specs.declared.Amount.{Amount}
 use Rattle.parse_tokens.specs.declared.Row.{Row}

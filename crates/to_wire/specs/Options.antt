@@ -23,9 +23,11 @@ use Rattle.strict.specs.Members.{octetsOf, value?, optionOf, member?}
 use Rattle.strict.proofs.OptionLaws.{key-word}
 use Rattle.strict.specs.Parser.{value, members-distinct, member-apart, knownMember, otherMember, member, optionMembers}
 use Rattle.parse_tokens.specs.declared.Cursor.{Cursor}
-use Rattle.parse_tokens.specs.Cursor.{Safe, Keeps, keeps-same, keeps-then, Passed, Came, Finds, stopped, reads-got, clash}
+use Rattle.parse_tokens.specs.Cursor.{Safe, Keeps, keeps-same, keeps-then, Passed, Came, Finds, stopped, reads-got}
+use Rattle.parse_tokens.specs.Cursor.{clash}
 use Rattle.parse_tokens.specs.Step.{Found, Put, Step, Held, Judged, found-as, found-at, found-from, found-by, found-lit}
-use Rattle.parse_tokens.specs.Step.{found-behind, found-pair, found-stuck, found-there, put-from, put-to, put-as, put-before}
+use Rattle.parse_tokens.specs.Step.{found-behind, found-pair, found-stuck, found-there, put-from, put-to, put-as}
+use Rattle.parse_tokens.specs.Step.{put-before}
 use Rattle.parse_tokens.specs.Step.{put-judged, put-nothing, put-last, all-last, judged-when, put-when, step-behind}
 use Rattle.parse_tokens.specs.Choice.{Further, either-further, either-second}
 use Rattle.parse_tokens.specs.Many.{le-or-lt}

@@ -32,7 +32,8 @@ use Rattle.parse_tokens.specs.declared.Amount.{Amount}
 use Rattle.parse_tokens.specs.declared.Span.{Span}
 use Rattle.parse_tokens.specs.declared.Ttl.{Ttl}
 use Rattle.parse_tokens.specs.Cursor.{Passed}
-use Rattle.parse_tokens.specs.Step.{Found, found-as, found-sound, found-lit, found-map, found-behind, found-pair, found-at}
+use Rattle.parse_tokens.specs.Step.{Found, found-as, found-sound, found-lit, found-map, found-behind, found-pair}
+use Rattle.parse_tokens.specs.Step.{found-at}
 use Rattle.parse_tokens.specs.Step.{Put, put-then, put-from, put-to, put-as, put-nothing, put-judged, put-emit, Step}
 use Rattle.parse_tokens.specs.Step.{step-lit, step-pair, step-behind, step-on, Judged, Emits}
 use Rattle.parse_tokens.specs.Number.{capped, capped-is, NumberRead}

@@ -18,7 +18,8 @@ use Rattle.strict.specs.Parser.{questionCodec, recordCodec, itemCodec, question
 use Rattle.strict.specs.Meaning.{itemRecord}
 use Rattle.parse_tokens.specs.declared.Cursor.{Cursor}
 use Rattle.parse_tokens.specs.Cursor.{Safe, keeps-same, Passed, Came}
-use Rattle.parse_tokens.specs.Step.{Found, found-as, found-lit, found-stuck, Put, put-from, put-to, put-nothing, put-last}
+use Rattle.parse_tokens.specs.Step.{Found, found-as, found-lit, found-stuck, Put, put-from, put-to, put-nothing}
+use Rattle.parse_tokens.specs.Step.{put-last}
 use Rattle.parse_tokens.specs.Step.{all-last, Step}
 use Rattle.parse_tokens.specs.Leaf.{found-same}
 use Rattle.parse_tokens.specs.Place.{Byte}

@@ -12,7 +12,8 @@ use Rattle.octets.specs.Parsed.{stuck}
 use Rattle.strict.specs.Spelt.{stringAt, stringChar, stringOctet-avoids, string}
 use Rattle.parse_tokens.specs.declared.Cursor.{Cursor}
 use Rattle.parse_tokens.specs.Cursor.{Safe, keeps-same, Came, Stopped, went-keeps, reads-stop, reads-took, Got}
-use Rattle.parse_tokens.specs.Step.{Found, Moves, found-stuck, Put, put-as, put-to, put-nothing, none-last, put-emit, Emits}
+use Rattle.parse_tokens.specs.Step.{Found, Moves, found-stuck, Put, put-as, put-to, put-nothing, none-last, put-emit}
+use Rattle.parse_tokens.specs.Step.{Emits}
 use Rattle.parse_tokens.specs.Many.{run-of, Going, going-start, going-end, going-more, going-stop}
 use Rattle.parse_tokens.specs.Place.{Byte, inside}
 use Rattle.parse_octets.specs.declared.Letter.{Letter}

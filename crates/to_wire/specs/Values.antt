@@ -24,7 +24,8 @@ use Rattle.strict.specs.Parser.{value, expiryNumber}
 use Rattle.strict.specs.Spelt.{string}
 use Rattle.parse_tokens.specs.declared.Cursor.{Cursor}
 use Rattle.parse_tokens.specs.Cursor.{left-of, reads-stop, keeps-same, went-keeps, Safe, Passed, Came, Stopped}
-use Rattle.parse_tokens.specs.Step.{Found, Put, Step, Held, held-room, Judged, found-as, found-at, found-lit, found-behind}
+use Rattle.parse_tokens.specs.Step.{Found, Put, Step, Held, held-room, Judged, found-as, found-at, found-lit}
+use Rattle.parse_tokens.specs.Step.{found-behind}
 use Rattle.parse_tokens.specs.Step.{found-pair, put-from, put-to, put-as, put-judged, put-nothing, put-last, all-last}
 use Rattle.parse_tokens.specs.Step.{step-lit, step-behind, step-pair, moves}
 use Rattle.parse_tokens.specs.Leaf.{found-lits}

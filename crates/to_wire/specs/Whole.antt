@@ -16,7 +16,8 @@ use Rattle.strict.specs.Parser.{Head, document}
 use Rattle.strict.specs.Meaning.{counts?}
 use Rattle.parse_tokens.specs.declared.Cursor.{Cursor}
 use Rattle.parse_tokens.specs.Cursor.{Passed}
-use Rattle.parse_tokens.specs.Step.{then-then, Found, found-as, found-lit, found-map, found-behind, found-pair, found-at, Put}
+use Rattle.parse_tokens.specs.Step.{then-then, Found, found-as, found-lit, found-map, found-behind, found-pair}
+use Rattle.parse_tokens.specs.Step.{found-at, Put}
 use Rattle.parse_tokens.specs.Step.{put-then, put-from, put-to, put-as, put-judged, Step, Judged}
 use Rattle.parse_tokens.specs.Leaf.{found-same}
 use Rattle.parse_tokens.specs.Number.{capped}

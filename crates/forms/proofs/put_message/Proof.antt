@@ -127,7 +127,8 @@ two-at-requires-4 c κs =
     omega (
       arith,
       c .before .before .before .before .before .before .before .before .before .before .before .before
-          .before .before .before .before .before .before .before .before .before .before .before .before .before .before
+          .before .before .before .before .before .before .before .before .before .before .before .before .before
+          .before
           .before .before .before .before .before .pre,
     )
 
@@ -138,7 +139,8 @@ put-section-requires-4 c κs =
     omega (
       arith,
       m .before .before .before .before .before .before .before .before .before .before .before .before
-          .before .before .before .before .before .before .before .before .before .before .before .before .before .before
+          .before .before .before .before .before .before .before .before .before .before .before .before .before
+          .before
           .pre,
     )
 

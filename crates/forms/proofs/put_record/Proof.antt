@@ -138,7 +138,8 @@ returns-3 c =
     let l = laying-within _
     (c .before .before .before .before .before .before .before .before .before .before .put-rdata .ensures .1)
     (c .before .before .before .before .before .before .end .given .1) in (
-      record-puts (j .args .s .now) (j .args .at) (m .before .before .before .head-at .ensures .0) (m .answer2 .given .1)
+      record-puts (j .args .s .now) (j .args .at) (m .before .before .before .head-at .ensures .0)
+          (m .answer2 .given .1)
           (c .before .before .before .before .before .before .before .before .before .before .before .before .before
           .before .before .before .before .before .put-named .ensures .0)
           (c .before .before .before .before .before .before .before .before .before .before .before .before .before

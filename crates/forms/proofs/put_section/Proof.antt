@@ -67,7 +67,8 @@ loop-again c = let k =
           ∙ c .before .before .before .before .before .before .before .before .before .loop .inv .3,
       onward-more _ _ _ _ (c .before .before .before .before .before .before .before .before .before .loop .inv .4)
           (c .before .before .before .before .before .before .before .before .loop-test .taken)
-          (c .before .before .before .before .before .before .put-entry .ensures .0) (c .before .before .behind .given .1)
+          (c .before .before .before .before .before .before .put-entry .ensures .0)
+          (c .before .before .behind .given .1)
           (search needs),
     )
 

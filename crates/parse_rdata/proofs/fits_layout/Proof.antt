@@ -4,7 +4,8 @@ use native.Mathlib.Omega.{arith}
 use Rattle.octets.specs.Lists.{paired}
 use Rattle.records.specs.Layout.{rdataFits?}
 use Rattle.parse_rdata.specs.Skipping.{name-ends}
-use Rattle.parse_rdata.proofs.Fitting.{FitLoop, fits-start, fits-end, fits-some, fits-short, fits-part, fits-named}
+use Rattle.parse_rdata.proofs.Fitting.{FitLoop, fits-start, fits-end, fits-some, fits-short, fits-part}
+use Rattle.parse_rdata.proofs.Fitting.{fits-named}
 use Rattle.parse_rdata.proofs.Fitting.{fits-unfit, fits-name}
 use borrow.Author.Needs.{needs}
 use Rattle.parse_rdata.proofs.fits_layout.Statement.{statement}

@@ -1,5 +1,5 @@
--- `parse_rdata::put_octets` meets its contract: past the end nothing is written; else, after `i` turns, the first `i` octets
--- are written.
+-- `parse_rdata::put_octets` meets its contract: past the end nothing is written; else, after `i` turns, the first `i`
+-- octets are written.
 use mathlib.Core.Path.{_≡_}
 use Prim.Native.Nat.{_≤_, _+_, _-_}
 use lib.ListN.{take}

@@ -3,7 +3,8 @@ use Prim.Native.Nat.{_-_}
 use native.Mathlib.Omega.{arith}
 use borrow.Author.Needs.{needs}
 use lib.ListN.{length}
-use Rattle.parse_tokens.specs.Hex.{Pairs, hex-stuck, pairs-start, pairs-close, pairs-inside, pairs-half, pairs-more}
+use Rattle.parse_tokens.specs.Hex.{Pairs, hex-stuck, pairs-start, pairs-close, pairs-inside, pairs-half}
+use Rattle.parse_tokens.specs.Hex.{pairs-more}
 use Rattle.parse_tokens.proofs.hex.Statement.{statement}
 use Rattle.parse_tokens.proofs.hex.Tie as tie
 

@@ -1,4 +1,5 @@
--- `parse_tokens::option_name` meets its contract: the octets of the code are computed to be those of the table of options.
+-- `parse_tokens::option_name` meets its contract: the octets of the code are computed to be those of the table of
+-- options.
 use mathlib.Core.Path.{refl}
 use borrow.Author.Needs.{needs}
 use Rattle.octets.specs.Lists.{each}

@@ -1,5 +1,6 @@
 use borrow.Author.Needs.{needs}
-use Rattle.to_wire.proofs.Promise.{read-stopped, read-left, read-meaningless, read-large, read-long, read-message}
+use Rattle.to_wire.proofs.Promise.{read-stopped, read-left, read-meaningless, read-large, read-long}
+use Rattle.to_wire.proofs.Promise.{read-message}
 use Rattle.to_wire.proofs.read.Statement.{statement}
 use Rattle.to_wire.proofs.read.Tie as tie
 
