@@ -1,0 +1,3 @@
+-- RDATA without pointers, as octets or in hexadecimal.
+pub mod Written
+pub mod Loop

@@ -1,0 +1,166 @@
+-- The loop over RDATA's pieces.
+use mathlib.Core.Path.{_≡_, refl, sym, ap, _∙_, subst}
+use mathlib.Core.Bool.{Bool, true, false, cond}
+use mathlib.Core.List.{List, [], _∷_, _++_}
+use Prim.Native.Nat.{ℕ, _+_, _-_, _*_, _≤_, _<_}
+use native.Mathlib.Omega.{arith}
+use lib.Dec.{ltb}
+use lib.ListN.{length, take, drop, length-take}
+use lib.Seq.{drop-drop}
+use Rattle.octets.specs.Lists.{each}
+use Rattle.octets.specs.Hexadecimal.{hexOctet}
+use Rattle.octets.specs.Overlay.{Wrote, then, nothing}
+use Rattle.names.specs.Name.{nameForm, short, surplus}
+use Rattle.names.specs.Walk.{part, rdata, Named, named, faulty, nameAt}
+use Rattle.names.specs.Answer.{faultOf}
+use Rattle.names.specs.declared.Fault.{Fault as FaultRead}
+use Rattle.records.specs.Layout.{Piece, fixed, name, Laid, laid, misfit, before, pieces, rdataAt}
+use Rattle.records.specs.Parts.{layoutIn, rdata-pieces, StepOf, part-to, name-to, done, stops, nameStep, stepAt}
+use Rattle.records.specs.Parts.{follow}
+use Rattle.records.specs.Answer.{stepRead}
+use Rattle.records.proofs.Told.{form-part, tells, pieces-next}
+use Rattle.records.specs.declared.Step.the-variants as step
+use Rattle.records.specs.declared.Stepped.{Stepped}
+use Rattle.rdata.specs.Written.{piecesForm, rdataForm, written, endOf, PutsRdata, written-none, written-append}
+use Rattle.rdata.specs.declared.RdataEnd.{RdataEnd}
+use Rattle.rdata.specs.declared.RdataEnd.the-variants.{To, Misfit}
+
+-- ---- the form by steps
+-- what a step puts before the form of what comes after it
+abbrev formThen : List ℕ → ℕ → (ℕ → List ℕ) → StepOf → List ℕ
+formThen s at later (part-to next) = part s at (next - at) ++ later next
+formThen s at later (name-to n next) = nameForm n ++ later next
+formThen s at later done = []
+formThen s at later (stops fault) = []
+
+-- the form of the pieces is that of the step at the first of them, then that of the pieces after it
+form-step : (layout : List Piece) (s : List ℕ) (start end at : ℕ)
+    → piecesForm layout s start end at ≡ formThen s at (piecesForm (drop 1 layout) s start end)
+    (stepAt layout s start end at)
+unfolding piecesForm stepAt
+form-step [] s start end at = go (ltb at end)
+  where
+    go : (b : Bool) → [] ≡ formThen s at (piecesForm [] s start end)
+        (cond b (stops (record { kind = surplus; octet = at })) done)
+    go true = refl
+    go false = refl
+form-step (fixed n ∷ layout) s start end at = go (ltb end (at + n))
+  where
+    later : ℕ → List ℕ
+    later = piecesForm layout s start end
+
+    go : (b : Bool) → cond b [] (part s at n ++ later (at + n))
+        ≡ formThen s at later (cond b (stops (record { kind = short; octet = start })) (part-to (at + n)))
+    go true = refl
+    go false = let e : at + n - at ≡ n = omega arith in rw e
+form-step (name ∷ layout) s start end at = go (nameAt s (rdata start end) at)
+  where
+    later : ℕ → List ℕ
+    later = piecesForm layout s start end
+
+    go : (w : Named)
+        → (elim w as (λ x. List ℕ) [ named labels next ↦ nameForm labels ++ later next | faulty fault ↦ [] ])
+        ≡ formThen s at later (nameStep w)
+    go (named n next) = refl
+    go (faulty fault) = refl
+
+form-next : (s : List ℕ) (l : List Piece) (start end at i : ℕ) {x : StepOf} → stepAt (drop i l) s start end at ≡ x
+    → piecesForm (drop i l) s start end at ≡ formThen s at (piecesForm (drop (i + 1) l) s start end) x
+form-next s l start end at i q =
+    form-step (drop i l) s start end at
+    ∙ ap (λ (m : List Piece). formThen s at (piecesForm m s start end) (stepAt (drop i l) s start end at))
+    (drop-drop 1 i l)
+    ∙ ap (formThen s at (piecesForm (drop (i + 1) l) s start end)) q
+
+-- ---- a piece
+pub wrote-digits : (l : List ℕ) {hex : Bool} {b b′ : List ℕ} {to r : ℕ} → hex ≡ true → Wrote b to (each hexOctet l) b′ r
+    → Wrote b to (written hex l) b′ r
+unfolding written
+wrote-digits l e p = rw e p
+
+pub wrote-octets : {hex : Bool} {l b b′ : List ℕ} {to r : ℕ} → hex ≡ false → Wrote b to l b′ r
+    → Wrote b to (written hex l) b′ r
+unfolding written
+wrote-octets e p = rw e p
+
+-- ---- the loop
+-- octets were written before the rest
+puts-before : (w : Laid) (xs : List ℕ) {hex : Bool} {l b b₁ b₂ : List ℕ} {to n : ℕ} {r : RdataEnd}
+    → Wrote b to (written hex xs) b₁ n → PutsRdata hex w l b₁ n b₂ r → PutsRdata hex (before xs w) (xs ++ l) b to b₂ r
+puts-before w xs {hex} {l} p q =
+    record {
+      next = q .next;
+      wrote = rw (written-append hex xs l) (then p (q .wrote));
+      answer = q .answer ∙ go w;
+    }
+  where
+    go : (w : Laid) → endOf w (q .next) ≡ endOf (before xs w) (q .next)
+    go (laid d) = refl
+    go (misfit fault) = refl
+
+-- nothing was written
+puts-none : {hex : Bool} {w : Laid} {b : List ℕ} {to : ℕ} {r : RdataEnd} → r ≡ endOf w to → PutsRdata hex w [] b to b r
+puts-none {hex} {b = b} {to = to} e = record { next = to; wrote = rw (written-none hex) (nothing b to); answer = e }
+
+-- to put the pieces from the i-th on is to put all of RDATA
+pub record RdataLoop (hex : Bool) (s : List ℕ) (kind start size : ℕ) (b₀ : List ℕ) (to i at : ℕ) (b : List ℕ)
+    (next : ℕ) : Type 0 where
+  pub goes : (b′ : List ℕ) (r : RdataEnd)
+      → PutsRdata hex (pieces true (drop i (layoutIn kind size)) s start (start + size) at)
+      (piecesForm (drop i (layoutIn kind size)) s start (start + size) at) b next b′ r
+      → PutsRdata hex (rdataAt true s kind start size) (rdataForm s kind start size) b₀ to b′ r
+
+pub loop-start : {hex : Bool} {s : List ℕ} {kind start size : ℕ} {b : List ℕ} {to : ℕ}
+    → RdataLoop hex s kind start size b to 0 start b to
+unfolding rdataForm
+loop-start {s = s} {kind = kind} {start = start} {size = size} = record {
+  goes = λ b′ r p. rw (rdata-pieces true s kind start size) p;
+}
+
+module _ {hex : Bool} {s : List ℕ} {kind start size : ℕ} {b₀ : List ℕ} {to i at : ℕ} {b : List ℕ} {next : ℕ}
+    {r : Stepped} (w : RdataLoop hex s kind start size b₀ to i at b next)
+    (e : r ≡ stepRead (stepAt (drop i (layoutIn kind size)) s start (start + size) at)) where
+  -- the rest by its first step
+  by-step : {x : StepOf} → stepAt (drop i (layoutIn kind size)) s start (start + size) at ≡ x
+      → (b′ : List ℕ) (y : RdataEnd) → PutsRdata hex
+      (follow s at (pieces true (drop (i + 1) (layoutIn kind size)) s start (start + size)) x)
+      (formThen s at (piecesForm (drop (i + 1) (layoutIn kind size)) s start (start + size)) x) b next b′ y
+      → PutsRdata hex (rdataAt true s kind start size) (rdataForm s kind start size) b₀ to b′ y
+  by-step q b′ y p = w .goes b′ y
+      (rw (
+        pieces-next s (layoutIn kind size) start (start + size) at i q,
+        form-next s (layoutIn kind size) start (start + size) at i q,
+      ) p)
+
+  -- octets as they are
+  pub loop-part : {n : ℕ} {b₁ : List ℕ} {n₁ : ℕ} → r .step ≡ step.Part n
+      → Wrote b next (written hex (part s at (n - at))) b₁ n₁
+      → RdataLoop hex s kind start size b₀ to (i + 1) n b₁ n₁
+  loop-part q p = record { goes = λ b′ y d. by-step (tells _ e q) b′ y (puts-before _ _ p d) }
+
+  -- a name
+  pub loop-name : {long n : ℕ} {b₁ : List ℕ} {n₁ : ℕ} → r .step ≡ step.Name long n
+      → Wrote b next (written hex (take (long - 0) (r .octets))) b₁ n₁
+      → RdataLoop hex s kind start size b₀ to (i + 1) n b₁ n₁
+  loop-name {long} {n} {b₁} {n₁} q p =
+      let (m, x, y, z) = tells _ e q in
+      let p′ = subst (λ (xs : List ℕ). Wrote b next (written hex xs) b₁ n₁)
+      (form-part (nameForm m) (r .octets) long y z) p in
+      record { goes = λ b′ y d. by-step x b′ y (puts-before _ _ p′ d) }
+
+  -- the end
+  pub loop-done : r .step ≡ step.Done
+      → PutsRdata hex (rdataAt true s kind start size) (rdataForm s kind start size) b₀ to b (To next)
+  loop-done q = by-step (tells _ e q) b (To next) (puts-none refl)
+
+  -- a fault
+  pub loop-misfit : {f : FaultRead} → r .step ≡ step.Misfit f
+      → PutsRdata hex (rdataAt true s kind start size) (rdataForm s kind start size) b₀ to b (Misfit f)
+  loop-misfit {f} q = let (fault, x, y) = tells _ e q in by-step x b (Misfit f) (puts-none (ap Misfit y))
+
+-- ---- a part of n octets
+pub piece-room : (next n : ℕ) (l : List ℕ) (m : ℕ) → next + 2 * n < m → next + 2 * length (take n l) < m
+piece-room next n l m h = let e = length-take n l in omega arith
+
+pub piece-short : (at n : ℕ) (l : List ℕ) {r : ℕ} → r ≤ at + 2 * length (take n l) → r ≤ at + 2 * n
+piece-short at n l e = let k = length-take n l in omega arith
