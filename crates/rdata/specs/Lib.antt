@@ -1,3 +1,2 @@
 -- RDATA without pointers, as octets or in hexadecimal.
 pub mod Written
-pub mod Loop

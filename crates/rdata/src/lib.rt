@@ -6,11 +6,9 @@ use octets::put_hex;
 use records::Step;
 use records::rdata_step;
 ghost use Prim.Native.Nat.{_+_, _*_, _^_, _≤_, _<_};
-ghost use mathlib.Core.Bool.{true};
 ghost use lib.ListN.{length};
 ghost use Rattle.octets.specs.Overlay.{Wrote};
-ghost use Rattle.records.specs.Layout.{rdataAt};
-ghost use Rattle.rdata.specs.Written.{written, rdataForm, PutsRdata, Ends};
+ghost use Rattle.rdata.specs.Written.{written, PutsRdata, Ends};
 
 // The place after RDATA, or RDATA's fault.
 pub enum RdataEnd {
@@ -42,8 +40,7 @@ pub fn put_rdata(
     to: usize,
 ) -> RdataEnd
     requires { ⌜ (length (now s) ≤ 65535) × (start + size ≤ length (now s)) × (to < 2 ^ 37) ⌝ }
-    ensures { λ r. ⌜ PutsRdata hex (rdataAt true (now (s .entry)) kind start size)
-        (rdataForm (now (s .entry)) kind start size) (now (out .entry)) to (now (out .exit)) r ⌝ }
+    ensures { λ r. ⌜ PutsRdata hex (now (s .entry)) kind start size (now (out .entry)) to (now (out .exit)) r ⌝ }
     ensures { λ r. ⌜ Ends hex r to size ⌝ }
 {
     let mut i = 0;

@@ -1,7 +1,6 @@
 -- `rdata::put_piece` meets its contract.
 use borrow.Author.Needs.{needs}
-use native.Mathlib.Omega.{arith}
-use Rattle.rdata.specs.Loop.{wrote-digits, wrote-octets}
+use Rattle.rdata.proofs.Loop.{wrote-digits, wrote-octets}
 use Rattle.rdata.proofs.put_piece.Statement.{statement}
 use Rattle.rdata.proofs.put_piece.Tie as tie
 

@@ -1,27 +1,28 @@
 -- The loop over RDATA's pieces.
-use mathlib.Core.Path.{_≡_, refl, sym, ap, _∙_, subst}
+use mathlib.Core.Path.{_≡_, refl, ap, _∙_}
 use mathlib.Core.Bool.{Bool, true, false, cond}
 use mathlib.Core.List.{List, [], _∷_, _++_}
-use Prim.Native.Nat.{ℕ, _+_, _-_, _*_, _≤_, _<_}
+use Prim.Native.Nat.{ℕ, _+_, _-_, _*_, _^_, _≤_, _<_}
 use native.Mathlib.Omega.{arith}
 use lib.Dec.{ltb}
 use lib.ListN.{length, take, drop, length-take}
 use lib.Seq.{drop-drop}
 use Rattle.octets.specs.Lists.{each}
 use Rattle.octets.specs.Hexadecimal.{hexOctet}
-use Rattle.octets.specs.Overlay.{Wrote, then, nothing}
+use Rattle.octets.specs.Overlay.{Wrote, then, nothing, same-long}
 use Rattle.names.specs.Name.{nameForm, short, surplus}
 use Rattle.names.specs.Walk.{part, rdata, Named, named, faulty, nameAt}
-use Rattle.names.specs.Answer.{faultOf}
 use Rattle.names.specs.declared.Fault.{Fault as FaultRead}
-use Rattle.records.specs.Layout.{Piece, fixed, name, Laid, laid, misfit, before, pieces, rdataAt}
+use Rattle.records.specs.Layout.{Piece, fixed, name, Laid, laid, misfit, before, pieces}
 use Rattle.records.specs.Parts.{layoutIn, rdata-pieces, StepOf, part-to, name-to, done, stops, nameStep, stepAt}
 use Rattle.records.specs.Parts.{follow}
-use Rattle.records.specs.Answer.{stepRead}
+use Rattle.records.specs.Answer.{stepRead, Steps}
+use Rattle.records.proofs.Pieces.{part-within, name-within}
 use Rattle.records.proofs.Told.{form-part, tells, pieces-next}
 use Rattle.records.specs.declared.Step.the-variants as step
 use Rattle.records.specs.declared.Stepped.{Stepped}
-use Rattle.rdata.specs.Written.{piecesForm, rdataForm, written, endOf, PutsRdata, written-none, written-append}
+use Rattle.rdata.specs.Written.{piecesForm, rdataForm, written, endOf, PutsForm, PutsRdata}
+use Rattle.rdata.proofs.FormLaws.{written-none, written-append}
 use Rattle.rdata.specs.declared.RdataEnd.{RdataEnd}
 use Rattle.rdata.specs.declared.RdataEnd.the-variants.{To, Misfit}
 
@@ -86,7 +87,7 @@ wrote-octets e p = rw e p
 -- ---- the loop
 -- octets were written before the rest
 puts-before : (w : Laid) (xs : List ℕ) {hex : Bool} {l b b₁ b₂ : List ℕ} {to n : ℕ} {r : RdataEnd}
-    → Wrote b to (written hex xs) b₁ n → PutsRdata hex w l b₁ n b₂ r → PutsRdata hex (before xs w) (xs ++ l) b to b₂ r
+    → Wrote b to (written hex xs) b₁ n → PutsForm hex w l b₁ n b₂ r → PutsForm hex (before xs w) (xs ++ l) b to b₂ r
 puts-before w xs {hex} {l} p q =
     record {
       next = q .next;
@@ -99,68 +100,117 @@ puts-before w xs {hex} {l} p q =
     go (misfit fault) = refl
 
 -- nothing was written
-puts-none : {hex : Bool} {w : Laid} {b : List ℕ} {to : ℕ} {r : RdataEnd} → r ≡ endOf w to → PutsRdata hex w [] b to b r
+puts-none : {hex : Bool} {w : Laid} {b : List ℕ} {to : ℕ} {r : RdataEnd} → r ≡ endOf w to → PutsForm hex w [] b to b r
 puts-none {hex} {b = b} {to = to} e = record { next = to; wrote = rw (written-none hex) (nothing b to); answer = e }
 
--- to put the pieces from the i-th on is to put all of RDATA
+-- RDATA from the i-th piece on, and its form
+abbrev piecesAt : List ℕ → ℕ → ℕ → ℕ → ℕ → ℕ → Laid
+piecesAt s kind start size i at = pieces true (drop i (layoutIn kind size)) s start (start + size) at
+
+abbrev formAt : List ℕ → ℕ → ℕ → ℕ → ℕ → ℕ → List ℕ
+formAt s kind start size i at = piecesForm (drop i (layoutIn kind size)) s start (start + size) at
+
+-- the pieces before the i-th are written: to put the rest is to put all of RDATA
 pub record RdataLoop (hex : Bool) (s : List ℕ) (kind start size : ℕ) (b₀ : List ℕ) (to i at : ℕ) (b : List ℕ)
     (next : ℕ) : Type 0 where
+  pub sized : length s ≤ 65535
+  pub inside : start + size ≤ length s
+  pub within : at ≤ start + size
+  pub few : i ≤ 3
+  pub place : next ≤ 2 ^ 37 + 510 * i + 2 * at
+  pub long : length b ≡ length b₀
   pub goes : (b′ : List ℕ) (r : RdataEnd)
-      → PutsRdata hex (pieces true (drop i (layoutIn kind size)) s start (start + size) at)
-      (piecesForm (drop i (layoutIn kind size)) s start (start + size) at) b next b′ r
-      → PutsRdata hex (rdataAt true s kind start size) (rdataForm s kind start size) b₀ to b′ r
+      → PutsForm hex (piecesAt s kind start size i at) (formAt s kind start size i at) b next b′ r
+      → PutsRdata hex s kind start size b₀ to b′ r
 
 pub loop-start : {hex : Bool} {s : List ℕ} {kind start size : ℕ} {b : List ℕ} {to : ℕ}
-    → RdataLoop hex s kind start size b to 0 start b to
+    → (length s ≤ 65535) × (start + size ≤ length s) × (to < 2 ^ 37) → RdataLoop hex s kind start size b to 0 start b to
 unfolding rdataForm
-loop-start {s = s} {kind = kind} {start = start} {size = size} = record {
-  goes = λ b′ r p. rw (rdata-pieces true s kind start size) p;
-}
+loop-start {s = s} {kind = kind} {start = start} {size = size} (h, k, j) =
+    record {
+      sized = h;
+      inside = k;
+      within = omega arith;
+      few = omega arith;
+      place = omega arith;
+      long = refl;
+      goes = λ b′ r p. rw (rdata-pieces true s kind start size) p;
+    }
 
 module _ {hex : Bool} {s : List ℕ} {kind start size : ℕ} {b₀ : List ℕ} {to i at : ℕ} {b : List ℕ} {next : ℕ}
     {r : Stepped} (w : RdataLoop hex s kind start size b₀ to i at b next)
     (e : r ≡ stepRead (stepAt (drop i (layoutIn kind size)) s start (start + size) at)) where
   -- the rest by its first step
   by-step : {x : StepOf} → stepAt (drop i (layoutIn kind size)) s start (start + size) at ≡ x
-      → (b′ : List ℕ) (y : RdataEnd) → PutsRdata hex
-      (follow s at (pieces true (drop (i + 1) (layoutIn kind size)) s start (start + size)) x)
-      (formThen s at (piecesForm (drop (i + 1) (layoutIn kind size)) s start (start + size)) x) b next b′ y
-      → PutsRdata hex (rdataAt true s kind start size) (rdataForm s kind start size) b₀ to b′ y
+      → (b′ : List ℕ) (y : RdataEnd)
+      → PutsForm hex (follow s at (piecesAt s kind start size (i + 1)) x)
+      (formThen s at (formAt s kind start size (i + 1)) x) b next b′ y
+      → PutsRdata hex s kind start size b₀ to b′ y
   by-step q b′ y p = w .goes b′ y
       (rw (
         pieces-next s (layoutIn kind size) start (start + size) at i q,
         form-next s (layoutIn kind size) start (start + size) at i q,
       ) p)
 
-  -- octets as they are
-  pub loop-part : {n : ℕ} {b₁ : List ℕ} {n₁ : ℕ} → r .step ≡ step.Part n
-      → Wrote b next (written hex (part s at (n - at))) b₁ n₁
-      → RdataLoop hex s kind start size b₀ to (i + 1) n b₁ n₁
-  loop-part q p = record { goes = λ b′ y d. by-step (tells _ e q) b′ y (puts-before _ _ p d) }
-
-  -- a name
-  pub loop-name : {long n : ℕ} {b₁ : List ℕ} {n₁ : ℕ} → r .step ≡ step.Name long n
-      → Wrote b next (written hex (take (long - 0) (r .octets))) b₁ n₁
-      → RdataLoop hex s kind start size b₀ to (i + 1) n b₁ n₁
-  loop-name {long} {n} {b₁} {n₁} q p =
-      let (m, x, y, z) = tells _ e q in
-      let p′ = subst (λ (xs : List ℕ). Wrote b next (written hex xs) b₁ n₁)
-      (form-part (nameForm m) (r .octets) long y z) p in
-      record { goes = λ b′ y d. by-step x b′ y (puts-before _ _ p′ d) }
-
   -- the end
   pub loop-done : r .step ≡ step.Done
-      → PutsRdata hex (rdataAt true s kind start size) (rdataForm s kind start size) b₀ to b (To next)
+      → PutsRdata hex s kind start size b₀ to b (To next)
   loop-done q = by-step (tells _ e q) b (To next) (puts-none refl)
 
   -- a fault
   pub loop-misfit : {f : FaultRead} → r .step ≡ step.Misfit f
-      → PutsRdata hex (rdataAt true s kind start size) (rdataForm s kind start size) b₀ to b (Misfit f)
+      → PutsRdata hex s kind start size b₀ to b (Misfit f)
   loop-misfit {f} q = let (fault, x, y) = tells _ e q in by-step x b (Misfit f) (puts-none (ap Misfit y))
 
--- ---- a part of n octets
-pub piece-room : (next n : ℕ) (l : List ℕ) (m : ℕ) → next + 2 * n < m → next + 2 * length (take n l) < m
-piece-room next n l m h = let e = length-take n l in omega arith
+  -- a piece of the form xs, which ends at n, was written
+  onward : (xs : List ℕ) {x : StepOf} {n n₁ : ℕ} {b₁ : List ℕ}
+      → stepAt (drop i (layoutIn kind size)) s start (start + size) at ≡ x
+      → ((later : ℕ → Laid) → follow s at later x ≡ before xs (later n))
+      → ((later : ℕ → List ℕ) → formThen s at later x ≡ xs ++ later n)
+      → (i < 3) × (n ≤ start + size) × (n₁ ≤ 2 ^ 37 + 510 * (i + 1) + 2 * n) → Wrote b next (written hex xs) b₁ n₁
+      → RdataLoop hex s kind start size b₀ to (i + 1) n b₁ n₁
+  onward xs q f g (h, k, j) p =
+      record {
+        sized = w .sized;
+        inside = w .inside;
+        within = k;
+        few = omega arith;
+        place = j;
+        long = same-long p ∙ w .long;
+        goes = λ b′ y d. by-step q b′ y
+            (rw (f (piecesAt s kind start size (i + 1)), g (formAt s kind start size (i + 1))) (puts-before _ xs p d));
+      }
 
-pub piece-short : (at n : ℕ) (l : List ℕ) {r : ℕ} → r ≤ at + 2 * length (take n l) → r ≤ at + 2 * n
-piece-short at n l e = let k = length-take n l in omega arith
+  module _ (h : Steps (r .step) i at (start + size)) where
+    -- octets as they are
+    module _ {n : ℕ} (q : r .step ≡ step.Part n) where
+      pub part-ordered : at ≤ n
+      part-ordered = part-within _ h q .1
+
+      pub part-inside : n ≤ length s
+      part-inside = let k = part-within _ h q in omega arith
+
+      pub room-part : next + 2 * length (part s at (n - at)) < 2 ^ 40
+      room-part = let k = part-within _ h q in let j = length-take (n - at) (drop at s) in omega arith
+
+      pub loop-part : {b₁ : List ℕ} {n₁ : ℕ} → Wrote b next (written hex (part s at (n - at))) b₁ n₁
+          → n₁ ≤ next + 2 * length (part s at (n - at)) → RdataLoop hex s kind start size b₀ to (i + 1) n b₁ n₁
+      loop-part p z =
+          let k = part-within _ h q in
+          let j = length-take (n - at) (drop at s) in
+          onward (part s at (n - at)) (tells _ e q) (λ l. refl) (λ l. refl) (k .0, k .2, omega arith) p
+
+    -- a name
+    module _ {long n : ℕ} (q : r .step ≡ step.Name long n) where
+      pub room-name : next + 2 * length (take (long - 0) (r .octets)) < 2 ^ 40
+      room-name = let k = name-within _ h q in let j = length-take (long - 0) (r .octets) in omega arith
+
+      pub loop-name : {b₁ : List ℕ} {n₁ : ℕ} → Wrote b next (written hex (take (long - 0) (r .octets))) b₁ n₁
+          → n₁ ≤ next + 2 * length (take (long - 0) (r .octets))
+          → RdataLoop hex s kind start size b₀ to (i + 1) n b₁ n₁
+      loop-name {b₁} {n₁} p z =
+          let (m, x, u, v) = tells _ e q in
+          let k = name-within _ h q in
+          let j = length-take (long - 0) (r .octets) in
+          onward (nameForm m) x (λ l. refl) (λ l. refl) (k .0, k .2, omega arith)
+          (rw (form-part (nameForm m) (r .octets) long u v) at p)

@@ -1,0 +1,190 @@
+-- The form of RDATA is all of RDATA where it fits its layout, and how long the form can be.
+use mathlib.Core.Path.{_≡_, refl, sym, ap, _∙_, subst}
+use mathlib.Core.Bool.{Bool, true, false, cond}
+use mathlib.Core.List.{List, [], _∷_, _++_}
+use Prim.Native.Nat.{ℕ, _+_, _*_, _≤_}
+use native.Mathlib.Omega.{arith}
+use borrow.Author.Tests.{ltb-false}
+use lib.Dec.{ltb}
+use lib.ListN.{length, drop, length-append, length-take}
+use Rattle.octets.specs.Lists.{each}
+use Rattle.octets.specs.Hexadecimal.{hexOctet}
+use Rattle.octets.specs.Overlay.{Wrote, each-append}
+use Rattle.octets.proofs.Writing.{each-hex-length}
+use Rattle.names.specs.Name.{Name, nameForm, short, surplus, Fault}
+use Rattle.names.specs.Walk.{part, rdata, Named, named, faulty, nameAt}
+use Rattle.names.specs.NameLaws.{read-sized}
+use Rattle.names.specs.Answer.{faultOf}
+use Rattle.names.specs.declared.Fault.{Fault as FaultRead}
+use Rattle.records.specs.Layout.{Piece, fixed, name, Laid, laid, misfit, before, pieces, rdataAt}
+use Rattle.records.specs.Parts.{layoutIn, rdata-pieces}
+use Rattle.records.proofs.Pieces.{breadth, layout-small}
+use Rattle.rdata.specs.Written.{piecesForm, rdataForm, written, endOf, PutsRdata, Ends}
+use Rattle.rdata.specs.declared.RdataEnd.{RdataEnd}
+use Rattle.rdata.specs.declared.RdataEnd.the-variants.{To, Misfit}
+
+-- ---- RDATA that fits its layout
+-- the form is all of RDATA
+abbrev Whole : Laid → List ℕ → Type 0
+Whole (laid d) l = l ≡ d
+Whole (misfit fault) l = Unit {0}
+
+whole-before : (xs : List ℕ) (w : Laid) (l : List ℕ) → Whole w l → Whole (before xs w) (xs ++ l)
+whole-before xs (laid d) l e = ap (λ (m : List ℕ). xs ++ m) e
+whole-before xs (misfit fault) l e = tt
+
+pieces-whole : (layout : List Piece) (s : List ℕ) (start end at : ℕ)
+    → Whole (pieces true layout s start end at) (piecesForm layout s start end at)
+unfolding pieces piecesForm
+pieces-whole [] s start end at = go (ltb at end)
+  where
+    go : (b : Bool) → Whole (cond b (misfit (record { kind = surplus; octet = at })) (laid [])) []
+    go true = tt
+    go false = refl
+pieces-whole (fixed n ∷ layout) s start end at =
+    go (ltb end (at + n)) _ _ (whole-before (part s at n) (pieces true layout s start end (at + n))
+    (piecesForm layout s start end (at + n)) (pieces-whole layout s start end (at + n)))
+  where
+    go : (b : Bool) (w : Laid) (l : List ℕ) → Whole w l
+        → Whole (cond b (misfit (record { kind = short; octet = start })) w) (cond b [] l)
+    go true w l h = tt
+    go false w l h = h
+pieces-whole (name ∷ layout) s start end at = go (nameAt s (rdata start end) at) λ n next.
+    whole-before (nameForm n) (pieces true layout s start end next) (piecesForm layout s start end next)
+    (pieces-whole layout s start end next)
+  where
+    go : (w : Named)
+        → ((n : Name) (next : ℕ) → Whole (before (nameForm n) (pieces true layout s start end next))
+        (nameForm n ++ piecesForm layout s start end next))
+        → Whole
+        (elim w as (λ x. Laid) [
+          | named labels next ↦ before (nameForm labels) (pieces true layout s start end next)
+          | faulty fault ↦ misfit fault
+        ])
+        (elim w as (λ x. List ℕ) [
+          | named labels next ↦ nameForm labels ++ piecesForm layout s start end next
+          | faulty fault ↦ []
+        ])
+    go (named n next) h = h n next
+    go (faulty fault) h = tt
+
+pub rdata-whole : (s : List ℕ) (type at size : ℕ) {d : List ℕ} → rdataAt true s type at size ≡ laid d
+    → rdataForm s type at size ≡ d
+unfolding rdataForm
+rdata-whole s type at size {d} e =
+    subst (λ (w : Laid). Whole w (piecesForm (layoutIn type size) s at (at + size) at))
+    (sym (rdata-pieces true s type at size) ∙ e) (pieces-whole (layoutIn type size) s at (at + size) at)
+
+-- ---- its length
+pieces-short : (layout : List Piece) (s : List ℕ) (start end at : ℕ) → end ≤ length s → at ≤ end
+    → (length (piecesForm layout s start end at) ≤ breadth layout)
+    × (length (piecesForm layout s start end at) + 255 * at ≤ 255 * end)
+unfolding piecesForm
+pieces-short [] s start end at h k = (omega arith, omega arith)
+pieces-short (fixed n ∷ layout) s start end at h k =
+    go (ltb end (at + n)) refl λ j. pieces-short layout s start end (at + n) h j
+  where
+    l : List ℕ
+    l = piecesForm layout s start end (at + n)
+
+    go : (b : Bool) → ltb end (at + n) ≡ b
+        → (at + n ≤ end → (length l ≤ breadth layout) × (length l + 255 * (at + n) ≤ 255 * end))
+        → (length (cond b [] (part s at n ++ l)) ≤ n + breadth layout)
+        × (length (cond b [] (part s at n ++ l)) + 255 * at ≤ 255 * end)
+    go true p f = (omega arith, omega arith)
+    go false p f =
+        let later = f (ltb-false end (at + n) p) in
+        let e = length-append (part s at n) l in
+        let t = length-take n (drop at s) in
+        (omega arith, omega arith)
+pieces-short (name ∷ layout) s start end at h k =
+    go (nameAt s (rdata start end) at) refl λ next j. pieces-short layout s start end next h j
+  where
+    Short : Named → Type 0
+    Short w = let l : List ℕ = elim w [
+      | named labels next ↦ nameForm labels ++ piecesForm layout s start end next
+      | faulty fault ↦ []
+    ] in (length l ≤ 255 + breadth layout) × (length l + 255 * at ≤ 255 * end)
+
+    go : (w : Named) → nameAt s (rdata start end) at ≡ w
+        → ((next : ℕ) → next ≤ end → (length (piecesForm layout s start end next) ≤ breadth layout)
+        × (length (piecesForm layout s start end next) + 255 * next ≤ 255 * end))
+        → Short w
+    go (named n next) p f =
+        let q = read-sized s (rdata start end) at at n next h p in
+        let later = f next (q .3) in
+        let e = length-append (nameForm n) (piecesForm layout s start end next) in
+        (omega arith, omega arith)
+    go (faulty fault) p f = (omega arith, omega arith)
+
+rdata-short : (s : List ℕ) (type at size : ℕ) → at + size ≤ length s
+    → (length (rdataForm s type at size) ≤ 255 * size) × (length (rdataForm s type at size) ≤ size + 530)
+    × (size ≤ 65535 → length (rdataForm s type at size) ≤ 65535)
+unfolding rdataForm
+rdata-short s type at size h =
+    let k = pieces-short (layoutIn type size) s at (at + size) at h (omega arith) in
+    let j = layout-small type size in
+    (omega arith, omega arith, λ i. omega (arith, j .2 i))
+
+-- ---- octets and digits
+pub written-none : (hex : Bool) → written hex [] ≡ []
+unfolding written each
+written-none true = refl
+written-none false = refl
+
+pub written-append : (hex : Bool) (l m : List ℕ) → written hex (l ++ m) ≡ written hex l ++ written hex m
+unfolding written
+written-append true l m = each-append hexOctet l m
+written-append false l m = refl
+
+-- ---- what `put_rdata` promises
+-- the bounds of the place after RDATA
+pub with-ends : (s : List ℕ) (type at size : ℕ) {hex : Bool} {b b′ : List ℕ} {to : ℕ} {r : RdataEnd}
+    → PutsRdata hex s type at size b to b′ r → at + size ≤ length s → length s ≤ 65535
+    → PutsRdata hex s type at size b to b′ r × Ends hex r to size
+unfolding written
+with-ends s type at size {hex} {to = to} p h k = (
+  p,
+  subst (λ (x : RdataEnd). Ends hex x to size) (sym (p .answer))
+      (go hex (rdataAt true s type at size) (p .next) (p .wrote .place)),
+)
+  where
+    go : (hex : Bool) (w : Laid) (n : ℕ) → n ≡ to + length (written hex (rdataForm s type at size))
+        → Ends hex (endOf w n) to size
+    go false (laid d) n e = let j = rdata-short s type at size h in
+        (omega arith, omega arith, omega (arith, j .2 (omega arith)))
+    go true (laid d) n e = let j = rdata-short s type at size h in
+        let f = each-hex-length (rdataForm s type at size) in (omega arith, omega arith)
+    go false (misfit fault) n e = tt
+    go true (misfit fault) n e = tt
+
+pub octets-end : (r : RdataEnd) (size : ℕ) {to n : ℕ} → Ends false r to size → r ≡ To n
+    → (to ≤ n) × (n ≤ to + 255 * size) × (n ≤ to + 65535)
+octets-end r size h e = rw e at h
+
+pub digits-end : (r : RdataEnd) (size : ℕ) {to n : ℕ} → Ends true r to size → r ≡ To n
+    → (to ≤ n) × (n ≤ to + 2 * size + 1060)
+digits-end r size h e = rw e at h
+
+-- RDATA fits its layout exactly if a place is the answer, and then all of it was written
+module _ (s : List ℕ) (type at size : ℕ) {hex : Bool} {b b′ : List ℕ} {to : ℕ} {r : RdataEnd}
+    (p : PutsRdata hex s type at size b to b′ r) where
+  pub puts-laid : {n : ℕ} → r ≡ To n
+      → (d : List ℕ) × (rdataAt true s type at size ≡ laid d) × Wrote b to (written hex d) b′ n
+  puts-laid {n} q = go (rdataAt true s type at size) refl (sym q ∙ p .answer)
+    where
+      go : (w : Laid) → rdataAt true s type at size ≡ w → To n ≡ endOf w (p .next)
+          → (d : List ℕ) × (rdataAt true s type at size ≡ laid d) × Wrote b to (written hex d) b′ n
+      go (laid d) u v =
+          let e : p .next ≡ n = cc in
+          (d, u, rw (rdata-whole s type at size u, e) at (p .wrote))
+      go (misfit fault) u v = let z : _≡_ {A = ℕ} 0 1 = cc in absurd (omega arith)
+
+  pub puts-misfit : {f : FaultRead} → r ≡ Misfit f
+      → (fault : Fault) × (rdataAt true s type at size ≡ misfit fault) × (f ≡ faultOf fault)
+  puts-misfit {f} q = go (rdataAt true s type at size) refl (sym q ∙ p .answer)
+    where
+      go : (w : Laid) → rdataAt true s type at size ≡ w → Misfit f ≡ endOf w (p .next)
+          → (fault : Fault) × (rdataAt true s type at size ≡ misfit fault) × (f ≡ faultOf fault)
+      go (laid d) u v = let z : _≡_ {A = ℕ} 0 1 = cc in absurd (omega arith)
+      go (misfit fault) u v = (fault, u, cc)
