@@ -1,27 +1,77 @@
--- The form of RDATA is all of RDATA where it fits its layout, and how long the form can be.
+-- The form of RDATA: by steps, that it is all of RDATA where RDATA fits its layout, and how long it can be; and what a
+-- caller of `put_rdata` knows.
 use mathlib.Core.Path.{_≡_, refl, sym, ap, _∙_, subst}
 use mathlib.Core.Bool.{Bool, true, false, cond}
 use mathlib.Core.List.{List, [], _∷_, _++_}
-use Prim.Native.Nat.{ℕ, _+_, _*_, _≤_}
+use Prim.Native.Nat.{ℕ, _+_, _-_, _*_, _≤_}
 use native.Mathlib.Omega.{arith}
 use borrow.Author.Tests.{ltb-false}
 use lib.Dec.{ltb}
 use lib.ListN.{length, drop, length-append, length-take}
-use Rattle.octets.specs.Lists.{each}
+use lib.Seq.{drop-drop}
+use Rattle.octets.specs.Lists.{each, lookup}
 use Rattle.octets.specs.Hexadecimal.{hexOctet}
 use Rattle.octets.specs.Overlay.{Wrote, each-append}
 use Rattle.octets.proofs.Writing.{each-hex-length}
-use Rattle.names.specs.Name.{Name, nameForm, short, surplus, Fault}
-use Rattle.names.specs.Walk.{part, rdata, Named, named, faulty, nameAt}
+use Rattle.names.specs.Name.{nameForm, short, surplus, Fault}
+use Rattle.names.specs.Walk.{part, rdata, Named, named, faulty, walk, nameFrom, nameAt}
 use Rattle.names.specs.NameLaws.{read-sized}
 use Rattle.names.specs.Answer.{faultOf}
 use Rattle.names.specs.declared.Fault.{Fault as FaultRead}
-use Rattle.records.specs.Layout.{Piece, fixed, name, Laid, laid, misfit, before, pieces, rdataAt}
-use Rattle.records.specs.Parts.{layoutIn, rdata-pieces}
+use Rattle.records.specs.Layout.{Piece, fixed, name, layouts, layoutOf, Laid, laid, misfit, before, pieces, rdataAt}
+use Rattle.records.specs.Parts.{layoutIn, rdata-pieces, StepOf, part-to, name-to, done, stops, nameStep, stepAt}
+use Rattle.records.specs.Parts.{follow, pieces-step}
 use Rattle.records.proofs.Pieces.{breadth, layout-small}
-use Rattle.rdata.specs.Written.{piecesForm, rdataForm, written, endOf, PutsRdata, Ends}
+use Rattle.rdata.specs.Written.{piecesForm, rdataForm, written, endOf, PutsForm, PutsRdata, Ends}
 use Rattle.rdata.specs.declared.RdataEnd.{RdataEnd}
 use Rattle.rdata.specs.declared.RdataEnd.the-variants.{To, Misfit}
+
+-- ---- the form by steps
+-- what a step puts before the form of what comes after it
+abbrev pub formThen : List ℕ → ℕ → (ℕ → List ℕ) → StepOf → List ℕ
+formThen s at later (part-to next) = part s at (next - at) ++ later next
+formThen s at later (name-to n next) = nameForm n ++ later next
+formThen s at later done = []
+formThen s at later (stops fault) = []
+
+-- the form of the pieces is that of the step at the first of them, then that of the pieces after it
+form-step : (layout : List Piece) (s : List ℕ) (start end at : ℕ)
+    → piecesForm layout s start end at ≡ formThen s at (piecesForm (drop 1 layout) s start end)
+    (stepAt layout s start end at)
+unfolding piecesForm stepAt
+form-step [] s start end at = go (ltb at end)
+  where
+    go : (b : Bool) → [] ≡ formThen s at (piecesForm [] s start end)
+        (cond b (stops (record { kind = surplus; octet = at })) done)
+    go true = refl
+    go false = refl
+form-step (fixed n ∷ layout) s start end at = go (ltb end (at + n))
+  where
+    later : ℕ → List ℕ
+    later = piecesForm layout s start end
+
+    go : (b : Bool) → cond b [] (part s at n ++ later (at + n))
+        ≡ formThen s at later (cond b (stops (record { kind = short; octet = start })) (part-to (at + n)))
+    go true = refl
+    go false = let e : at + n - at ≡ n = omega arith in rw e
+form-step (name ∷ layout) s start end at = go (nameAt s (rdata start end) at)
+  where
+    later : ℕ → List ℕ
+    later = piecesForm layout s start end
+
+    go : (w : Named)
+        → (elim w as (λ x. List ℕ) [ named labels next ↦ nameForm labels ++ later next | faulty fault ↦ [] ])
+        ≡ formThen s at later (nameStep w)
+    go (named n next) = refl
+    go (faulty fault) = refl
+
+pub form-next : (s : List ℕ) (l : List Piece) (start end at i : ℕ) {x : StepOf} → stepAt (drop i l) s start end at ≡ x
+    → piecesForm (drop i l) s start end at ≡ formThen s at (piecesForm (drop (i + 1) l) s start end) x
+form-next s l start end at i q =
+    form-step (drop i l) s start end at
+    ∙ ap (λ (m : List Piece). formThen s at (piecesForm m s start end) (stepAt (drop i l) s start end at))
+    (drop-drop 1 i l)
+    ∙ ap (formThen s at (piecesForm (drop (i + 1) l) s start end)) q
 
 -- ---- RDATA that fits its layout
 -- the form is all of RDATA
@@ -33,6 +83,13 @@ whole-before : (xs : List ℕ) (w : Laid) (l : List ℕ) → Whole w l → Whole
 whole-before xs (laid d) l e = ap (λ (m : List ℕ). xs ++ m) e
 whole-before xs (misfit fault) l e = tt
 
+whole-step : (s : List ℕ) (at : ℕ) (f : ℕ → Laid) (g : ℕ → List ℕ) (x : StepOf) → ((n : ℕ) → Whole (f n) (g n))
+    → Whole (follow s at f x) (formThen s at g x)
+whole-step s at f g (part-to next) h = whole-before (part s at (next - at)) (f next) (g next) (h next)
+whole-step s at f g (name-to n next) h = whole-before (nameForm n) (f next) (g next) (h next)
+whole-step s at f g done h = refl
+whole-step s at f g (stops fault) h = tt
+
 pieces-whole : (layout : List Piece) (s : List ℕ) (start end at : ℕ)
     → Whole (pieces true layout s start end at) (piecesForm layout s start end at)
 unfolding pieces piecesForm
@@ -41,32 +98,13 @@ pieces-whole [] s start end at = go (ltb at end)
     go : (b : Bool) → Whole (cond b (misfit (record { kind = surplus; octet = at })) (laid [])) []
     go true = tt
     go false = refl
-pieces-whole (fixed n ∷ layout) s start end at =
-    go (ltb end (at + n)) _ _ (whole-before (part s at n) (pieces true layout s start end (at + n))
-    (piecesForm layout s start end (at + n)) (pieces-whole layout s start end (at + n)))
-  where
-    go : (b : Bool) (w : Laid) (l : List ℕ) → Whole w l
-        → Whole (cond b (misfit (record { kind = short; octet = start })) w) (cond b [] l)
-    go true w l h = tt
-    go false w l h = h
-pieces-whole (name ∷ layout) s start end at = go (nameAt s (rdata start end) at) λ n next.
-    whole-before (nameForm n) (pieces true layout s start end next) (piecesForm layout s start end next)
-    (pieces-whole layout s start end next)
-  where
-    go : (w : Named)
-        → ((n : Name) (next : ℕ) → Whole (before (nameForm n) (pieces true layout s start end next))
-        (nameForm n ++ piecesForm layout s start end next))
-        → Whole
-        (elim w as (λ x. Laid) [
-          | named labels next ↦ before (nameForm labels) (pieces true layout s start end next)
-          | faulty fault ↦ misfit fault
-        ])
-        (elim w as (λ x. List ℕ) [
-          | named labels next ↦ nameForm labels ++ piecesForm layout s start end next
-          | faulty fault ↦ []
-        ])
-    go (named n next) h = h n next
-    go (faulty fault) h = tt
+pieces-whole (p ∷ layout) s start end at =
+    subst (λ (w : Laid). Whole w (piecesForm (p ∷ layout) s start end at))
+    (sym (pieces-step (p ∷ layout) s start end at))
+    (subst (Whole (follow s at (pieces true layout s start end) (stepAt (p ∷ layout) s start end at)))
+    (sym (form-step (p ∷ layout) s start end at))
+    (whole-step s at (pieces true layout s start end) (piecesForm layout s start end)
+    (stepAt (p ∷ layout) s start end at) (pieces-whole layout s start end)))
 
 pub rdata-whole : (s : List ℕ) (type at size : ℕ) {d : List ℕ} → rdataAt true s type at size ≡ laid d
     → rdataForm s type at size ≡ d
@@ -74,6 +112,11 @@ unfolding rdataForm
 rdata-whole s type at size {d} e =
     subst (λ (w : Laid). Whole w (piecesForm (layoutIn type size) s at (at + size) at))
     (sym (rdata-pieces true s type at size) ∙ e) (pieces-whole (layoutIn type size) s at (at + size) at)
+
+-- an MX record's name with a length octet of 64: the two octets before it
+misfit-form : rdataForm (0 ∷ 10 ∷ 64 ∷ []) 15 0 3 ≡ 0 ∷ 10 ∷ []
+unfolding rdataForm piecesForm layoutIn layoutOf layouts lookup nameFrom walk
+misfit-form = refl
 
 -- ---- its length
 pieces-short : (layout : List Piece) (s : List ℕ) (start end at : ℕ) → end ≤ length s → at ≤ end
@@ -138,6 +181,13 @@ written-append true l m = each-append hexOctet l m
 written-append false l m = refl
 
 -- ---- what `put_rdata` promises
+-- it determines the buffer and the answer
+pub puts-determined : {hex : Bool} {w : Laid} {l b : List ℕ} {to : ℕ} {b₁ b₂ : List ℕ} {r₁ r₂ : RdataEnd}
+    → PutsForm hex w l b to b₁ r₁ → PutsForm hex w l b to b₂ r₂ → (b₁ ≡ b₂) × (r₁ ≡ r₂)
+puts-determined {w = w} p q =
+    let e : p .next ≡ q .next = p .wrote .place ∙ sym (q .wrote .place) in
+    (p .wrote .text ∙ sym (q .wrote .text), p .answer ∙ ap (endOf w) e ∙ sym (q .answer))
+
 -- the bounds of the place after RDATA
 pub with-ends : (s : List ℕ) (type at size : ℕ) {hex : Bool} {b b′ : List ℕ} {to : ℕ} {r : RdataEnd}
     → PutsRdata hex s type at size b to b′ r → at + size ≤ length s → length s ≤ 65535

@@ -1,77 +1,27 @@
 -- The loop over RDATA's pieces.
 use mathlib.Core.Path.{_≡_, refl, ap, _∙_}
-use mathlib.Core.Bool.{Bool, true, false, cond}
-use mathlib.Core.List.{List, [], _∷_, _++_}
+use mathlib.Core.Bool.{Bool, true, false}
+use mathlib.Core.List.{List, [], _++_}
 use Prim.Native.Nat.{ℕ, _+_, _-_, _*_, _^_, _≤_, _<_}
 use native.Mathlib.Omega.{arith}
-use lib.Dec.{ltb}
 use lib.ListN.{length, take, drop, length-take}
-use lib.Seq.{drop-drop}
 use Rattle.octets.specs.Lists.{each}
 use Rattle.octets.specs.Hexadecimal.{hexOctet}
 use Rattle.octets.specs.Overlay.{Wrote, then, nothing, same-long}
-use Rattle.names.specs.Name.{nameForm, short, surplus}
-use Rattle.names.specs.Walk.{part, rdata, Named, named, faulty, nameAt}
+use Rattle.names.specs.Name.{nameForm}
+use Rattle.names.specs.Walk.{part}
 use Rattle.names.specs.declared.Fault.{Fault as FaultRead}
-use Rattle.records.specs.Layout.{Piece, fixed, name, Laid, laid, misfit, before, pieces}
-use Rattle.records.specs.Parts.{layoutIn, rdata-pieces, StepOf, part-to, name-to, done, stops, nameStep, stepAt}
-use Rattle.records.specs.Parts.{follow}
+use Rattle.records.specs.Layout.{Laid, laid, misfit, before, pieces}
+use Rattle.records.specs.Parts.{layoutIn, rdata-pieces, StepOf, stepAt, follow}
 use Rattle.records.specs.Answer.{stepRead, Steps}
 use Rattle.records.proofs.Pieces.{part-within, name-within}
 use Rattle.records.proofs.Told.{form-part, tells, pieces-next}
 use Rattle.records.specs.declared.Step.the-variants as step
 use Rattle.records.specs.declared.Stepped.{Stepped}
 use Rattle.rdata.specs.Written.{piecesForm, rdataForm, written, endOf, PutsForm, PutsRdata}
-use Rattle.rdata.proofs.FormLaws.{written-none, written-append}
+use Rattle.rdata.proofs.FormLaws.{formThen, form-next, written-none, written-append}
 use Rattle.rdata.specs.declared.RdataEnd.{RdataEnd}
 use Rattle.rdata.specs.declared.RdataEnd.the-variants.{To, Misfit}
-
--- ---- the form by steps
--- what a step puts before the form of what comes after it
-abbrev formThen : List ℕ → ℕ → (ℕ → List ℕ) → StepOf → List ℕ
-formThen s at later (part-to next) = part s at (next - at) ++ later next
-formThen s at later (name-to n next) = nameForm n ++ later next
-formThen s at later done = []
-formThen s at later (stops fault) = []
-
--- the form of the pieces is that of the step at the first of them, then that of the pieces after it
-form-step : (layout : List Piece) (s : List ℕ) (start end at : ℕ)
-    → piecesForm layout s start end at ≡ formThen s at (piecesForm (drop 1 layout) s start end)
-    (stepAt layout s start end at)
-unfolding piecesForm stepAt
-form-step [] s start end at = go (ltb at end)
-  where
-    go : (b : Bool) → [] ≡ formThen s at (piecesForm [] s start end)
-        (cond b (stops (record { kind = surplus; octet = at })) done)
-    go true = refl
-    go false = refl
-form-step (fixed n ∷ layout) s start end at = go (ltb end (at + n))
-  where
-    later : ℕ → List ℕ
-    later = piecesForm layout s start end
-
-    go : (b : Bool) → cond b [] (part s at n ++ later (at + n))
-        ≡ formThen s at later (cond b (stops (record { kind = short; octet = start })) (part-to (at + n)))
-    go true = refl
-    go false = let e : at + n - at ≡ n = omega arith in rw e
-form-step (name ∷ layout) s start end at = go (nameAt s (rdata start end) at)
-  where
-    later : ℕ → List ℕ
-    later = piecesForm layout s start end
-
-    go : (w : Named)
-        → (elim w as (λ x. List ℕ) [ named labels next ↦ nameForm labels ++ later next | faulty fault ↦ [] ])
-        ≡ formThen s at later (nameStep w)
-    go (named n next) = refl
-    go (faulty fault) = refl
-
-form-next : (s : List ℕ) (l : List Piece) (start end at i : ℕ) {x : StepOf} → stepAt (drop i l) s start end at ≡ x
-    → piecesForm (drop i l) s start end at ≡ formThen s at (piecesForm (drop (i + 1) l) s start end) x
-form-next s l start end at i q =
-    form-step (drop i l) s start end at
-    ∙ ap (λ (m : List Piece). formThen s at (piecesForm m s start end) (stepAt (drop i l) s start end at))
-    (drop-drop 1 i l)
-    ∙ ap (formThen s at (piecesForm (drop (i + 1) l) s start end)) q
 
 -- ---- a piece
 pub wrote-digits : (l : List ℕ) {hex : Bool} {b b′ : List ℕ} {to r : ℕ} → hex ≡ true → Wrote b to (each hexOctet l) b′ r
