@@ -25,7 +25,7 @@ use Rattle.records.specs.declared.QuestionRead.{QuestionRead}
 use Rattle.records.specs.declared.Head.{Head}
 use Rattle.records.specs.declared.Record.the-variants as record′
 use Rattle.records.specs.declared.RecordRead.{RecordRead}
-use Rattle.rdata.specs.Written.{written, PutsRdata}
+use Rattle.rdata.specs.Written.{digitsIf, PutsRdata}
 use Rattle.rdata.proofs.FormLaws.{puts-laid, puts-misfit}
 use Rattle.rdata.specs.declared.RdataEnd.{RdataEnd}
 use Rattle.rdata.specs.declared.RdataEnd.the-variants as rdataEnd
@@ -147,7 +147,7 @@ module _ (s : List ℕ) (at : ℕ) {r : RecordRead} (e : r ≡ recordRead (recor
         → PutsRdata false s (h .kind) (h .rdata) (h .rdlength) b₂ (n₂ + 2) b₃ w → w ≡ rdataEnd.To n₃
         → Wrote b₃ n₂ (two (n₃ - (n₂ + 2))) b₄ n₄
         → Puts (partAt true s at) b to b₄ (gone.To (h .rdata + h .rdlength) n₃ (h .kind))
-    unfolding written
+    unfolding digitsIf
     record-puts {b₁} {b₃} {b₄} {n₁} {n₃} {n₄} x y m q z =
         let (d, o, i) = puts-laid s (h .kind) (h .rdata) (h .rdlength) m q in
         go d (headed (recordHeadAt s at) e p) x y o i

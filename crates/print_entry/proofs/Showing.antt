@@ -26,7 +26,7 @@ use Rattle.records.proofs.Told.{form-part, headed}
 use Rattle.records.specs.declared.Head.{Head}
 use Rattle.records.specs.declared.Record.the-variants as record′
 use Rattle.records.specs.declared.RecordRead.{RecordRead}
-use Rattle.rdata.specs.Written.{written, PutsRdata}
+use Rattle.rdata.specs.Written.{digitsIf, PutsRdata}
 use Rattle.rdata.proofs.FormLaws.{puts-laid, puts-misfit}
 use Rattle.rdata.specs.declared.RdataEnd.{RdataEnd}
 use Rattle.rdata.specs.declared.RdataEnd.the-variants.{To, Misfit}
@@ -63,7 +63,7 @@ module _ (s form : List ℕ) (h : Head) {b₁ b₂ : List ℕ} {n₁ : ℕ} {r :
   pub ordinary-prints : {b b₃ : List ℕ} {to n₂ n₃ : ℕ}
       → Wrote b to (fieldsText form (h .kind) (h .class) (h .ttl)) b₁ n₁ → r ≡ To n₂
       → Wrote b₂ n₂ (34 ∷ 125 ∷ []) b₃ n₃ → Prints (ordinaryText s form h) b to b₃ (h .rdata + h .rdlength) n₃
-  unfolding ordinaryText rdataText written
+  unfolding ordinaryText rdataText digitsIf
   ordinary-prints p e v =
       let fields = fieldsText form (h .kind) (h .class) (h .ttl) in
       let (d, u, w) = puts-laid s (h .kind) (h .rdata) (h .rdlength) q e in

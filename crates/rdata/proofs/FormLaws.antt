@@ -22,7 +22,7 @@ use Rattle.records.specs.Layout.{Piece, fixed, name, layouts, layoutOf, Laid, l
 use Rattle.records.specs.Parts.{layoutIn, rdata-pieces, StepOf, part-to, name-to, done, stops, nameStep, stepAt}
 use Rattle.records.specs.Parts.{follow, pieces-step}
 use Rattle.records.proofs.Pieces.{breadth, layout-small}
-use Rattle.rdata.specs.Written.{piecesForm, rdataForm, written, endOf, PutsForm, PutsRdata, Ends}
+use Rattle.rdata.specs.Written.{piecesForm, rdataForm, digitsIf, rdataEndOf, PutsForm, PutsRdata, Ends}
 use Rattle.rdata.specs.declared.RdataEnd.{RdataEnd}
 use Rattle.rdata.specs.declared.RdataEnd.the-variants.{To, Misfit}
 
@@ -170,15 +170,15 @@ rdata-short s type at size h =
     (omega arith, omega arith, λ i. omega (arith, j .2 i))
 
 -- ---- octets and digits
-pub written-none : (hex : Bool) → written hex [] ≡ []
-unfolding written each
-written-none true = refl
-written-none false = refl
+pub digitsIf-none : (hex : Bool) → digitsIf hex [] ≡ []
+unfolding digitsIf each
+digitsIf-none true = refl
+digitsIf-none false = refl
 
-pub written-append : (hex : Bool) (l m : List ℕ) → written hex (l ++ m) ≡ written hex l ++ written hex m
-unfolding written
-written-append true l m = each-append hexOctet l m
-written-append false l m = refl
+pub digitsIf-append : (hex : Bool) (l m : List ℕ) → digitsIf hex (l ++ m) ≡ digitsIf hex l ++ digitsIf hex m
+unfolding digitsIf
+digitsIf-append true l m = each-append hexOctet l m
+digitsIf-append false l m = refl
 
 -- ---- what `put_rdata` promises
 -- it determines the buffer and the answer
@@ -186,21 +186,21 @@ pub puts-determined : {hex : Bool} {w : Laid} {l b : List ℕ} {to : ℕ} {b₁ 
     → PutsForm hex w l b to b₁ r₁ → PutsForm hex w l b to b₂ r₂ → (b₁ ≡ b₂) × (r₁ ≡ r₂)
 puts-determined {w = w} p q =
     let e : p .next ≡ q .next = p .wrote .place ∙ sym (q .wrote .place) in
-    (p .wrote .text ∙ sym (q .wrote .text), p .answer ∙ ap (endOf w) e ∙ sym (q .answer))
+    (p .wrote .text ∙ sym (q .wrote .text), p .answer ∙ ap (rdataEndOf w) e ∙ sym (q .answer))
 
 -- the bounds of the place after RDATA
 pub with-ends : (s : List ℕ) (type at size : ℕ) {hex : Bool} {b b′ : List ℕ} {to : ℕ} {r : RdataEnd}
     → PutsRdata hex s type at size b to b′ r → at + size ≤ length s → length s ≤ 65535
     → PutsRdata hex s type at size b to b′ r × Ends hex r to size
-unfolding written
+unfolding digitsIf
 with-ends s type at size {hex} {to = to} p h k = (
   p,
   subst (λ (x : RdataEnd). Ends hex x to size) (sym (p .answer))
       (go hex (rdataAt true s type at size) (p .next) (p .wrote .place)),
 )
   where
-    go : (hex : Bool) (w : Laid) (n : ℕ) → n ≡ to + length (written hex (rdataForm s type at size))
-        → Ends hex (endOf w n) to size
+    go : (hex : Bool) (w : Laid) (n : ℕ) → n ≡ to + length (digitsIf hex (rdataForm s type at size))
+        → Ends hex (rdataEndOf w n) to size
     go false (laid d) n e = let j = rdata-short s type at size h in
         (omega arith, omega arith, omega (arith, j .2 (omega arith)))
     go true (laid d) n e = let j = rdata-short s type at size h in
@@ -208,23 +208,23 @@ with-ends s type at size {hex} {to = to} p h k = (
     go false (misfit fault) n e = tt
     go true (misfit fault) n e = tt
 
-pub octets-end : (r : RdataEnd) (size : ℕ) {to n : ℕ} → Ends false r to size → r ≡ To n
+pub rdata-octets-end : (r : RdataEnd) (size : ℕ) {to n : ℕ} → Ends false r to size → r ≡ To n
     → (to ≤ n) × (n ≤ to + 255 * size) × (n ≤ to + 65535)
-octets-end r size h e = rw e at h
+rdata-octets-end r size h e = rw e at h
 
-pub digits-end : (r : RdataEnd) (size : ℕ) {to n : ℕ} → Ends true r to size → r ≡ To n
+pub rdata-digits-end : (r : RdataEnd) (size : ℕ) {to n : ℕ} → Ends true r to size → r ≡ To n
     → (to ≤ n) × (n ≤ to + 2 * size + 1060)
-digits-end r size h e = rw e at h
+rdata-digits-end r size h e = rw e at h
 
 -- RDATA fits its layout exactly if a place is the answer, and then all of it was written
 module _ (s : List ℕ) (type at size : ℕ) {hex : Bool} {b b′ : List ℕ} {to : ℕ} {r : RdataEnd}
     (p : PutsRdata hex s type at size b to b′ r) where
   pub puts-laid : {n : ℕ} → r ≡ To n
-      → (d : List ℕ) × (rdataAt true s type at size ≡ laid d) × Wrote b to (written hex d) b′ n
+      → (d : List ℕ) × (rdataAt true s type at size ≡ laid d) × Wrote b to (digitsIf hex d) b′ n
   puts-laid {n} q = go (rdataAt true s type at size) refl (sym q ∙ p .answer)
     where
-      go : (w : Laid) → rdataAt true s type at size ≡ w → To n ≡ endOf w (p .next)
-          → (d : List ℕ) × (rdataAt true s type at size ≡ laid d) × Wrote b to (written hex d) b′ n
+      go : (w : Laid) → rdataAt true s type at size ≡ w → To n ≡ rdataEndOf w (p .next)
+          → (d : List ℕ) × (rdataAt true s type at size ≡ laid d) × Wrote b to (digitsIf hex d) b′ n
       go (laid d) u v =
           let e : p .next ≡ n = cc in
           (d, u, rw (rdata-whole s type at size u, e) at (p .wrote))
@@ -234,7 +234,7 @@ module _ (s : List ℕ) (type at size : ℕ) {hex : Bool} {b b′ : List ℕ} {t
       → (fault : Fault) × (rdataAt true s type at size ≡ misfit fault) × (f ≡ faultOf fault)
   puts-misfit {f} q = go (rdataAt true s type at size) refl (sym q ∙ p .answer)
     where
-      go : (w : Laid) → rdataAt true s type at size ≡ w → Misfit f ≡ endOf w (p .next)
+      go : (w : Laid) → rdataAt true s type at size ≡ w → Misfit f ≡ rdataEndOf w (p .next)
           → (fault : Fault) × (rdataAt true s type at size ≡ misfit fault) × (f ≡ faultOf fault)
       go (laid d) u v = let z : _≡_ {A = ℕ} 0 1 = cc in absurd (omega arith)
       go (misfit fault) u v = (fault, u, cc)

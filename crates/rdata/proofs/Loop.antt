@@ -18,40 +18,40 @@ use Rattle.records.proofs.Pieces.{part-within, name-within}
 use Rattle.records.proofs.Told.{form-part, tells, pieces-next}
 use Rattle.records.specs.declared.Step.the-variants as step
 use Rattle.records.specs.declared.Stepped.{Stepped}
-use Rattle.rdata.specs.Written.{piecesForm, rdataForm, written, endOf, PutsForm, PutsRdata}
-use Rattle.rdata.proofs.FormLaws.{formThen, form-next, written-none, written-append}
+use Rattle.rdata.specs.Written.{piecesForm, rdataForm, digitsIf, rdataEndOf, PutsForm, PutsRdata}
+use Rattle.rdata.proofs.FormLaws.{formThen, form-next, digitsIf-none, digitsIf-append}
 use Rattle.rdata.specs.declared.RdataEnd.{RdataEnd}
 use Rattle.rdata.specs.declared.RdataEnd.the-variants.{To, Misfit}
 
 -- ---- a piece
-pub wrote-digits : (l : List ℕ) {hex : Bool} {b b′ : List ℕ} {to r : ℕ} → hex ≡ true → Wrote b to (each hexOctet l) b′ r
-    → Wrote b to (written hex l) b′ r
-unfolding written
-wrote-digits l e p = rw e p
+pub wrote-piece-digits : (l : List ℕ) {hex : Bool} {b b′ : List ℕ} {to r : ℕ} → hex ≡ true
+    → Wrote b to (each hexOctet l) b′ r → Wrote b to (digitsIf hex l) b′ r
+unfolding digitsIf
+wrote-piece-digits l e p = rw e p
 
-pub wrote-octets : {hex : Bool} {l b b′ : List ℕ} {to r : ℕ} → hex ≡ false → Wrote b to l b′ r
-    → Wrote b to (written hex l) b′ r
-unfolding written
-wrote-octets e p = rw e p
+pub wrote-piece-octets : {hex : Bool} {l b b′ : List ℕ} {to r : ℕ} → hex ≡ false → Wrote b to l b′ r
+    → Wrote b to (digitsIf hex l) b′ r
+unfolding digitsIf
+wrote-piece-octets e p = rw e p
 
 -- ---- the loop
 -- octets were written before the rest
 puts-before : (w : Laid) (xs : List ℕ) {hex : Bool} {l b b₁ b₂ : List ℕ} {to n : ℕ} {r : RdataEnd}
-    → Wrote b to (written hex xs) b₁ n → PutsForm hex w l b₁ n b₂ r → PutsForm hex (before xs w) (xs ++ l) b to b₂ r
+    → Wrote b to (digitsIf hex xs) b₁ n → PutsForm hex w l b₁ n b₂ r → PutsForm hex (before xs w) (xs ++ l) b to b₂ r
 puts-before w xs {hex} {l} p q =
     record {
       next = q .next;
-      wrote = rw (written-append hex xs l) (then p (q .wrote));
+      wrote = rw (digitsIf-append hex xs l) (then p (q .wrote));
       answer = q .answer ∙ go w;
     }
   where
-    go : (w : Laid) → endOf w (q .next) ≡ endOf (before xs w) (q .next)
+    go : (w : Laid) → rdataEndOf w (q .next) ≡ rdataEndOf (before xs w) (q .next)
     go (laid d) = refl
     go (misfit fault) = refl
 
 -- nothing was written
-puts-none : {hex : Bool} {w : Laid} {b : List ℕ} {to : ℕ} {r : RdataEnd} → r ≡ endOf w to → PutsForm hex w [] b to b r
-puts-none {hex} {b = b} {to = to} e = record { next = to; wrote = rw (written-none hex) (nothing b to); answer = e }
+puts-none : {hex : Bool} {w : Laid} {b : List ℕ} {to : ℕ} {r : RdataEnd} → r ≡ rdataEndOf w to → PutsForm hex w [] b to b r
+puts-none {hex} {b = b} {to = to} e = record { next = to; wrote = rw (digitsIf-none hex) (nothing b to); answer = e }
 
 -- RDATA from the i-th piece on, and its form
 abbrev piecesAt : List ℕ → ℕ → ℕ → ℕ → ℕ → ℕ → Laid
@@ -117,7 +117,7 @@ module _ {hex : Bool} {s : List ℕ} {kind start size : ℕ} {b₀ : List ℕ} {
       → stepAt (drop i (layoutIn kind size)) s start (start + size) at ≡ x
       → ((later : ℕ → Laid) → follow s at later x ≡ before xs (later n))
       → ((later : ℕ → List ℕ) → formThen s at later x ≡ xs ++ later n)
-      → (i < 3) × (n ≤ start + size) × (n₁ ≤ 2 ^ 37 + 510 * (i + 1) + 2 * n) → Wrote b next (written hex xs) b₁ n₁
+      → (i < 3) × (n ≤ start + size) × (n₁ ≤ 2 ^ 37 + 510 * (i + 1) + 2 * n) → Wrote b next (digitsIf hex xs) b₁ n₁
       → RdataLoop hex s kind start size b₀ to (i + 1) n b₁ n₁
   onward xs q f g (h, k, j) p =
       record {
@@ -143,7 +143,7 @@ module _ {hex : Bool} {s : List ℕ} {kind start size : ℕ} {b₀ : List ℕ} {
       pub room-part : next + 2 * length (part s at (n - at)) < 2 ^ 40
       room-part = let k = part-within _ h q in let j = length-take (n - at) (drop at s) in omega arith
 
-      pub loop-part : {b₁ : List ℕ} {n₁ : ℕ} → Wrote b next (written hex (part s at (n - at))) b₁ n₁
+      pub loop-part : {b₁ : List ℕ} {n₁ : ℕ} → Wrote b next (digitsIf hex (part s at (n - at))) b₁ n₁
           → n₁ ≤ next + 2 * length (part s at (n - at)) → RdataLoop hex s kind start size b₀ to (i + 1) n b₁ n₁
       loop-part p z =
           let k = part-within _ h q in
@@ -155,7 +155,7 @@ module _ {hex : Bool} {s : List ℕ} {kind start size : ℕ} {b₀ : List ℕ} {
       pub room-name : next + 2 * length (take (long - 0) (r .octets)) < 2 ^ 40
       room-name = let k = name-within _ h q in let j = length-take (long - 0) (r .octets) in omega arith
 
-      pub loop-name : {b₁ : List ℕ} {n₁ : ℕ} → Wrote b next (written hex (take (long - 0) (r .octets))) b₁ n₁
+      pub loop-name : {b₁ : List ℕ} {n₁ : ℕ} → Wrote b next (digitsIf hex (take (long - 0) (r .octets))) b₁ n₁
           → n₁ ≤ next + 2 * length (take (long - 0) (r .octets))
           → RdataLoop hex s kind start size b₀ to (i + 1) n b₁ n₁
       loop-name {b₁} {n₁} p z =

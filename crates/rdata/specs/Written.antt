@@ -33,20 +33,20 @@ unfoldable pub rdataForm : List ℕ → ℕ → ℕ → ℕ → List ℕ
 rdataForm s type at size = piecesForm (layoutIn type size) s at (at + size) at
 
 -- octets as they are, or in hexadecimal
-unfoldable pub written : Bool → List ℕ → List ℕ
-written hex l = cond hex (each hexOctet l) l
+unfoldable pub digitsIf : Bool → List ℕ → List ℕ
+digitsIf hex l = cond hex (each hexOctet l) l
 
 -- ---- what `put_rdata` does
 -- the place after RDATA if it fits its layout, else its fault
-abbrev pub endOf : Laid → ℕ → RdataEnd
-endOf (laid d) next = To next
-endOf (misfit fault) next = Misfit (faultOf fault)
+abbrev pub rdataEndOf : Laid → ℕ → RdataEnd
+rdataEndOf (laid d) next = To next
+rdataEndOf (misfit fault) next = Misfit (faultOf fault)
 
 -- from the buffer b and the place `to` a writer put the form l, left b′ and answered by w
 pub record PutsForm (hex : Bool) (w : Laid) (l b : List ℕ) (to : ℕ) (b′ : List ℕ) (r : RdataEnd) : Type 0 where
   pub next : ℕ
-  pub wrote : Wrote b to (written hex l) b′ next
-  pub answer : r ≡ endOf w next
+  pub wrote : Wrote b to (digitsIf hex l) b′ next
+  pub answer : r ≡ rdataEndOf w next
 
 -- RDATA's form, up to its first fault, and the answer by RDATA: `PutsRdata hex s type at size b to b′ r`
 abbrev pub PutsRdata : Bool → List ℕ → ℕ → ℕ → ℕ → List ℕ → ℕ → List ℕ → RdataEnd → Type 0

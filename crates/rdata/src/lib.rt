@@ -8,7 +8,7 @@ use records::rdata_step;
 ghost use Prim.Native.Nat.{_+_, _*_, _^_, _≤_, _<_};
 ghost use lib.ListN.{length};
 ghost use Rattle.octets.specs.Overlay.{Wrote};
-ghost use Rattle.rdata.specs.Written.{written, PutsRdata, Ends};
+ghost use Rattle.rdata.specs.Written.{digitsIf, PutsRdata, Ends};
 
 // The place after RDATA, or RDATA's fault.
 pub enum RdataEnd {
@@ -19,7 +19,7 @@ pub enum RdataEnd {
 // Writes octets as they are, or each as two hexadecimal digits.
 fn put_piece(out: &mut [u8], to: usize, hex: bool, octets: &[u8]) -> usize
     requires { ⌜ to + 2 * length (now octets) < 2 ^ 40 ⌝ }
-    ensures { λ r. ⌜ Wrote (now (out .entry)) to (written hex (now (octets .entry))) (now (out .exit)) r ⌝ }
+    ensures { λ r. ⌜ Wrote (now (out .entry)) to (digitsIf hex (now (octets .entry))) (now (out .exit)) r ⌝ }
     ensures { λ r. ⌜ r ≤ to + 2 * length (now (octets .entry)) ⌝ }
 {
     if hex {

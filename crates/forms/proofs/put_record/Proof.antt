@@ -2,7 +2,7 @@
 use borrow.Author.Needs.{needs}
 use native.Mathlib.Omega.{arith}
 use Rattle.records.proofs.Told.{heads-within, record-room}
-use Rattle.rdata.proofs.FormLaws.{octets-end}
+use Rattle.rdata.proofs.FormLaws.{rdata-octets-end}
 use Rattle.forms.specs.Putting.{record-faults, record-misses, record-puts, named-within}
 use Rattle.forms.specs.Putting.{part-short}
 use Rattle.forms.proofs.put_record.Statement.{statement}
@@ -71,12 +71,12 @@ enum-known-end : tie.Need-enum-known-end
 enum-known-end c = search needs
 
 sub-put-two : tie.Need-sub-put-two
-sub-put-two c = let l = octets-end _ _ (c .before .before .before .before .before .before .put-rdata .ensures .1)
+sub-put-two c = let l = rdata-octets-end _ _ (c .before .before .before .before .before .before .put-rdata .ensures .1)
     (c .before .before .end .given .1) in
     omega arith
 
 cast-put-two : tie.Need-cast-put-two
-cast-put-two c = let l = octets-end _ _ (c .before .before .before .before .before .before .put-rdata .ensures .1)
+cast-put-two c = let l = rdata-octets-end _ _ (c .before .before .before .before .before .before .put-rdata .ensures .1)
     (c .before .before .end .given .1) in
     omega arith
 
@@ -89,7 +89,7 @@ put-two-requires c κs =
     let n = named-within (m .answer2 .given .0 .0 .size) (m .before .before .before .head-at .result .name)
     (j .args .to) (c .before .before .before .before .before .before .before .before .before .before .before .before
     .before .before .put-named .ensures .1) (k .0) in
-    let l = octets-end _ _ (c .before .before .before .before .before .before .put-rdata .ensures .1)
+    let l = rdata-octets-end _ _ (c .before .before .before .before .before .before .put-rdata .ensures .1)
     (c .before .before .end .given .1) in
     omega (
       arith,
@@ -143,7 +143,7 @@ returns-3 c =
     let k = heads-within _ (j .args .at) (head .head-at .ensures .1) (m .answer2 .given .1) in
     let n = named-within (m .answer2 .given .0 .0 .size) (head .head-at .result .name) (j .args .to)
     (named .put-named .ensures .1) (k .0) in
-    let l = octets-end _ _ (rdata .put-rdata .ensures .1) (end .end .given .1) in (
+    let l = rdata-octets-end _ _ (rdata .put-rdata .ensures .1) (end .end .given .1) in (
       record-puts (j .args .s .now) (j .args .at) (head .head-at .ensures .0) (m .answer2 .given .1)
           (named .put-named .ensures .0) (four .put-four .ensures) (rdata .put-rdata .ensures .0) (end .end .given .1)
           (two .put-two .ensures),

@@ -1,7 +1,7 @@
 -- `print_entry::put_ordinary` meets its contract: the fields, RDATA, the quote and the brace; there is no fault.
 use native.Mathlib.Omega.{arith}
 use borrow.Author.Needs.{needs}
-use Rattle.rdata.proofs.FormLaws.{digits-end}
+use Rattle.rdata.proofs.FormLaws.{rdata-digits-end}
 use Rattle.print_entry.proofs.Showing.{ordinary-faultless, ordinary-prints}
 use Rattle.print_entry.proofs.put_ordinary.Statement.{statement}
 use Rattle.print_entry.proofs.put_ordinary.Tie as tie
@@ -31,7 +31,7 @@ put-all-requires : tie.Need-put-all-requires
 put-all-requires c κs =
     let told = c .before .before .before in
     let rdata = told .before .before .before .before in
-    let k = digits-end _ _ (rdata .put-rdata .ensures .1) (told .rdata .given .1) in
+    let k = rdata-digits-end _ _ (rdata .put-rdata .ensures .1) (told .rdata .given .1) in
     search needs
 
 same-length-2 : tie.Need-same-length-2
@@ -42,7 +42,7 @@ returns-2 c =
     let written = c .before .before in
     let told = written .before .before .before .before in
     let rdata = told .before .before .before .before in
-    let k = digits-end _ _ (rdata .put-rdata .ensures .1) (told .rdata .given .1) in
+    let k = rdata-digits-end _ _ (rdata .put-rdata .ensures .1) (told .rdata .given .1) in
     (search (ordinary-prints, needs), omega (arith, written .put-all .ensures .place))
 
 pub put-ordinary-spec : {M : Type 1} → statement M
