@@ -50,7 +50,8 @@ puts-before w xs {hex} {l} p q =
     go (misfit fault) = refl
 
 -- nothing was written
-puts-none : {hex : Bool} {w : Laid} {b : List ℕ} {to : ℕ} {r : RdataEnd} → r ≡ rdataEndOf w to → PutsForm hex w [] b to b r
+puts-none : {hex : Bool} {w : Laid} {b : List ℕ} {to : ℕ} {r : RdataEnd} → r ≡ rdataEndOf w to
+    → PutsForm hex w [] b to b r
 puts-none {hex} {b = b} {to = to} e = record { next = to; wrote = rw (digitsIf-none hex) (nothing b to); answer = e }
 
 -- RDATA from the i-th piece on, and its form
