@@ -1,161 +1,38 @@
 -- What the writers of the uncompressed form do: RDATA, entries, sections, the message.
 use mathlib.Core.Path.{_≡_, refl, sym, ap, _∙_, subst}
 use mathlib.Core.Bool.{Bool, true, false, cond}
-use mathlib.Core.List.{List, [], _∷_, _++_, append-assoc}
+use mathlib.Core.List.{List, [], _++_, append-assoc}
 use Prim.Native.Nat.{ℕ, zero, suc, _+_, _-_, _*_, _≤_, _<_}
 use native.Mathlib.Omega.{arith}
 use borrow.Author.Tests.{ne-eqb}
 use lib.Dec.{eqb}
-use lib.ListN.{length, take, drop, length-append, length-take}
+use lib.ListN.{length, take, length-take}
 use Rattle.octets.specs.Fields.{two, four, twoAt}
 use Rattle.octets.specs.Overlay.{Wrote, then, nothing}
 use Rattle.octets.specs.Overlay as overlay
-use Rattle.names.specs.Name.{Name, nameForm, Fault}
-use Rattle.names.specs.Walk.{part}
+use Rattle.names.specs.Name.{nameForm, Fault}
 use Rattle.names.specs.Answer.{faultOf}
 use Rattle.names.specs.declared.Fault.{Fault as FaultRead}
-use Rattle.records.specs.Layout.{Piece, fixed, name, laid, misfit, before, pieces, rdataAt}
-use Rattle.records.specs.Layout as layout
+use Rattle.records.specs.Layout.{Laid, laid, misfit, rdataAt}
 use Rattle.records.specs.Message.{Question, Record, questionForm, recordForm}
 use Rattle.records.specs.Read.{Entry, entry, bad, filled, questionAt, recordAt}
-use Rattle.records.specs.RecordLaws.{Fills, pieces-fill}
-use Rattle.records.specs.Parts.{HeadOf, recordHeadAt, withRdata, with-rdata, record-head, head-next, layoutIn}
-use Rattle.records.specs.Parts.{rdata-pieces, stepAt}
-use Rattle.records.specs.Answer.{padded, askedOf, questionRead, Asks, headRead, recordRead, Heads, stepRead}
-use Rattle.records.proofs.Pieces.{breadth, layout-small}
-use Rattle.records.proofs.Told.{form-part, asked, headed, tells, pieces-next}
+use Rattle.records.specs.Parts.{HeadOf, recordHeadAt, withRdata, with-rdata, record-head, head-next}
+use Rattle.records.specs.Answer.{padded, askedOf, questionRead, headRead, recordRead}
+use Rattle.records.proofs.Told.{form-part, asked, headed}
 use Rattle.records.specs.declared.Asked.{Asked}
-use Rattle.records.specs.declared.Question.{Question as QuestionAnswer}
 use Rattle.records.specs.declared.Question.the-variants as question
 use Rattle.records.specs.declared.QuestionRead.{QuestionRead}
 use Rattle.records.specs.declared.Head.{Head}
-use Rattle.records.specs.declared.Record.{Record as RecordAnswer}
 use Rattle.records.specs.declared.Record.the-variants as record′
 use Rattle.records.specs.declared.RecordRead.{RecordRead}
-use Rattle.forms.specs.declared.Laid.{Laid}
-use Rattle.forms.specs.declared.Laid.the-variants as laying
+use Rattle.rdata.specs.Written.{digitsIf, PutsRdata}
+use Rattle.rdata.proofs.FormLaws.{puts-laid, puts-misfit}
+use Rattle.rdata.specs.declared.RdataEnd.{RdataEnd}
+use Rattle.rdata.specs.declared.RdataEnd.the-variants as rdataEnd
 use Rattle.forms.specs.declared.Gone.{Gone}
 use Rattle.forms.specs.declared.Gone.the-variants as gone
 use Rattle.forms.specs.declared.Came.{Came}
 use Rattle.forms.specs.declared.Came.the-variants as came
-use Rattle.records.specs.declared.Step.the-variants as step
-use Rattle.records.specs.declared.Stepped.{Stepped}
-
--- ---- RDATA
--- from the buffer b and the place `to` a writer left b′ and answered; of a fault nothing is said of b′
-pub data Lays : layout.Laid → List ℕ → ℕ → List ℕ → Laid → Type 0 where
-  lays : {d b b′ : List ℕ} {to r : ℕ} → Wrote b to d b′ r → Lays (laid d) b to b′ (laying.To r)
-  misses : {fault : Fault} {b b′ : List ℕ} {to : ℕ} → Lays (misfit fault) b to b′ (laying.Misfit (faultOf fault))
-
--- the next place, not past `most`, after at most 65,535 octets
-abbrev pub Laying : Laid → ℕ → ℕ → Type 0
-Laying (laying.To r) to most = (r ≤ most) × (to ≤ r) × (r ≤ to + 65535)
-Laying (laying.Misfit fault) to most = Unit {0}
-
--- octets before those that follow
-lays-before : {w : layout.Laid} {b b₁ b₂ xs : List ℕ} {to n : ℕ} {r : Laid} → Wrote b to xs b₁ n → Lays w b₁ n b₂ r
-    → Lays (before xs w) b to b₂ r
-lays-before p (lays q) = lays (then p q)
-lays-before p misses = misses
-
--- to lay w from here is to lay the whole from the start
-pub record RdataLoop (w whole : layout.Laid) (b₀ : List ℕ) (to : ℕ) (b : List ℕ) (next : ℕ) : Type 0 where
-  pub goes : (b′ : List ℕ) (r : Laid) → Lays w b next b′ r → Lays whole b₀ to b′ r
-
-pub rest-start : (w : layout.Laid) (b : List ℕ) (to : ℕ) → RdataLoop w w b to b to
-rest-start w b to = record { goes = λ b′ r d. d }
-
--- what is laid from the i-th piece on
-abbrev pub restAt : List ℕ → List Piece → ℕ → ℕ → ℕ → ℕ → layout.Laid
-restAt s l start end at i = pieces true (drop i l) s start end at
-
--- the whole of RDATA, from the first piece on
-pub rest-first : (s : List ℕ) (kind start size : ℕ) (b : List ℕ) (to : ℕ)
-    → RdataLoop (restAt s (layoutIn kind size) start (start + size) start 0) (rdataAt true s kind start size) b to b to
-rest-first s kind start size b to =
-    record {
-      goes = λ b′ r d. subst (λ (w : layout.Laid). Lays w b to b′ r)
-          (sym (rdata-pieces true s kind start size)) d;
-    }
-
-module _ (s : List ℕ) (l : List Piece) (start end at i : ℕ) {whole : layout.Laid} {b₀ b : List ℕ} {to next : ℕ}
-    {r : Stepped}
-    (w : RdataLoop (restAt s l start end at i) whole b₀ to b next)
-    (e : r ≡ stepRead (stepAt (drop i l) s start end at)) where
-  -- a piece was written
-  behind : (xs : List ℕ) (n : ℕ) {b₁ : List ℕ} {n₁ : ℕ}
-      → restAt s l start end at i ≡ before xs (restAt s l start end n (i + 1))
-      → Wrote b next xs b₁ n₁ → RdataLoop (restAt s l start end n (i + 1)) whole b₀ to b₁ n₁
-  behind xs n q p = record {
-    goes = λ b′ r′ d. w .goes b′ r′
-        (subst (λ (x : layout.Laid). Lays x b next b′ r′) (sym q) (lays-before p d));
-  }
-
-  -- octets as they are
-  pub rest-part : {n : ℕ} {b₁ : List ℕ} {n₁ : ℕ} → r .step ≡ step.Part n → Wrote b next (part s at (n - at)) b₁ n₁
-      → RdataLoop (restAt s l start end n (i + 1)) whole b₀ to b₁ n₁
-  rest-part {n} q p = behind (part s at (n - at)) n (pieces-next s l start end at i (tells _ e q)) p
-
-  -- a name
-  pub rest-name : {size n : ℕ} {b₁ : List ℕ} {n₁ : ℕ} → r .step ≡ step.Name size n
-      → Wrote b next (take (size - 0) (r .octets)) b₁ n₁
-      → RdataLoop (restAt s l start end n (i + 1)) whole b₀ to b₁ n₁
-  rest-name {size} {n} {b₁} {n₁} q p =
-      let (m, x, y, z) = tells _ e q in
-      behind (nameForm m) n (pieces-next s l start end at i x)
-      (subst (λ (xs : List ℕ). Wrote b next xs b₁ n₁) (form-part (nameForm m) (r .octets) size y z) p)
-
-  -- the end
-  pub rest-done : r .step ≡ step.Done → Lays whole b₀ to b (laying.To next)
-  rest-done q =
-      w .goes b (laying.To next)
-      (subst (λ (x : layout.Laid). Lays x b next b (laying.To next))
-      (sym (pieces-next s l start end at i (tells _ e q))) (lays (nothing b next)))
-
-  -- a fault
-  pub rest-misfit : {f : FaultRead} → r .step ≡ step.Misfit f → Lays whole b₀ to b (laying.Misfit f)
-  rest-misfit {f} q =
-      let (fault, x, y) = tells _ e q in
-      w .goes b (laying.Misfit f)
-      (subst (λ (g : FaultRead). Lays (restAt s l start end at i) b next b (laying.Misfit g)) (sym y)
-      (subst (λ (z : layout.Laid). Lays z b next b (laying.Misfit (faultOf fault)))
-      (sym (pieces-next s l start end at i x)) misses))
-
--- ---- the length of RDATA's form
-fills-breadth : (l : List Piece) (d : List ℕ) → Fills l d → length d ≤ breadth l
-fills-breadth [] d f = let e : length d ≡ 0 = ap length f in omega arith
-fills-breadth (fixed n ∷ l) d (a, b, p, g, q) =
-    let e : length d ≡ length a + length b = ap length q ∙ length-append a b in
-    let k = fills-breadth l b g in
-    omega arith
-fills-breadth (name ∷ l) d (m, b, z, k, g, q) =
-    let e : length d ≡ length (nameForm m) + length b = ap length q ∙ length-append (nameForm m) b in
-    let j = fills-breadth l b g in
-    omega arith
-
-rdata-short : (s : List ℕ) (kind start size : ℕ) (d : List ℕ) → start + size ≤ length s → size ≤ 65535
-    → rdataAt true s kind start size ≡ laid d → length d ≤ 65535
-rdata-short s kind start size d h k e =
-    let f = pieces-fill true (layoutIn kind size) s start (start + size) start d h
-    (sym (rdata-pieces true s kind start size) ∙ e) in
-    omega (arith, fills-breadth (layoutIn kind size) d f, layout-small kind size .2 k)
-
-pub lays-short : (s : List ℕ) (kind start size : ℕ) {b b′ : List ℕ} {to r : ℕ}
-    → Lays (rdataAt true s kind start size) b to b′ (laying.To r)
-    → start + size ≤ length s → size ≤ 65535 → (to ≤ r) × (r ≤ to + 65535)
-lays-short s kind start size {b} {b′} {to} {r} p h k = go (rdataAt true s kind start size) refl p
-  where
-    go : (w : layout.Laid) → rdataAt true s kind start size ≡ w → Lays w b to b′ (laying.To r)
-        → (to ≤ r) × (r ≤ to + 65535)
-    go w e (lays {d = d} q) = let n = rdata-short s kind start size d h k e in
-        (omega (arith, q .place), omega (arith, q .place))
-
--- a part of at most n octets was written
-pub wrote-part : (n : ℕ) (l : List ℕ) {b b′ : List ℕ} {to r : ℕ} → Wrote b to (take n l) b′ r → (to ≤ r) × (r ≤ to + n)
-wrote-part n l w = let e = length-take n l in (omega (arith, w .place), omega (arith, w .place))
-
-pub part-room : (next n : ℕ) (l : List ℕ) (m : ℕ) → next + n < m → next + length (take n l) < m
-part-room next n l m h = let e = length-take n l in omega arith
 
 -- ---- entries: their forms, with TYPE
 pub record Part : Type 0 where
@@ -226,24 +103,21 @@ record-part s at k next e =
     (head-next s at k next e))
 
 -- RDATA has a fault
-missed : {x : layout.Laid} {b b₂ b₃ : List ℕ} {to n₂ : ℕ} {f : FaultRead} (k : HeadOf) (i : ℕ)
-    → Lays x b₂ n₂ b₃ (laying.Misfit f)
-    → Puts (mapped recordPart (filled (withRdata k) i x)) b to b₃ (gone.Faulty f)
-missed k i misses = faults
+missed : {x : Laid} {b b₃ : List ℕ} {to : ℕ} {fault : Fault} {f : FaultRead} (k : HeadOf) (next : ℕ) → x ≡ misfit fault
+    → f ≡ faultOf fault → Puts (mapped recordPart (filled (withRdata k) next x)) b to b₃ (gone.Faulty f)
+missed k next u v = rw (u, v) faults
 
 -- RDATA was written after the place of its length, and then its length
-placed : {x : layout.Laid} {b b₁ b₂ b₃ b₄ : List ℕ} {to n₁ n₂ n₃ n₄ : ℕ} (k : HeadOf) (i : ℕ)
+placed : {d b b₁ b₂ b₃ b₄ : List ℕ} {to n₁ n₂ n₃ n₄ : ℕ} (k : HeadOf)
     → Wrote b to (nameForm (k .name) ++ two (k .type) ++ two (k .class)) b₁ n₁ → Wrote b₁ n₁ (four (k .ttl)) b₂ n₂
-    → Lays x b₂ (n₂ + 2) b₃ (laying.To n₃) → Wrote b₃ n₂ (two (n₃ - (n₂ + 2))) b₄ n₄
-    → Puts (mapped recordPart (filled (withRdata k) i x)) b to b₄ (gone.To i n₃ (k .type))
+    → Wrote b₂ (n₂ + 2) d b₃ n₃ → Wrote b₃ n₂ (two (n₃ - (n₂ + 2))) b₄ n₄
+    → Wrote b to (recordForm (withRdata k d)) b₄ n₃
 unfolding recordForm
-placed {b = b} {b₃ = b₃} {b₄ = b₄} {to = to} {n₂ = n₂} {n₃ = n₃} {n₄ = n₄} k i p q (lays {d = d} v) w =
+placed {d = d} {b₃ = b₃} {b₄ = b₄} {n₂ = n₂} {n₃ = n₃} {n₄ = n₄} k p q v w =
     let e : n₃ - (n₂ + 2) ≡ length d = omega (arith, v .place) in
     let w′ = subst (λ (n : ℕ). Wrote b₃ n₂ (two n) b₄ n₄) e w in
-    let v′ : Wrote b to (recordForm (withRdata k d)) b₄ n₃ =
     rw (append-assoc (nameForm (k .name) ++ two (k .type) ++ two (k .class) ++ four (k .ttl)) (two (length d)) d)
-    (then (then p q) (overlay.before refl v w′)) in
-    puts v′
+    (then (then p q) (overlay.before refl v w′))
 
 module _ (s : List ℕ) (at : ℕ) {r : RecordRead} (e : r ≡ recordRead (recordHeadAt s at)) where
   pub record-faults : {f : FaultRead} {b b′ : List ℕ} {to : ℕ} → r .answer ≡ record′.Faulty f
@@ -255,52 +129,42 @@ module _ (s : List ℕ) (at : ℕ) {r : RecordRead} (e : r ≡ recordRead (recor
           → Puts (mapped recordPart (recordAt s at)) b to b′ (gone.Faulty f)
       go (fault, u, v) = rw (record-head s at, u, v) faults
 
-  module _ {h : Head} (p : r .answer ≡ record′.Read h) {b b₂ : List ℕ} {to n₂ : ℕ} {w : Laid} where
+  module _ {h : Head} (p : r .answer ≡ record′.Read h) {b b₂ : List ℕ} {to n₂ : ℕ} {w : RdataEnd} where
     -- RDATA has a fault
     pub record-misses : {b₃ : List ℕ} {f : FaultRead}
-        → Lays (rdataAt true s (h .kind) (h .rdata) (h .rdlength)) b₂ n₂ b₃ w → w ≡ laying.Misfit f
+        → PutsRdata false s (h .kind) (h .rdata) (h .rdlength) b₂ n₂ b₃ w → w ≡ rdataEnd.Misfit f
         → Puts (partAt true s at) b to b₃ (gone.Faulty f)
-    record-misses {b₃} {f} d q = go (headed (recordHeadAt s at) e p) (rw q at d)
-      where
-        go : (x : (k : HeadOf) × (next : ℕ) × (recordHeadAt s at ≡ entry k next) × (h ≡ headRead k)
-            × (r .name ≡ padded (nameForm (k .name))))
-            → Lays (rdataAt true s (h .kind) (h .rdata) (h .rdlength)) b₂ n₂ b₃ (laying.Misfit f)
-            → Puts (partAt true s at) b to b₃ (gone.Faulty f)
-        go (k, next, u, v, l) =
-            rw (record-part s at k next u)
-            (subst (λ (c : Head). Lays (rdataAt true s (c .kind) (c .rdata) (c .rdlength)) b₂ n₂ b₃ (laying.Misfit f)
-            → Puts (mapped recordPart
-            (filled (withRdata k) (k .rdata + k .rdlength) (rdataAt true s (k .type) (k .rdata) (k .rdlength)))) b
-            to b₃ (gone.Faulty f)) (sym v) (missed k (k .rdata + k .rdlength)))
+    record-misses {b₃} {f} d q =
+        let (fault, x, y) = puts-misfit s (h .kind) (h .rdata) (h .rdlength) d q in
+        let (k, next, u, v, l) = headed (recordHeadAt s at) e p in
+        let z = sym (ap (λ (c : Head). rdataAt true s (c .kind) (c .rdata) (c .rdlength)) v) ∙ x in
+        rw (record-part s at k next u) (missed k (k .rdata + k .rdlength) z y)
 
     -- all was written
     pub record-puts : {b₁ b₃ b₄ : List ℕ} {n₁ n₃ n₄ : ℕ}
         → Wrote b to (take (h .size - 0) (r .name) ++ two (h .kind) ++ two (h .class)) b₁ n₁
         → Wrote b₁ n₁ (four (h .ttl)) b₂ n₂
-        → Lays (rdataAt true s (h .kind) (h .rdata) (h .rdlength)) b₂ (n₂ + 2) b₃ w → w ≡ laying.To n₃
+        → PutsRdata false s (h .kind) (h .rdata) (h .rdlength) b₂ (n₂ + 2) b₃ w → w ≡ rdataEnd.To n₃
         → Wrote b₃ n₂ (two (n₃ - (n₂ + 2))) b₄ n₄
         → Puts (partAt true s at) b to b₄ (gone.To (h .rdata + h .rdlength) n₃ (h .kind))
-    record-puts {b₁} {b₃} {b₄} {n₁} {n₃} {n₄} x y d q z = go (headed (recordHeadAt s at) e p) x y (rw q at d) z
+    unfolding digitsIf
+    record-puts {b₁} {b₃} {b₄} {n₁} {n₃} {n₄} x y m q z =
+        let (d, o, i) = puts-laid s (h .kind) (h .rdata) (h .rdlength) m q in
+        go d (headed (recordHeadAt s at) e p) x y o i
       where
-        Given : Head → Type 0
-        Given c =
+        Given : List ℕ → Head → Type 0
+        Given d c =
             Wrote b to (take (c .size - 0) (r .name) ++ two (c .kind) ++ two (c .class)) b₁ n₁
             → Wrote b₁ n₁ (four (c .ttl)) b₂ n₂
-            → Lays (rdataAt true s (c .kind) (c .rdata) (c .rdlength)) b₂ (n₂ + 2) b₃ (laying.To n₃)
-            → Wrote b₃ n₂ (two (n₃ - (n₂ + 2))) b₄ n₄
+            → rdataAt true s (c .kind) (c .rdata) (c .rdlength) ≡ laid d → Wrote b₂ (n₂ + 2) d b₃ n₃
             → Puts (partAt true s at) b to b₄ (gone.To (c .rdata + c .rdlength) n₃ (c .kind))
 
-        go : (x : (k : HeadOf) × (next : ℕ) × (recordHeadAt s at ≡ entry k next) × (h ≡ headRead k)
-            × (r .name ≡ padded (nameForm (k .name)))) → Given h
-        go (k, next, u, v, l) =
-            subst Given (sym v) (rw (record-part s at k next u) λ x y d z.
-            placed k (k .rdata + k .rdlength)
-            (rw (form-part (nameForm (k .name)) (r .name) (length (nameForm (k .name))) refl l) at x) y d z)
-
--- the bounds of what is laid
-pub laying-within : (x : Laid) {to most r : ℕ} → Laying x to most → x ≡ laying.To r
-    → (r ≤ most) × (to ≤ r) × (r ≤ to + 65535)
-laying-within x h e = rw e at h
+        go : (d : List ℕ) (x : (k : HeadOf) × (next : ℕ) × (recordHeadAt s at ≡ entry k next) × (h ≡ headRead k)
+            × (r .name ≡ padded (nameForm (k .name)))) → Given d h
+        go d (k, next, u, v, l) =
+            subst (Given d) (sym v) λ x y o i. rw (record-part s at k next u, o)
+            (puts (placed k
+            (rw (form-part (nameForm (k .name)) (r .name) (length (nameForm (k .name))) refl l) at x) y i z))
 
 -- a name and two fields were written
 pub named-within : (size : ℕ) (l : List ℕ) (to : ℕ) {r : ℕ} → r ≡ to + length (take (size - 0) l) + 4 → size ≤ 255

@@ -6,12 +6,12 @@ use octets::put_all;
 use octets::put_four;
 use octets::put_two;
 use octets::two_at;
+use rdata::RdataEnd;
+use rdata::put_rdata;
 use records::Question;
 use records::Record;
-use records::Step;
 use records::head_at;
 use records::question_at;
-use records::rdata_step;
 ghost use mathlib.Core.Path.{_≡_};
 ghost use Prim.Native.Nat.{_+_, _*_, _^_, _≤_, _<_};
 ghost use mathlib.Core.Bool.{true, false};
@@ -20,17 +20,10 @@ ghost use lib.ListN.{length};
 ghost use Rattle.octets.specs.Fields.{two};
 ghost use Rattle.octets.specs.Overlay.{Wrote};
 ghost use Rattle.names.specs.Answer.{faultNumber};
-ghost use Rattle.records.specs.Layout.{rdataAt};
 ghost use Rattle.records.specs.Decode.{refused};
-ghost use Rattle.forms.specs.Putting.{Lays, Laying, partAt, Puts, Goes, optCount, sectionRun, Runs, Comes};
+ghost use Rattle.forms.specs.Putting.{partAt, Puts, Goes, optCount, sectionRun, Runs, Comes};
 ghost use Rattle.forms.specs.Putting.{messageRun};
 ghost use Rattle.forms.specs.Uncompressed.{scanOf, Uncompressed};
-
-// The next place of the form, or RDATA's fault.
-enum Laid {
-    To(usize),
-    Misfit(Fault),
-}
 
 // The offset after an entry, the next place of the form and the entry's TYPE, or the entry's fault.
 enum Gone {
@@ -43,40 +36,6 @@ enum Gone {
 enum Came {
     To(usize, usize, usize),
     Stopped(usize, Fault),
-}
-
-// Writes RDATA without pointers.
-fn put_rdata(s: &[u8], kind: u32, start: usize, size: usize, out: &mut [u8], to: usize) -> Laid
-    requires { ⌜ (length (now s) ≤ 65535) × (start + size ≤ length (now s)) × (to ≤ 255 * start) ⌝ }
-    ensures { λ r. ⌜ Lays (rdataAt true (now (s .entry)) kind start size) (now (out .entry)) to (now (out .exit)) r ⌝ }
-    ensures { λ r. ⌜ Laying r to (255 * (start + size)) ⌝ }
-{
-    let mut i = 0;
-    let mut at = start;
-    let mut next = to;
-    loop {
-        let stepped = rdata_step(s, kind, start, size, i, at);
-        let step = stepped.step;
-        let octets = stepped.octets;
-        match step {
-            Step::Part(end) => {
-                next = put_all(out, next, &s[at..end]);
-                at = end;
-                i += 1;
-            }
-            Step::Name(length, end) => {
-                next = put_all(out, next, &octets[0..length]);
-                at = end;
-                i += 1;
-            }
-            Step::Done => {
-                return Laid::To(next);
-            }
-            Step::Misfit(fault) => {
-                return Laid::Misfit(fault);
-            }
-        }
-    }
 }
 
 // Writes a name, TYPE and CLASS.
@@ -125,9 +84,9 @@ fn put_record(s: &[u8], at: usize, out: &mut [u8], to: usize) -> Gone
             let classed = put_named(out, to, &name[0..size], head.kind, head.class);
             let place = put_four(out, classed, head.ttl);
             let inside = place + 2;
-            match put_rdata(s, head.kind, head.rdata, head.rdlength, out, inside) {
-                Laid::Misfit(fault) => Gone::Faulty(fault),
-                Laid::To(end) => {
+            match put_rdata(s, head.kind, head.rdata, head.rdlength, false, out, inside) {
+                RdataEnd::Misfit(fault) => Gone::Faulty(fault),
+                RdataEnd::To(end) => {
                     let _length = put_two(out, place, (end - inside) as u32);
                     Gone::To(head.rdata + head.rdlength, end, head.kind)
                 }

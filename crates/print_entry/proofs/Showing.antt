@@ -2,15 +2,15 @@
 use mathlib.Core.Path.{_≡_, refl, sym, ap, _∙_, subst}
 use mathlib.Core.Bool.{Bool, true, false, not, _&&_, cond, false≢true}
 use mathlib.Core.Option.{Option, none, some}
-use mathlib.Core.List.{List, [], _∷_, _++_}
+use mathlib.Core.List.{List, [], _∷_, _++_, append-assoc}
 use Prim.Native.Nat.{ℕ, _+_, _-_}
 use native.Mathlib.Omega.{arith}
 use borrow.Author.Tests.{ne-eqb, eq-eqb, eqb-true}
 use lib.Dec.{eqb}
 use lib.ListN.{length, take, length-append}
-use Rattle.octets.specs.Lists.{ascii, none?, lookup}
-use Rattle.octets.specs.Overlay.{Wrote}
-use Rattle.octets.specs.Hexadecimal.{hexText}
+use Rattle.octets.specs.Lists.{ascii, each, none?, lookup}
+use Rattle.octets.specs.Overlay.{Wrote, then, each-ended}
+use Rattle.octets.specs.Hexadecimal.{hexOctet, hexText}
 use Rattle.names.specs.Name.{Name, nameForm}
 use Rattle.names.specs.Walk.{part}
 use Rattle.names.specs.NameLaws.{Sized, form-some}
@@ -26,6 +26,10 @@ use Rattle.records.proofs.Told.{form-part, headed}
 use Rattle.records.specs.declared.Head.{Head}
 use Rattle.records.specs.declared.Record.the-variants as record′
 use Rattle.records.specs.declared.RecordRead.{RecordRead}
+use Rattle.rdata.specs.Written.{digitsIf, PutsRdata}
+use Rattle.rdata.proofs.FormLaws.{puts-laid, puts-misfit}
+use Rattle.rdata.specs.declared.RdataEnd.{RdataEnd}
+use Rattle.rdata.specs.declared.RdataEnd.the-variants.{To, Misfit}
 use Rattle.spelling.specs.Spelling.{signed, signedText}
 use Rattle.edns.specs.Edns.{Edns, ednsOf}
 use Rattle.edns.specs.Element.{showsEdns, elementText, shows-edns, element-text}
@@ -33,7 +37,6 @@ use Rattle.json.proofs.ViewLaws.{entryOf}
 use Rattle.json.specs.Document.{recordText, itemText}
 use Rattle.json.specs.Text.{recordItem, item}
 use Rattle.print_entry.specs.Prints.{texts, Readable, readable-value, readable≢bad, Prints, prints-text}
-use Rattle.print_entry.specs.Prints.{prints-between}
 use Rattle.print_entry.specs.Elements.{fieldsText, hexOfRdata, rdataText, ordinaryText, rcodeOf, rdataOf, shows?}
 use Rattle.print_entry.specs.Elements.{shownText, questionTextAt, entryText, recordTextAt, textAt}
 use Rattle.print_entry.proofs.Writing.{front-text, head-sized}
@@ -41,18 +44,35 @@ use Rattle.print_entry.specs.declared.Element.{Element}
 use Rattle.print_entry.specs.declared.Element.the-variants as element
 
 -- ---- a record as it is
-module _ (s form : List ℕ) (h : Head) where
-  pub ordinary-rdata : Readable (ordinaryText s form h) → Readable (rdataText s (h .kind) (h .rdata) (h .rdlength))
-  unfolding ordinaryText
-  ordinary-rdata k = readable-value (λ t. fieldsText form (h .kind) (h .class) (h .ttl) ++ t ++ ascii "}")
-      (rdataText s (h .kind) (h .rdata) (h .rdlength)) k
+-- the quote after RDATA and the brace after it are one text
+quote-brace : (t d : List ℕ) → t ++ hexText d ++ ascii "}" ≡ t ++ each hexOctet d ++ ascii "\"}"
+unfolding hexText
+quote-brace t d = rw (each-ended hexOctet 34 d) (simp append-assoc)
 
-  pub ordinary-prints : {b b₁ b₂ b₃ : List ℕ} {to n₁ n₂ n₃ next : ℕ}
-      → Wrote b to (fieldsText form (h .kind) (h .class) (h .ttl)) b₁ n₁
-      → Prints (rdataText s (h .kind) (h .rdata) (h .rdlength)) b₁ n₁ b₂ next n₂ → Wrote b₂ n₂ (125 ∷ []) b₃ n₃
-      → Prints (ordinaryText s form h) b to b₃ next n₃
-  unfolding ordinaryText
-  ordinary-prints p q v = prints-between p q v
+module _ (s form : List ℕ) (h : Head) {b₁ b₂ : List ℕ} {n₁ : ℕ} {r : RdataEnd}
+    (q : PutsRdata true s (h .kind) (h .rdata) (h .rdlength) b₁ n₁ b₂ r) where
+  -- one that is readable has no fault
+  pub ordinary-faultless : {f : FaultRead} → Readable (ordinaryText s form h) → r ≡ Misfit f → ⊥
+  unfolding ordinaryText rdataText
+  ordinary-faultless k e =
+      let (fault, u, v) = puts-misfit s (h .kind) (h .rdata) (h .rdlength) q e in
+      readable≢bad (readable-value (λ t. fieldsText form (h .kind) (h .class) (h .ttl) ++ t ++ ascii "}")
+      (rdataText s (h .kind) (h .rdata) (h .rdlength)) k)
+      (ap (hexOfRdata (h .rdata + h .rdlength)) u)
+
+  pub ordinary-prints : {b b₃ : List ℕ} {to n₂ n₃ : ℕ}
+      → Wrote b to (fieldsText form (h .kind) (h .class) (h .ttl)) b₁ n₁ → r ≡ To n₂
+      → Wrote b₂ n₂ (34 ∷ 125 ∷ []) b₃ n₃ → Prints (ordinaryText s form h) b to b₃ (h .rdata + h .rdlength) n₃
+  unfolding ordinaryText rdataText digitsIf
+  ordinary-prints p e v =
+      let fields = fieldsText form (h .kind) (h .class) (h .ttl) in
+      let (d, u, w) = puts-laid s (h .kind) (h .rdata) (h .rdlength) q e in
+      record {
+        text = fields ++ hexText d ++ ascii "}";
+        reads = ap (λ (x : layout.Laid). texts (λ t. fields ++ t ++ ascii "}") (hexOfRdata (h .rdata + h .rdlength) x))
+            u;
+        wrote = rw (quote-brace fields d) (then (then p w) v);
+      }
 
 -- the texts of a record's parts
 record-parts : (r : Record) → Sized (r .name)

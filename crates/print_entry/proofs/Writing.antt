@@ -3,42 +3,35 @@ use mathlib.Core.Path.{_≡_, refl, sym, ap, _∙_, subst}
 use mathlib.Core.Bool.{Bool, true, false, cond}
 use mathlib.Core.Option.{Option, none, some}
 use mathlib.Core.List.{List, [], _∷_, _++_, append-assoc}
-use Prim.Native.Nat.{ℕ, _+_, _-_, _*_, _≤_, _<_}
+use Prim.Native.Nat.{ℕ, _+_, _-_, _≤_}
 use native.Mathlib.Omega.{arith}
 use borrow.Author.Tests.{ne-eqb}
 use lib.Dec.{ltb}
-use lib.ListN.{length, take, drop, length-take}
+use lib.ListN.{length, take, length-take}
 use lib.Seq.{take-append-seam, drop-append-seam}
-use Rattle.octets.specs.Lists.{ascii, each, ended}
+use Rattle.octets.specs.Lists.{ascii, ended}
 use Rattle.octets.specs.Fields.{twoAt, fourAt}
 use Rattle.octets.specs.Overlay.{Wrote, then}
 use Rattle.octets.specs.Decimal.{decimal}
-use Rattle.octets.specs.Hexadecimal.{hexOctet, hexText}
-use Rattle.records.proofs.Told.{form-part, asked, tells, pieces-next}
+use Rattle.records.proofs.Told.{form-part, asked}
 use Rattle.names.specs.Name.{Name, nameForm, cut, Fault}
-use Rattle.names.specs.Walk.{part, message, Named, named, faulty, nameAt}
+use Rattle.names.specs.Walk.{message, Named, named, faulty, nameAt}
 use Rattle.names.specs.NameLaws.{Sized, read-sized, named-name, faulty≢named}
 use Rattle.names.specs.declared.Fault.{Fault as FaultRead}
-use Rattle.records.specs.Layout.{laid, misfit, before, pieces}
-use Rattle.records.specs.Layout as layout
 use Rattle.records.specs.Message.{Question}
 use Rattle.records.specs.Read.{Entry, entry, bad, with-name, firstCut, questionAt}
 use Rattle.records.specs.RecordLaws.{bad≢entry, entry-value}
-use Rattle.records.specs.Parts.{fitted, begun, begunAt, question-begun, HeadOf, recordHeadAt, headed, layoutIn}
-use Rattle.records.specs.Parts.{rdata-pieces, stepAt}
-use Rattle.records.specs.Answer.{padded, askedOf, questionRead, stepRead}
+use Rattle.records.specs.Parts.{fitted, begun, begunAt, question-begun, HeadOf, recordHeadAt, headed}
+use Rattle.records.specs.Answer.{padded, askedOf, questionRead}
 use Rattle.records.specs.declared.Asked.{Asked}
 use Rattle.records.specs.declared.Question.the-variants as question
 use Rattle.records.specs.declared.QuestionRead.{QuestionRead}
-use Rattle.records.specs.declared.Step.the-variants as step
-use Rattle.records.specs.declared.Stepped.{Stepped}
 use Rattle.spelling.specs.Spelling.{labelText, nameText, signed, signedText}
 use Rattle.spelling.specs.Form.{labels, formText, within-label}
 use Rattle.json.specs.Document.{questionText}
 use Rattle.print_head.specs.Head.{numberText}
 use Rattle.print_entry.specs.Prints.{texts, Readable, readable-value, readable≢bad, Prints, prints-text}
-use Rattle.print_entry.specs.Prints.{PrintLoop, rest-all, rest-same, rest-text, rest-end}
-use Rattle.print_entry.specs.Elements.{startText, fieldsText, hexOfRdata, rdataText, piecesText, questionTextAt}
+use Rattle.print_entry.specs.Elements.{startText, fieldsText, questionTextAt}
 
 -- ---- the first members
 pub wrote-start : (form : List ℕ) (type class : ℕ) {b b₁ b₂ b₃ b₄ : List ℕ} {at r₁ r₂ r₃ r₄ : ℕ}
@@ -165,77 +158,6 @@ module _ (s : List ℕ) (at : ℕ) {r : QuestionRead} (e : r ≡ questionRead (q
           λ x. prints-text (rw (question-parts q (question-sized s at q next u))
           (then (rw (form-part (nameForm (q .name)) (r .name) (length (nameForm (q .name))) refl l) at x) y)))
 
--- ---- RDATA
--- hexadecimal, piece by piece
-hex-append : (l m : List ℕ) → hexText (l ++ m) ≡ each hexOctet l ++ hexText m
-unfolding hexText each
-hex-append [] m = refl
-hex-append (x ∷ l) m = ap (λ (t : List ℕ). hexOctet x ++ t) (hex-append l m)
-    ∙ sym (append-assoc (hexOctet x) (each hexOctet l) (hexText m))
-
-hexed-before : (end : ℕ) (l : List ℕ) (w : layout.Laid)
-    → hexOfRdata end (before l w) ≡ texts (λ t. each hexOctet l ++ t) (hexOfRdata end w)
-hexed-before end l (laid d) = ap (λ (t : List ℕ). entry t end) (hex-append l d)
-hexed-before end l (misfit fault) = refl
-
 -- a part of at most m octets
 pub part-short : (n : ℕ) (l : List ℕ) (m : ℕ) → n ≤ m → length (take n l) ≤ m
 part-short n l m h = let e = length-take n l in omega arith
-
-pub hex-room : (next n : ℕ) (l : List ℕ) (m : ℕ) → next + 2 * n < m → next + 2 * length (take n l) < m
-hex-room next n l m h = let e = length-take n l in omega arith
-
-pub hex-short : (at n : ℕ) (l : List ℕ) {r : ℕ} → r ≡ at + 2 * length (take n l) → r ≤ at + 2 * n
-hex-short at n l e = let k = length-take n l in omega arith
-
--- all of it is left
-pub pieces-all : (s : List ℕ) (kind start size : ℕ) {b : List ℕ} {to : ℕ} → Readable (rdataText s kind start size)
-    → PrintLoop (rdataText s kind start size) b to (piecesText s kind start size 0 start) b to
-unfolding rdataText piecesText
-pieces-all s kind start size h =
-    rest-same (ap (hexOfRdata (start + size)) (rdata-pieces true s kind start size)) (rest-all h)
-
-module _ (s : List ℕ) (kind start size at i : ℕ) {whole : Entry (List ℕ)} {b₀ b : List ℕ} {to next : ℕ} {r : Stepped}
-    (w : PrintLoop whole b₀ to (piecesText s kind start size i at) b next)
-    (e : r ≡ stepRead (stepAt (drop i (layoutIn kind size)) s start (start + size) at)) where
-  -- the pieces from the next on
-  after : (xs : List ℕ) (n : ℕ) {b₁ : List ℕ} {n₁ : ℕ}
-      → pieces true (drop i (layoutIn kind size)) s start (start + size) at ≡ before xs
-      (pieces true (drop (i + 1) (layoutIn kind size)) s start (start + size) n)
-      → Wrote b next (each hexOctet xs) b₁ n₁ → PrintLoop whole b₀ to (piecesText s kind start size (i + 1) n) b₁ n₁
-  unfolding piecesText
-  after xs n q p = rest-text
-      (rest-same (ap (hexOfRdata (start + size)) q
-      ∙ hexed-before (start + size) xs (pieces true (drop (i + 1) (layoutIn kind size)) s start (start + size) n)) w) p
-
-  -- octets as they are
-  pub pieces-part : {n : ℕ} {b₁ : List ℕ} {n₁ : ℕ} → r .step ≡ step.Part n
-      → Wrote b next (each hexOctet (take (n - at) (drop at s))) b₁ n₁
-      → PrintLoop whole b₀ to (piecesText s kind start size (i + 1) n) b₁ n₁
-  pieces-part {n} q p =
-      after (part s at (n - at)) n (pieces-next s (layoutIn kind size) start (start + size) at i (tells _ e q)) p
-
-  -- a name
-  pub pieces-name : {long n : ℕ} {b₁ : List ℕ} {n₁ : ℕ} → r .step ≡ step.Name long n
-      → Wrote b next (each hexOctet (take (long - 0) (r .octets))) b₁ n₁
-      → PrintLoop whole b₀ to (piecesText s kind start size (i + 1) n) b₁ n₁
-  pieces-name {long} {n} {b₁} {n₁} q p =
-      let (m, x, y, z) = tells _ e q in
-      after (nameForm m) n (pieces-next s (layoutIn kind size) start (start + size) at i x)
-      (subst (λ (xs : List ℕ). Wrote b next (each hexOctet xs) b₁ n₁) (form-part (nameForm m) (r .octets) long y z) p)
-
-  -- the end
-  pub pieces-done : {b₁ : List ℕ} {n₁ : ℕ} → r .step ≡ step.Done → Wrote b next (34 ∷ []) b₁ n₁
-      → Prints whole b₀ to b₁ (start + size) n₁
-  unfolding piecesText hexText
-  pieces-done q p = rest-end
-      (rest-same (ap (hexOfRdata (start + size))
-      (pieces-next s (layoutIn kind size) start (start + size) at i (tells _ e q))) w) p
-
-  -- no fault is left
-  pub pieces-faultless : {f : FaultRead} → r .step ≡ step.Misfit f → ⊥
-  unfolding piecesText
-  pieces-faultless q =
-      let (fault, x, y) = tells _ e q in
-      readable≢bad (w .readable)
-      (ap (hexOfRdata (start + size)) (pieces-next s (layoutIn kind size) start (start + size) at i x))

@@ -3,14 +3,13 @@ use mathlib.Core.Bool.{Bool, true, _&&_, cond}
 use mathlib.Core.List.{List, _++_}
 use Prim.Native.Nat.{ℕ, _+_, _-_, _%_}
 use lib.Dec.{eqb}
-use lib.ListN.{drop, getD}
+use lib.ListN.{getD}
 use Rattle.octets.specs.Lists.{ascii}
 use Rattle.octets.specs.Hexadecimal.{hexText}
 use Rattle.names.specs.Walk.{part}
-use Rattle.records.specs.Layout.{Laid, laid, misfit, pieces, rdataAt}
+use Rattle.records.specs.Layout.{Laid, laid, misfit, rdataAt}
 use Rattle.records.specs.Message.{Record}
 use Rattle.records.specs.Read.{Entry, entry, bad, questionAt, recordAt}
-use Rattle.records.specs.Parts.{layoutIn}
 use Rattle.records.specs.declared.Head.{Head}
 use Rattle.spelling.specs.Spelling.{signed, signedText}
 use Rattle.spelling.specs.Form.{formText}
@@ -41,11 +40,6 @@ hexOfRdata end (misfit fault) = bad fault
 
 unfoldable pub rdataText : List ℕ → ℕ → ℕ → ℕ → Entry (List ℕ)
 rdataText s type start size = hexOfRdata (start + size) (rdataAt true s type start size)
-
--- RDATA from the i-th piece of its layout on
-unfoldable pub piecesText : List ℕ → ℕ → ℕ → ℕ → ℕ → ℕ → Entry (List ℕ)
-piecesText s type start size i at =
-    hexOfRdata (start + size) (pieces true (drop i (layoutIn type size)) s start (start + size) at)
 
 -- a record as it is, by its owner's form and what the code reads of it before RDATA
 unfoldable pub ordinaryText : List ℕ → List ℕ → Head → Entry (List ℕ)

@@ -56,16 +56,6 @@ module _ {b b₁ : List ℕ} {to n₁ : ℕ} {t : List ℕ} (w : Wrote b to t b�
       wrote = then w (p .wrote);
     }
 
-    -- between two texts
-    pub prints-between : {v b₃ : List ℕ} {n₃ : ℕ} → Wrote b₂ n₂ v b₃ n₃
-        → Prints (texts (λ u. t ++ u ++ v) e) b to b₃ at n₃
-    prints-between {v} q =
-        record {
-          text = t ++ p .text ++ v;
-          reads = ap (texts (λ u. t ++ u ++ v)) (p .reads);
-          wrote = then (then w (p .wrote)) q;
-        }
-
 -- ---- what is left to write
 -- From the buffer b and the place `next` the rest is left: it has no fault, and to write it is to write the whole from
 -- the start.

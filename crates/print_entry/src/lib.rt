@@ -4,22 +4,21 @@ ghost use Prim.Native.Nat.{_+_, _*_, _^_, _<_, _≤_};
 ghost use lib.ListN.{length};
 ghost use Rattle.octets.specs.Overlay.{Wrote};
 ghost use Rattle.print_entry.specs.Prints.{Readable, Prints, Within};
-ghost use Rattle.print_entry.specs.Elements.{startText, fieldsText, rdataText, ordinaryText, rcodeOf, shows?};
+ghost use Rattle.print_entry.specs.Elements.{startText, fieldsText, ordinaryText, rcodeOf, shows?};
 ghost use Rattle.print_entry.specs.Elements.{shownText, questionTextAt, recordTextAt, textAt};
 use edns::is_edns;
 use octets::put;
 use octets::put_all;
-use octets::put_hex;
 use octets::wide;
 use print_edns::put_edns;
 use print_head::put_number;
+use rdata::RdataEnd;
+use rdata::put_rdata;
 use records::Head;
 use records::Question;
 use records::Record;
-use records::Step;
 use records::head_at;
 use records::question_at;
-use records::rdata_step;
 use spelling::put_name;
 use spelling::put_signed;
 
@@ -60,54 +59,21 @@ fn put_fields(out: &mut [u8], to: usize, form: &[u8], kind: u32, class: u32, ttl
     put_all(out, number, b",\"RDATAHEX\":\"")
 }
 
-// Writes RDATA, which has no fault, in hexadecimal, piece by piece, and the quote after it.
-fn put_rdata(s: &[u8], kind: u32, start: usize, size: usize, out: &mut [u8], to: usize) -> usize
-    requires { ⌜ (length (now s) ≤ 65535) × (start + size ≤ length (now s)) × (to < 2 ^ 37)
-        × Readable (rdataText (now s) kind start size) ⌝ }
-    ensures { λ r. ⌜ Prints (rdataText (now (s .entry)) kind start size) (now (out .entry)) to (now (out .exit))
-        (start + size) r ⌝ }
-    ensures { λ r. ⌜ r ≤ to + 1531 + 2 * size ⌝ }
-{
-    let mut i = 0;
-    let mut at = start;
-    let mut next = to;
-    loop {
-        let stepped = rdata_step(s, kind, start, size, i, at);
-        let step = stepped.step;
-        let octets = stepped.octets;
-        match step {
-            Step::Part(end) => {
-                next = put_hex(out, next, &s[at..end]);
-                at = end;
-                i += 1;
-            }
-            Step::Name(length, end) => {
-                next = put_hex(out, next, &octets[0..length]);
-                at = end;
-                i += 1;
-            }
-            Step::Done => {
-                return put(out, next, b'"');
-            }
-            // not reached
-            Step::Misfit(_) => {
-                return to;
-            }
-        }
-    }
-}
-
 // Writes a record as it is, by its owner's form and its fields.
 fn put_ordinary(s: &[u8], form: &[u8], head: Head, out: &mut [u8], to: usize) -> usize
     requires { ⌜ (length (now s) ≤ 65535) × (length (now form) ≤ 255) × (head .rdata + head .rdlength ≤ length (now s))
         × (to < 2 ^ 36) × Readable (ordinaryText (now s) (now form) head) ⌝ }
     ensures { λ r. ⌜ Prints (ordinaryText (now (s .entry)) (now (form .entry)) head) (now (out .entry)) to
         (now (out .exit)) (head .rdata + head .rdlength) r ⌝ }
-    ensures { λ r. ⌜ r ≤ to + 2889 + 2 * head .rdlength ⌝ }
+    ensures { λ r. ⌜ r ≤ to + 2419 + 2 * head .rdlength ⌝ }
 {
     let fields = put_fields(out, to, form, head.kind, head.class, head.ttl);
-    let rdata = put_rdata(s, head.kind, head.rdata, head.rdlength, out, fields);
-    put(out, rdata, b'}')
+    let rdata = put_rdata(s, head.kind, head.rdata, head.rdlength, true, out, fields);
+    let RdataEnd::To(end) = rdata else {
+        // not reached
+        return to;
+    };
+    put_all(out, end, b"\"}")
 }
 
 // The header's RCODE.
@@ -166,7 +132,7 @@ fn put_shown(s: &[u8], form: &[u8], head: Head, lone: bool, out: &mut [u8], to: 
         × Readable (shownText lone (now s) (now form) head) ⌝ }
     ensures { λ r. ⌜ Prints (shownText lone (now (s .entry)) (now (form .entry)) head) (now (out .entry)) to
         (now (out .exit)) (head .rdata + head .rdlength) r ⌝ }
-    ensures { λ r. ⌜ r ≤ to + 2889 + 64 * head .rdlength ⌝ }
+    ensures { λ r. ⌜ r ≤ to + 2419 + 64 * head .rdlength ⌝ }
 {
     if is_element(s, head, lone) {
         let rcode = rcode_of(s);

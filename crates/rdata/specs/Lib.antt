@@ -1,0 +1,2 @@
+-- RDATA without pointers, as octets or in hexadecimal.
+pub mod Written
