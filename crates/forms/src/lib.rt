@@ -196,8 +196,8 @@ fn number_of(fault: Fault) -> u32
 }
 
 // The uncompressed form of the message. A first run, over no octets, finds a refusal and the form's length. A second
-// one writes the form if the buffer has room for it: `json::convert` lends none and only measures, a caller that wants
-// the form lends it.
+// one writes the form if the buffer has room for it: `to_text::convert` lends none and only measures, a caller that
+// wants the form lends it.
 pub fn uncompress(s: &[u8], out: &mut [u8]) -> Scan
     ensures { λ r. ⌜ Uncompressed (now (s .entry)) (now (out .entry)) r (now (out .exit)) ⌝ }
 {
