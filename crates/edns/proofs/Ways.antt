@@ -12,7 +12,7 @@ use lib.Dec.{leb, eqb, leb·zero}
 use lib.ListN.{length, take, drop, length-drop, drop-of-length-le}
 use lib.Seq.{drop-drop, getD-drop}
 use Rattle.octets.specs.Lists.{key?}
-use Rattle.octets.specs.Fields.{twoAt}
+use Rattle.octets.specs.Fields.{be16At}
 use Rattle.options.specs.Options.{EdnsOption}
 use Rattle.edns.specs.Edns.{prepend, divided, optionsOf, rising?, rcodes}
 use Rattle.edns.specs.EdnsLaws.{divided-end}
@@ -21,24 +21,25 @@ use Rattle.edns.specs.Element.{risen?, optionsRise, ednsFields, showsEdn
 -- ---- RDATA divided
 -- the first option
 abbrev pub firstOption : List ℕ → EdnsOption
-firstOption l = record { code = twoAt l 0; value = take (twoAt l 2) (drop 4 l) }
+firstOption l = record { code = be16At l 0; value = take (be16At l 2) (drop 4 l) }
 
 -- one step: there is room for an option, or there is none
-divided-one : (n : ℕ) (l : List ℕ) → 4 + twoAt l 2 ≤ length l
-    → divided (suc n) l ≡ prepend (firstOption l) (divided n (drop (4 + twoAt l 2) l))
+divided-one : (n : ℕ) (l : List ℕ) → 4 + be16At l 2 ≤ length l
+    → divided (suc n) l ≡ prepend (firstOption l) (divided n (drop (4 + be16At l 2) l))
 unfolding divided
 divided-one n [] h = absurd (omega arith)
 divided-one n (x ∷ l) h =
     let a = le-leb 4 (length (x ∷ l)) (omega arith) in
-    let b = le-leb (4 + twoAt (x ∷ l) 2) (length (x ∷ l)) h in
+    let b = le-leb (4 + be16At (x ∷ l) 2) (length (x ∷ l)) h in
     rw (a, b)
 
-divided-none : (n : ℕ) (l : List ℕ) → 0 < length l → length l < 4 + twoAt l 2 → divided (suc n) l ≡ none
+divided-none : (n : ℕ) (l : List ℕ) → 0 < length l → length l < 4 + be16At l 2 → divided (suc n) l ≡ none
 unfolding divided
 divided-none n [] h k = absurd (omega arith)
-divided-none n (x ∷ l) h k = rw (lt-leb (4 + twoAt (x ∷ l) 2) (length (x ∷ l)) k) (go (leb 4 (length (x ∷ l))))
+divided-none n (x ∷ l) h k = rw (lt-leb (4 + be16At (x ∷ l) 2) (length (x ∷ l)) k) (go (leb 4 (length (x ∷ l))))
   where
-    go : (b : Bool) → cond (b && false) (prepend (firstOption (x ∷ l)) (divided n (drop (4 + twoAt (x ∷ l) 2) (x ∷ l))))
+    go : (b : Bool) → cond (b && false)
+        (prepend (firstOption (x ∷ l)) (divided n (drop (4 + be16At (x ∷ l) 2) (x ∷ l))))
         none ≡ none
     go true = refl
     go false = refl
@@ -48,21 +49,21 @@ divided-bound : (n m : ℕ) (l : List ℕ) → length l < n → length l < m →
 divided-bound zero m l h k = absurd (omega arith)
 divided-bound (suc n) zero l h k = absurd (omega arith)
 divided-bound (suc n) (suc m) l h k =
-    let after = drop (4 + twoAt l 2) l in
-    go l h k (λ i j. divided-bound n m after i j) (leb 1 (length l)) (leb (4 + twoAt l 2) (length l)) refl refl
+    let after = drop (4 + be16At l 2) l in
+    go l h k (λ i j. divided-bound n m after i j) (leb 1 (length l)) (leb (4 + be16At l 2) (length l)) refl refl
   where
     go : (l : List ℕ) → length l < suc n → length l < suc m
-        → (length (drop (4 + twoAt l 2) l) < n → length (drop (4 + twoAt l 2) l) < m
-        → divided n (drop (4 + twoAt l 2) l) ≡ divided m (drop (4 + twoAt l 2) l))
-        → (a b : Bool) → leb 1 (length l) ≡ a → leb (4 + twoAt l 2) (length l) ≡ b
+        → (length (drop (4 + be16At l 2) l) < n → length (drop (4 + be16At l 2) l) < m
+        → divided n (drop (4 + be16At l 2) l) ≡ divided m (drop (4 + be16At l 2) l))
+        → (a b : Bool) → leb 1 (length l) ≡ a → leb (4 + be16At l 2) (length l) ≡ b
         → divided (suc n) l ≡ divided (suc m) l
     go l h k f a true p q =
-        let i = leb-true (4 + twoAt l 2) (length l) q in
-        let long = length-drop (4 + twoAt l 2) l in
+        let i = leb-true (4 + be16At l 2) (length l) q in
+        let long = length-drop (4 + be16At l 2) l in
         divided-one n l i ∙ ap (prepend (firstOption l)) (f (omega arith) (omega arith)) ∙ sym (divided-one m l i)
     go l h k f true false p q =
         let i = leb-true 1 (length l) p in
-        let j = leb-false (4 + twoAt l 2) (length l) q in
+        let j = leb-false (4 + be16At l 2) (length l) q in
         divided-none n l i j ∙ sym (divided-none m l i j)
     go [] h k f false false p q = divided-end n ∙ sym (divided-end m)
     go (x ∷ l) h k f false false p q = absurd (omega (arith, leb-false 1 (length (x ∷ l)) p))
@@ -70,32 +71,32 @@ divided-bound (suc n) (suc m) l h k =
 -- ---- RDATA from a place on
 module _ (s : List ℕ) (at : ℕ) where
   -- the fields of the option there
-  two-here : (k : ℕ) → twoAt (drop at s) k ≡ twoAt s (at + k)
+  two-here : (k : ℕ) → be16At (drop at s) k ≡ be16At s (at + k)
   two-here k =
       let e : at + (k + 1) ≡ at + k + 1 = omega arith in
       rw (getD-drop at s k 0, getD-drop at s (k + 1) 0, e)
 
   -- that option
   abbrev pub here : EdnsOption
-  here = record { code = twoAt s at; value = take (twoAt s (at + 2)) (drop (at + 4) s) }
+  here = record { code = be16At s at; value = take (be16At s (at + 2)) (drop (at + 4) s) }
 
   -- RDATA ends there; there is no room for an option; there is one
   pub options-end : length s ≤ at → optionsOf (drop at s) ≡ some []
   unfolding optionsOf
   options-end h = rw (drop-of-length-le s h) (divided-end 0)
 
-  pub options-none : at < length s → length s < at + 4 + twoAt s (at + 2) → optionsOf (drop at s) ≡ none
+  pub options-none : at < length s → length s < at + 4 + be16At s (at + 2) → optionsOf (drop at s) ≡ none
   unfolding optionsOf
   options-none h k =
       let long = length-drop at s in
       divided-none (length (drop at s)) (drop at s) (omega arith) (omega (arith, two-here 2))
 
-  pub options-more : at + 4 + twoAt s (at + 2) ≤ length s
-      → optionsOf (drop at s) ≡ prepend here (optionsOf (drop (at + 4 + twoAt s (at + 2)) s))
+  pub options-more : at + 4 + be16At s (at + 2) ≤ length s
+      → optionsOf (drop at s) ≡ prepend here (optionsOf (drop (at + 4 + be16At s (at + 2)) s))
   unfolding optionsOf
   options-more h =
       let long = length-drop at s in
-      let size = twoAt s (at + 2) in
+      let size = be16At s (at + 2) in
       let e : at + (4 + size) ≡ at + 4 + size = omega arith in
       let after : drop (4 + size) (drop at s) ≡ drop (at + 4 + size) s =
       drop-drop (4 + size) at s ∙ ap (λ n. drop n s) e in
@@ -154,12 +155,12 @@ module _ {s : List ℕ} {v : Bool} {least at : ℕ} (f : RiseLoop s v least at) 
     rises-cut k = sym (f .goes ∙ ap (rise? least) (options-none s at (omega arith) (omega arith)))
 
     -- n is the length of the value
-    module _ {n : ℕ} (e : n ≡ twoAt s (at + 2)) where
+    module _ {n : ℕ} (e : n ≡ be16At s (at + 2)) where
       -- no room for the value
       pub rises-short : size - at < 4 + n → false ≡ v
       rises-short k = sym (f .goes ∙ ap (rise? least) (options-none s at (omega arith) (rw (← e) (omega arith))))
 
-      module _ {code : ℕ} (d : code ≡ twoAt s at) (k : 4 + n ≤ size - at) where
+      module _ {code : ℕ} (d : code ≡ be16At s at) (k : 4 + n ≤ size - at) where
         next : at + 4 + n ≡ at + (4 + n)
         next = omega arith
 

@@ -6,8 +6,8 @@ use Prim.Native.Nat.{ℕ, zero, suc, _+_, _*_, _/_, _%_}
 use Prim.Native.String.{String}
 use lib.Dec.{leb, ltb, eqb}
 use lib.ListN.{length, take, drop}
-use Rattle.octets.specs.Lists.{ascii, each, ended, all, none?, octet?, word?, key?, rowText}
-use Rattle.octets.specs.Fields.{two, twoAt}
+use Rattle.octets.specs.Lists.{ascii, each, ended, all, none?, u8?, u16?, key?, rowText}
+use Rattle.octets.specs.Fields.{be16, be16At}
 use Rattle.octets.specs.Decimal.{decimal}
 use Rattle.records.specs.Message.{Record, bit?}
 use Rattle.options.specs.Options.{EdnsOption, Member, memberOf, memberText}
@@ -15,7 +15,7 @@ use Rattle.options.specs.Options.{EdnsOption, Member, memberOf, memberText}
 -- ---- options in RDATA
 -- code, length, value
 unfoldable pub optionForm : EdnsOption → List ℕ
-optionForm o = two (o .code) ++ two (length (o .value)) ++ o .value
+optionForm o = be16 (o .code) ++ be16 (length (o .value)) ++ o .value
 
 abbrev pub prepend : {A : Type 0} → A → Option (List A) → Option (List A)
 prepend a none = none
@@ -25,8 +25,8 @@ prepend a (some l) = some (a ∷ l)
 unfoldable pub divided : ℕ → List ℕ → Option (List EdnsOption)
 divided zero l = none
 divided (suc n) l =
-    let size = twoAt l 2 in
-    let later = prepend (record { code = twoAt l 0; value = take size (drop 4 l) }) (divided n (drop (4 + size) l)) in
+    let size = be16At l 2 in
+    let later = prepend (record { code = be16At l 0; value = take size (drop 4 l) }) (divided n (drop (4 + size) l)) in
     cond (none? l) (some []) (cond (leb 4 (length l) && leb (4 + size) (length l)) later none)
 
 unfoldable pub optionsOf : List ℕ → Option (List EdnsOption)
@@ -106,12 +106,12 @@ ednsRecord e = record {
 
 -- ---- what is valid, limits of size aside
 unfoldable pub option? : EdnsOption → Bool
-option? o = word? (o .code) && all octet? (o .value)
+option? o = u16? (o .code) && all u8? (o .value)
 
 unfoldable pub edns? : ℕ → Edns → Bool
 edns? rcode e =
-    word? (e .size)
-    && octet? (e .extended)
+    u16? (e .size)
+    && u8? (e .extended)
     && bit? (e .dnssecOk)
     && key? (fullRcode rcode (e .extended)) rcodes
     && all option? (e .options)

@@ -9,9 +9,9 @@ use borrow.Author.Tests.{le-leb, lt-ltb, eq-eqb, leb-true, eqb-true}
 use lib.Dec.{T, leb, eqb, leb→le, le→leb, ltb→lt, lt→ltb, eqb→eq}
 use lib.ListN.{length, getD, take, drop, length-append, length-drop, take-append-drop}
 use lib.Seq.{drop-drop, take-append-seam, drop-append-seam, length-take-le}
-use Rattle.octets.specs.Lists.{all, All, none?, octet?, Octets, word?, long?, lookup, key?, each}
+use Rattle.octets.specs.Lists.{all, All, none?, u8?, Octets, u16?, u32?, lookup, key?, each}
 use Rattle.octets.specs.Bits.{is-true, both, and-left, and-right, All-append, octets-in, octets-test}
-use Rattle.octets.specs.Fields.{two, twoAt, two-back, getD-octet, twoAt-word, two-octets, drop-one}
+use Rattle.octets.specs.Fields.{be16, be16At, two-back, getD-octet, twoAt-word, two-octets, drop-one}
 use Rattle.names.specs.Name.{nameForm, name?}
 use Rattle.names.specs.NameLaws.{drop-octets, take-octets}
 use Rattle.names.specs.Walk.{part}
@@ -33,8 +33,8 @@ unfolding divided optionForm
 divided-step n o r h k =
     let v = o .value in
     let l = optionForm o ++ r in
-    let size : twoAt l 2 ≡ length v = two-back (length v) k in
-    let code : twoAt l 0 ≡ o .code = two-back (o .code) h in
+    let size : be16At l 2 ≡ length v = two-back (length v) k in
+    let code : be16At l 0 ≡ o .code = two-back (o .code) h in
     let long : length l ≡ 4 + length v + length r = omega (arith, length-append v r) in
     let after : drop (4 + length v) l ≡ r = sym (drop-drop (length v) 4 l) ∙ drop-append-seam v r in
     rw (
@@ -70,8 +70,8 @@ options-back l h = divided-back (suc (length (each optionForm l))) l (omega arit
 -- what is divided: nothing, or an option's octets and what is divided after them
 data Divides (n : ℕ) (l : List ℕ) : List EdnsOption → Type 0 where
   ends : l ≡ [] → Divides n l []
-  goes : {options : List EdnsOption} → 4 + twoAt l 2 ≤ length l → divided n (drop (4 + twoAt l 2) l) ≡ some options
-      → Divides n l (record { code = twoAt l 0; value = take (twoAt l 2) (drop 4 l) } ∷ options)
+  goes : {options : List EdnsOption} → 4 + be16At l 2 ≤ length l → divided n (drop (4 + be16At l 2) l) ≡ some options
+      → Divides n l (record { code = be16At l 0; value = take (be16At l 2) (drop 4 l) } ∷ options)
 
 prepend-back : {A : Type 0} (a : A) (o : Option (List A)) (l : List A) → prepend a o ≡ some l
     → (m : List A) × (o ≡ some m) × (a ∷ m ≡ l)
@@ -82,24 +82,24 @@ divided-divides : (n : ℕ) (l : List ℕ) (options : List EdnsOption) → divid
     → Divides n l options
 unfolding divided
 divided-divides n [] options e = subst (Divides n []) (Option·some-injective [] options e) (ends refl)
-divided-divides n (x ∷ t) options e = go (leb 4 (length l)) (leb (4 + twoAt l 2) (length l)) refl e
+divided-divides n (x ∷ t) options e = go (leb 4 (length l)) (leb (4 + be16At l 2) (length l)) refl e
   where
     l : List ℕ
     l = x ∷ t
 
-    go : (a b : Bool) → leb (4 + twoAt l 2) (length l) ≡ b
-        → cond (a && b) (prepend (record { code = twoAt l 0; value = take (twoAt l 2) (drop 4 l) })
-        (divided n (drop (4 + twoAt l 2) l))) none ≡ some options
+    go : (a b : Bool) → leb (4 + be16At l 2) (length l) ≡ b
+        → cond (a && b) (prepend (record { code = be16At l 0; value = take (be16At l 2) (drop 4 l) })
+        (divided n (drop (4 + be16At l 2) l))) none ≡ some options
         → Divides n l options
     go true true p e =
         let (m, q, r) = prepend-back _ _ options e in
-        subst (Divides n l) r (goes (leb-true (4 + twoAt l 2) (length l) p) q)
+        subst (Divides n l) r (goes (leb-true (4 + be16At l 2) (length l) p) q)
     go true false p e = absurd (Option·none-ne-some options e)
     go false true p e = absurd (Option·none-ne-some options e)
     go false false p e = absurd (Option·none-ne-some options e)
 
 -- the two octets at a place are those of the number there
-two-there : (s : List ℕ) (at : ℕ) → Octets s → at + 1 < length s → drop at s ≡ two (twoAt s at) ++ drop (at + 2) s
+two-there : (s : List ℕ) (at : ℕ) → Octets s → at + 1 < length s → drop at s ≡ be16 (be16At s at) ++ drop (at + 2) s
 two-there s at o h =
     let a = getD s at 0 in
     let b = getD s (at + 1) 0 in
@@ -112,36 +112,36 @@ two-there s at o h =
     ∙ ap₂ (λ x y. x ∷ y ∷ drop (at + 2) s) (sym high) (sym low)
 
 -- the octets of the first option, and those after it
-option-there : (l : List ℕ) → Octets l → 4 + twoAt l 2 ≤ length l
-    → optionForm (record { code = twoAt l 0; value = take (twoAt l 2) (drop 4 l) }) ++ drop (4 + twoAt l 2) l ≡ l
+option-there : (l : List ℕ) → Octets l → 4 + be16At l 2 ≤ length l
+    → optionForm (record { code = be16At l 0; value = take (be16At l 2) (drop 4 l) }) ++ drop (4 + be16At l 2) l ≡ l
 unfolding optionForm
 option-there l o h =
-    let size = twoAt l 2 in
+    let size = be16At l 2 in
     let long : length (take size (drop 4 l)) ≡ size = length-take-le size (drop 4 l) (omega (arith, length-drop 4 l)) in
     let value : take size (drop 4 l) ++ drop (4 + size) l ≡ drop 4 l =
     ap (λ t. take size (drop 4 l) ++ t) (sym (drop-drop size 4 l)) ∙ take-append-drop size (drop 4 l) in
-    ap₂ (λ n t. two (twoAt l 0) ++ (two n ++ t)) long value
-    ∙ sym (two-there l 0 o (omega arith) ∙ ap (λ t. two (twoAt l 0) ++ t) (two-there l 2 o (omega arith)))
+    ap₂ (λ n t. be16 (be16At l 0) ++ (be16 n ++ t)) long value
+    ∙ sym (two-there l 0 o (omega arith) ∙ ap (λ t. be16 (be16At l 0) ++ t) (two-there l 2 o (omega arith)))
 
 -- octets that are those of a list of options, each in range
 abbrev pub Divided : List ℕ → List EdnsOption → Type 0
 Divided l options = (each optionForm options ≡ l) × T (all option? options) × T (all small-option? options)
 
 divides-form : (n : ℕ) (l : List ℕ) (options : List EdnsOption) → Octets l
-    → ((m : List EdnsOption) → divided n (drop (4 + twoAt l 2) l) ≡ some m → Divided (drop (4 + twoAt l 2) l) m)
+    → ((m : List EdnsOption) → divided n (drop (4 + be16At l 2) l) ≡ some m → Divided (drop (4 + be16At l 2) l) m)
     → Divides n l options → Divided l options
 unfolding each option? small-option?
 divides-form n l [] o f (ends e) = (sym e, tt, tt)
 divides-form n l (a ∷ options) o f (goes h e) =
-    let size = twoAt l 2 in
+    let size = be16At l 2 in
     let value = take size (drop 4 l) in
     let long : length value ≡ size = length-take-le size (drop 4 l) (omega (arith, length-drop 4 l)) in
     let (p, q, r) = f options e in
-    let code : T (word? (twoAt l 0)) = lt→ltb (twoAt l 0) 65536 (twoAt-word l o 0) in
-    let octets : T (all octet? value) = octets-test value (take-octets size (drop 4 l) (drop-octets 4 l o)) in
+    let code : T (u16? (be16At l 0)) = lt→ltb (be16At l 0) 65536 (twoAt-word l o 0) in
+    let octets : T (all u8? value) = octets-test value (take-octets size (drop 4 l) (drop-octets 4 l o)) in
     let small : T (small? value) = le→leb (length value) 65535 (omega (arith, twoAt-word l o 2)) in (
       ap (λ t. optionForm a ++ t) p ∙ option-there l o h,
-      both (option? a) (all option? options) (both (word? (twoAt l 0)) (all octet? value) code octets) q,
+      both (option? a) (all option? options) (both (u16? (be16At l 0)) (all u8? value) code octets) q,
       both (small-option? a) (all small-option? options) small r,
     )
 
@@ -150,7 +150,7 @@ divided-form : (n : ℕ) (l : List ℕ) (options : List EdnsOption) → Octets l
 unfolding divided
 divided-form zero l options o e = absurd (Option·none-ne-some options e)
 divided-form (suc n) l options o e =
-    divides-form n l options o (λ m e. divided-form n (drop (4 + twoAt l 2) l) m (drop-octets (4 + twoAt l 2) l o) e)
+    divides-form n l options o (λ m e. divided-form n (drop (4 + be16At l 2) l) m (drop-octets (4 + be16At l 2) l o) e)
     (divided-divides n l options e)
 
 pub options-form : (l : List ℕ) (options : List EdnsOption) → Octets l → optionsOf l ≡ some options → Divided l options
@@ -163,7 +163,7 @@ options-in : (l : List EdnsOption) → T (all option? l) → T (all small-option
 unfolding option? small-option?
 options-in [] h k = tt
 options-in (o ∷ l) h k =
-    let code = and-left (word? (o .code)) (all octet? (o .value)) (and-left (option? o) (all option? l) h) in
+    let code = and-left (u16? (o .code)) (all u8? (o .value)) (and-left (option? o) (all option? l) h) in
     let small = leb→le (length (o .value)) 65535 (and-left (small-option? o) (all small-option? l) k) in (
       (ltb→lt (o .code) 65536 code, omega arith),
       options-in l (and-right (option? o) (all option? l) h) (and-right (small-option? o) (all small-option? l) k),
@@ -176,8 +176,8 @@ edns-tests : (rcode : ℕ) (e : Edns) → T (edns? rcode e)
     × T (all option? (e .options)) × T (rising? (e .options))
 unfolding edns?
 edns-tests rcode e h =
-    let t1 = word? (e .size) in
-    let t2 = t1 && octet? (e .extended) in
+    let t1 = u16? (e .size) in
+    let t2 = t1 && u8? (e .extended) in
     let t3 = t2 && bit? (e .dnssecOk) in
     let t4 = t3 && key? (fullRcode rcode (e .extended)) rcodes in
     let t5 = t4 && all option? (e .options) in
@@ -185,8 +185,8 @@ edns-tests rcode e h =
     let h4 = and-left t4 (all option? (e .options)) h5 in
     let h3 = and-left t3 (key? (fullRcode rcode (e .extended)) rcodes) h4 in
     let h2 = and-left t2 (bit? (e .dnssecOk)) h3 in (
-      ltb→lt (e .size) 65536 (and-left t1 (octet? (e .extended)) h2),
-      ltb→lt (e .extended) 256 (and-right t1 (octet? (e .extended)) h2),
+      ltb→lt (e .size) 65536 (and-left t1 (u8? (e .extended)) h2),
+      ltb→lt (e .extended) 256 (and-right t1 (u8? (e .extended)) h2),
       ltb→lt (e .dnssecOk) 2 (and-right t2 (bit? (e .dnssecOk)) h3),
       and-right t3 (key? (fullRcode rcode (e .extended)) rcodes) h4,
       and-right t4 (all option? (e .options)) h5,
@@ -303,16 +303,16 @@ edns-back rcode e h k =
 record-tests : (r : Record) → T (record? r) → (r .class < 65536) × (r .ttl < 4294967296) × Octets (r .rdata)
 unfolding record?
 record-tests r h =
-    let t2 = name? (r .name) && word? (r .type) in
-    let t3 = t2 && word? (r .class) in
-    let t4 = t3 && long? (r .ttl) in
-    let t5 = t4 && all octet? (r .rdata) in
+    let t2 = name? (r .name) && u16? (r .type) in
+    let t3 = t2 && u16? (r .class) in
+    let t4 = t3 && u32? (r .ttl) in
+    let t5 = t4 && all u8? (r .rdata) in
     let h5 = and-left t5 (rdataFits? (r .type) (r .rdata)) h in
-    let h4 = and-left t4 (all octet? (r .rdata)) h5 in
-    let h3 = and-left t3 (long? (r .ttl)) h4 in (
-      ltb→lt (r .class) 65536 (and-right t2 (word? (r .class)) h3),
-      ltb→lt (r .ttl) 4294967296 (and-right t3 (long? (r .ttl)) h4),
-      octets-in (r .rdata) (and-right t4 (all octet? (r .rdata)) h5),
+    let h4 = and-left t4 (all u8? (r .rdata)) h5 in
+    let h3 = and-left t3 (u32? (r .ttl)) h4 in (
+      ltb→lt (r .class) 65536 (and-right t2 (u16? (r .class)) h3),
+      ltb→lt (r .ttl) 4294967296 (and-right t3 (u32? (r .ttl)) h4),
+      octets-in (r .rdata) (and-right t4 (all u8? (r .rdata)) h5),
     )
 
 -- a TTL with version 0 and flags 0 or 0x8000 is made of its octet and its bit
@@ -369,11 +369,11 @@ unfolding each option? optionForm
 options-octets [] h = tt
 options-octets (o ∷ l) h =
     let value = octets-in (o .value)
-    (and-right (word? (o .code)) (all octet? (o .value)) (and-left (option? o) (all option? l) h)) in
-    let fixed = All-append (λ x. x < 256) (two (o .code)) (two (length (o .value))) (two-octets (o .code))
+    (and-right (u16? (o .code)) (all u8? (o .value)) (and-left (option? o) (all option? l) h)) in
+    let fixed = All-append (λ x. x < 256) (be16 (o .code)) (be16 (length (o .value))) (two-octets (o .code))
     (two-octets (length (o .value))) in
     All-append (λ x. x < 256) (optionForm o) (each optionForm l)
-    (All-append (λ x. x < 256) (two (o .code) ++ two (length (o .value))) (o .value) fixed value)
+    (All-append (λ x. x < 256) (be16 (o .code) ++ be16 (length (o .value))) (o .value) fixed value)
     (options-octets l (and-right (option? o) (all option? l) h))
 
 -- the record of an element in range is valid
@@ -386,6 +386,6 @@ edns-valid rcode e h =
     rw (
       lt-ltb (e .size) 65536 size,
       lt-ltb (r .ttl) 4294967296 (omega arith),
-      is-true (all octet? (r .rdata)) octets,
+      is-true (all u8? (r .rdata)) octets,
       is-true (rdataFits? 41 (r .rdata)) (opt-fits (r .rdata)),
     ) tt

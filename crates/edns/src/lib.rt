@@ -1,7 +1,7 @@
 // Whether a record is an EDNS element. Its RDATA is octets or hexadecimal digits: `hex` says which.
 // The definitions are in specs/.
+use hex_or_octets::be16_at;
 use hex_or_octets::count;
-use hex_or_octets::two_at;
 use octets::wide;
 ghost use mathlib.Core.Path.{_≡_};
 ghost use mathlib.Core.Bool.{_||_};
@@ -87,8 +87,8 @@ fn options_rise(s: &[u8], hex: bool) -> bool
         if left < 4 {
             return false;
         }
-        let code = two_at(s, hex, at);
-        let length = 4 + two_at(s, hex, at + 2) as usize;
+        let code = be16_at(s, hex, at);
+        let length = 4 + be16_at(s, hex, at + 2) as usize;
         if left < length {
             return false;
         }

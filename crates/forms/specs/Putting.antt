@@ -7,7 +7,7 @@ use native.Mathlib.Omega.{arith}
 use borrow.Author.Tests.{ne-eqb}
 use lib.Dec.{eqb}
 use lib.ListN.{length, take, length-take}
-use Rattle.octets.specs.Fields.{two, four, twoAt}
+use Rattle.octets.specs.Fields.{be16, be32, be16At}
 use Rattle.octets.specs.Overlay.{Wrote, then, nothing}
 use Rattle.octets.specs.Overlay as overlay
 use Rattle.names.specs.Name.{nameForm, Fault}
@@ -77,17 +77,18 @@ module _ (s : List ℕ) (at : ℕ) {r : QuestionRead} (e : r ≡ questionRead (q
       go (fault, u, v) = rw (u, v) faults
 
   pub question-puts : {a : Asked} {b b′ : List ℕ} {to n : ℕ} → r .answer ≡ question.Read a
-      → Wrote b to (take (a .size - 0) (r .name) ++ two (a .kind) ++ two (a .class)) b′ n
+      → Wrote b to (take (a .size - 0) (r .name) ++ be16 (a .kind) ++ be16 (a .class)) b′ n
       → Puts (partAt false s at) b to b′ (gone.To (a .next) n (a .kind))
   unfolding partAt questionForm
   question-puts {a} {b} {b′} {to} {n} p w = go (asked (questionAt s at) e p) w
     where
       go : (x : (q : Question) × (next : ℕ) × (questionAt s at ≡ entry q next) × (a ≡ askedOf q next)
           × (r .name ≡ padded (nameForm (q .name))))
-          → Wrote b to (take (a .size - 0) (r .name) ++ two (a .kind) ++ two (a .class)) b′ n
+          → Wrote b to (take (a .size - 0) (r .name) ++ be16 (a .kind) ++ be16 (a .class)) b′ n
           → Puts (mapped questionPart (questionAt s at)) b to b′ (gone.To (a .next) n (a .kind))
       go (q, next, u, v, l) =
-          rw u (subst (λ (c : Asked). Wrote b to (take (c .size - 0) (r .name) ++ two (c .kind) ++ two (c .class)) b′ n
+          rw u (subst (λ (c : Asked). Wrote b to (take (c .size - 0) (r .name) ++ be16 (c .kind)
+          ++ be16 (c .class)) b′ n
           → Puts (entry (questionPart q) next) b to b′ (gone.To (c .next) n (c .kind)))
           (sym v) (λ w. puts (rw (form-part (nameForm (q .name)) (r .name) (length (nameForm (q .name))) refl l) at w)))
 
@@ -109,14 +110,14 @@ missed k next u v = rw (u, v) faults
 
 -- RDATA was written after the place of its length, and then its length
 placed : {d b b₁ b₂ b₃ b₄ : List ℕ} {to n₁ n₂ n₃ n₄ : ℕ} (k : HeadOf)
-    → Wrote b to (nameForm (k .name) ++ two (k .type) ++ two (k .class)) b₁ n₁ → Wrote b₁ n₁ (four (k .ttl)) b₂ n₂
-    → Wrote b₂ (n₂ + 2) d b₃ n₃ → Wrote b₃ n₂ (two (n₃ - (n₂ + 2))) b₄ n₄
+    → Wrote b to (nameForm (k .name) ++ be16 (k .type) ++ be16 (k .class)) b₁ n₁ → Wrote b₁ n₁ (be32 (k .ttl)) b₂ n₂
+    → Wrote b₂ (n₂ + 2) d b₃ n₃ → Wrote b₃ n₂ (be16 (n₃ - (n₂ + 2))) b₄ n₄
     → Wrote b to (recordForm (withRdata k d)) b₄ n₃
 unfolding recordForm
 placed {d = d} {b₃ = b₃} {b₄ = b₄} {n₂ = n₂} {n₃ = n₃} {n₄ = n₄} k p q v w =
     let e : n₃ - (n₂ + 2) ≡ length d = omega (arith, v .place) in
-    let w′ = subst (λ (n : ℕ). Wrote b₃ n₂ (two n) b₄ n₄) e w in
-    rw (append-assoc (nameForm (k .name) ++ two (k .type) ++ two (k .class) ++ four (k .ttl)) (two (length d)) d)
+    let w′ = subst (λ (n : ℕ). Wrote b₃ n₂ (be16 n) b₄ n₄) e w in
+    rw (append-assoc (nameForm (k .name) ++ be16 (k .type) ++ be16 (k .class) ++ be32 (k .ttl)) (be16 (length d)) d)
     (then (then p q) (overlay.before refl v w′))
 
 module _ (s : List ℕ) (at : ℕ) {r : RecordRead} (e : r ≡ recordRead (recordHeadAt s at)) where
@@ -142,10 +143,10 @@ module _ (s : List ℕ) (at : ℕ) {r : RecordRead} (e : r ≡ recordRead (recor
 
     -- all was written
     pub record-puts : {b₁ b₃ b₄ : List ℕ} {n₁ n₃ n₄ : ℕ}
-        → Wrote b to (take (h .size - 0) (r .name) ++ two (h .kind) ++ two (h .class)) b₁ n₁
-        → Wrote b₁ n₁ (four (h .ttl)) b₂ n₂
+        → Wrote b to (take (h .size - 0) (r .name) ++ be16 (h .kind) ++ be16 (h .class)) b₁ n₁
+        → Wrote b₁ n₁ (be32 (h .ttl)) b₂ n₂
         → PutsRdata false s (h .kind) (h .rdata) (h .rdlength) b₂ (n₂ + 2) b₃ w → w ≡ rdataEnd.To n₃
-        → Wrote b₃ n₂ (two (n₃ - (n₂ + 2))) b₄ n₄
+        → Wrote b₃ n₂ (be16 (n₃ - (n₂ + 2))) b₄ n₄
         → Puts (partAt true s at) b to b₄ (gone.To (h .rdata + h .rdlength) n₃ (h .kind))
     unfolding digitsIf
     record-puts {b₁} {b₃} {b₄} {n₁} {n₃} {n₄} x y m q z =
@@ -154,8 +155,8 @@ module _ (s : List ℕ) (at : ℕ) {r : RecordRead} (e : r ≡ recordRead (recor
       where
         Given : List ℕ → Head → Type 0
         Given d c =
-            Wrote b to (take (c .size - 0) (r .name) ++ two (c .kind) ++ two (c .class)) b₁ n₁
-            → Wrote b₁ n₁ (four (c .ttl)) b₂ n₂
+            Wrote b to (take (c .size - 0) (r .name) ++ be16 (c .kind) ++ be16 (c .class)) b₁ n₁
+            → Wrote b₁ n₁ (be32 (c .ttl)) b₂ n₂
             → rdataAt true s (c .kind) (c .rdata) (c .rdlength) ≡ laid d → Wrote b₂ (n₂ + 2) d b₃ n₃
             → Puts (partAt true s at) b to b₄ (gone.To (c .rdata + c .rdlength) n₃ (c .kind))
 
@@ -291,9 +292,9 @@ chained (halted at fault) f = halted at fault
 unfoldable pub messageRun : List ℕ → Run
 messageRun s =
     octetsThen (take 12 s)
-    (chained (sectionRun false s (twoAt s 4) 12) λ a.
-    chained (sectionRun true s (twoAt s 6) a) λ b.
-    chained (sectionRun true s (twoAt s 8) b) λ c. sectionRun true s (twoAt s 10) c)
+    (chained (sectionRun false s (be16At s 4) 12) λ a.
+    chained (sectionRun true s (be16At s 6) a) λ b.
+    chained (sectionRun true s (be16At s 8) b) λ c. sectionRun true s (be16At s 10) c)
 
 runs-join : {k : ℕ} {l b b₁ b₂ : List ℕ} {to n : ℕ} {u : Run} {r : Came} → Wrote b to l b₁ n → Runs k u b₁ n b₂ r
     → Runs k (octetsThen l u) b to b₂ r
@@ -309,20 +310,20 @@ runs-halt : (f : ℕ → Run) {x : Run} {b b₁ : List ℕ} {to at : ℕ} {g : F
 runs-halt f halts = halts
 
 module _ (s : List ℕ) {b b₁ b₂ : List ℕ} {n₁ c₁ : ℕ} {x₁ : Came}
-    (h : Wrote b 0 (take 12 s) b₁ n₁) (e₁ : c₁ ≡ twoAt s 4) (p₁ : Runs 0 (sectionRun false s c₁ 12) b₁ n₁ b₂ x₁) where
+    (h : Wrote b 0 (take 12 s) b₁ n₁) (e₁ : c₁ ≡ be16At s 4) (p₁ : Runs 0 (sectionRun false s c₁ 12) b₁ n₁ b₂ x₁) where
   -- a question has a fault
   pub message-first : {at : ℕ} {g : FaultRead} → x₁ ≡ came.Stopped at g → Runs 0 (messageRun s) b 0 b₂ x₁
   unfolding messageRun
   message-first q = rw q (runs-join h (runs-halt _ (rw (e₁, q) at p₁)))
 
-  module _ {b₃ : List ℕ} {at₁ to₁ m₁ c₂ : ℕ} {x₂ : Came} (q₁ : x₁ ≡ came.To at₁ to₁ m₁) (e₂ : c₂ ≡ twoAt s 6)
+  module _ {b₃ : List ℕ} {at₁ to₁ m₁ c₂ : ℕ} {x₂ : Came} (q₁ : x₁ ≡ came.To at₁ to₁ m₁) (e₂ : c₂ ≡ be16At s 6)
       (p₂ : Runs 0 (sectionRun true s c₂ at₁) b₂ to₁ b₃ x₂) where
     -- an answer has
     pub message-second : {at : ℕ} {g : FaultRead} → x₂ ≡ came.Stopped at g → Runs 0 (messageRun s) b 0 b₃ x₂
     unfolding messageRun
     message-second q = rw q (runs-join h (runs-chain _ (rw (e₁, q₁) at p₁) (runs-halt _ (rw (e₂, q) at p₂))))
 
-    module _ {b₄ : List ℕ} {at₂ to₂ m₂ c₃ : ℕ} {x₃ : Came} (q₂ : x₂ ≡ came.To at₂ to₂ m₂) (e₃ : c₃ ≡ twoAt s 8)
+    module _ {b₄ : List ℕ} {at₂ to₂ m₂ c₃ : ℕ} {x₃ : Came} (q₂ : x₂ ≡ came.To at₂ to₂ m₂) (e₃ : c₃ ≡ be16At s 8)
         (p₃ : Runs 0 (sectionRun true s c₃ at₂) b₃ to₂ b₄ x₃) where
       -- a record of the authority section has
       pub message-third : {at : ℕ} {g : FaultRead} → x₃ ≡ came.Stopped at g → Runs 0 (messageRun s) b 0 b₄ x₃
@@ -332,7 +333,7 @@ module _ (s : List ℕ) {b b₁ b₂ : List ℕ} {n₁ c₁ : ℕ} {x₁ : Came}
           (runs-chain _ (rw (e₂, q₂) at p₂) (runs-halt _ (rw (e₃, q) at p₃)))))
 
       -- the additional section is read
-      pub message-fourth : {b₅ : List ℕ} {at₃ to₃ m₃ c₄ : ℕ} {x₄ : Came} → x₃ ≡ came.To at₃ to₃ m₃ → c₄ ≡ twoAt s 10
+      pub message-fourth : {b₅ : List ℕ} {at₃ to₃ m₃ c₄ : ℕ} {x₄ : Came} → x₃ ≡ came.To at₃ to₃ m₃ → c₄ ≡ be16At s 10
           → Runs 0 (sectionRun true s c₄ at₃) b₄ to₃ b₅ x₄ → Runs 0 (messageRun s) b 0 b₅ x₄
       unfolding messageRun
       message-fourth q₃ e₄ p₄ =

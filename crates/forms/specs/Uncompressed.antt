@@ -9,7 +9,7 @@ use lib.Dec.{leb, ltb, eqb}
 use lib.ListN.{length, getD, take}
 use lib.Seq.{take-suc}
 use Rattle.octets.specs.Lists.{each, count}
-use Rattle.octets.specs.Fields.{two, twoAt, two-same, empty}
+use Rattle.octets.specs.Fields.{be16, be16At, two-same, empty}
 use Rattle.octets.specs.Overlay.{Wrote, overlay-first}
 use Rattle.octets.specs.Answer.{overwritten}
 use Rattle.names.specs.Name.{Fault, refusalNumber}
@@ -123,20 +123,20 @@ module _ (s : List ℕ) where
       (runOf recordPart (sectionsOf s .additional .entries) (sectionsOf s .additional .end)))))
   unfolding messageRun sectionsOf
   message-run =
-      let q = sectionAt questionAt s (twoAt s 4) 12 in
-      let a = sectionFrom recordAt s (twoAt s 6) (q .end) in
-      let n = sectionFrom recordAt s (twoAt s 8) (a .end) in
-      let f₄ : ℕ → Run = λ i. sectionRun true s (twoAt s 10) i in
-      let f₃ : ℕ → Run = λ i. chained (sectionRun true s (twoAt s 8) i) f₄ in
-      let f₂ : ℕ → Run = λ i. chained (sectionRun true s (twoAt s 6) i) f₃ in
+      let q = sectionAt questionAt s (be16At s 4) 12 in
+      let a = sectionFrom recordAt s (be16At s 6) (q .end) in
+      let n = sectionFrom recordAt s (be16At s 8) (a .end) in
+      let f₄ : ℕ → Run = λ i. sectionRun true s (be16At s 10) i in
+      let f₃ : ℕ → Run = λ i. chained (sectionRun true s (be16At s 8) i) f₄ in
+      let f₂ : ℕ → Run = λ i. chained (sectionRun true s (be16At s 6) i) f₃ in
       ap (octetsThen (take 12 s))
-      (ap (λ (u : Run). chained u f₂) (section-run questionAt questionPart false s questions-same (twoAt s 4) 12)
+      (ap (λ (u : Run). chained u f₂) (section-run questionAt questionPart false s questions-same (be16At s 4) 12)
       ∙ chained-run questionPart (q .entries) (q .end) f₂
       ∙ ap (octetsThen (each questionForm (q .entries)))
-      (from-chained (twoAt s 6) (q .end) f₃
+      (from-chained (be16At s 6) (q .end) f₃
       ∙ ap (octetsThen (each recordForm (a .entries)))
-      (from-chained (twoAt s 8) (a .end) f₄
-      ∙ ap (octetsThen (each recordForm (n .entries))) (from-run (twoAt s 10) (n .end)))))
+      (from-chained (be16At s 8) (a .end) f₄
+      ∙ ap (octetsThen (each recordForm (n .entries))) (from-run (be16At s 10) (n .end)))))
 
 -- ---- the answer by the run
 -- the parts of a run

@@ -2,22 +2,22 @@
 // the specs/ of `records`; what its writers do is defined here.
 use names::Fault;
 use octets::Outcome;
+use octets::be16_at;
 use octets::put_all;
-use octets::put_four;
-use octets::put_two;
-use octets::two_at;
+use octets::put_be16;
+use octets::put_be32;
 use rdata::RdataEnd;
 use rdata::put_rdata;
 use records::Question;
 use records::Record;
-use records::head_at;
 use records::question_at;
+use records::record_at;
 ghost use mathlib.Core.Path.{_≡_};
 ghost use Prim.Native.Nat.{_+_, _*_, _^_, _≤_, _<_};
 ghost use mathlib.Core.Bool.{true, false};
 ghost use mathlib.Core.List.{_++_};
 ghost use lib.ListN.{length};
-ghost use Rattle.octets.specs.Fields.{two};
+ghost use Rattle.octets.specs.Fields.{be16};
 ghost use Rattle.octets.specs.Overlay.{Wrote};
 ghost use Rattle.names.specs.Answer.{faultNumber};
 ghost use Rattle.records.specs.Decode.{refused};
@@ -41,12 +41,12 @@ enum Came {
 // Writes a name, TYPE and CLASS.
 fn put_named(out: &mut [u8], to: usize, name: &[u8], kind: u32, class: u32) -> usize
     requires { ⌜ (to < 2 ^ 30) × (length (now name) ≤ 255) × (kind < 65536) × (class < 65536) ⌝ }
-    ensures { λ r. ⌜ Wrote (now (out .entry)) to (now (name .entry) ++ two kind ++ two class) (now (out .exit)) r ⌝ }
+    ensures { λ r. ⌜ Wrote (now (out .entry)) to (now (name .entry) ++ be16 kind ++ be16 class) (now (out .exit)) r ⌝ }
     ensures { λ r. ⌜ r ≡ to + length (now (name .entry)) + 4 ⌝ }
 {
     let typed = put_all(out, to, name);
-    let classed = put_two(out, typed, kind);
-    put_two(out, classed, class)
+    let classed = put_be16(out, typed, kind);
+    put_be16(out, classed, class)
 }
 
 // Writes the question at an offset.
@@ -74,7 +74,7 @@ fn put_record(s: &[u8], at: usize, out: &mut [u8], to: usize) -> Gone
     ensures { λ r. ⌜ Puts (partAt true (now (s .entry)) at) (now (out .entry)) to (now (out .exit)) r ⌝ }
     ensures { λ r. ⌜ Goes r (length (now (s .entry))) ⌝ }
 {
-    let read = head_at(s, at);
+    let read = record_at(s, at);
     let answer = read.answer;
     let name = read.name;
     match answer {
@@ -82,12 +82,12 @@ fn put_record(s: &[u8], at: usize, out: &mut [u8], to: usize) -> Gone
         Record::Read(head) => {
             let size = head.size;
             let classed = put_named(out, to, &name[0..size], head.kind, head.class);
-            let place = put_four(out, classed, head.ttl);
+            let place = put_be32(out, classed, head.ttl);
             let inside = place + 2;
             match put_rdata(s, head.kind, head.rdata, head.rdlength, false, out, inside) {
                 RdataEnd::Misfit(fault) => Gone::Faulty(fault),
                 RdataEnd::To(end) => {
-                    let _length = put_two(out, place, (end - inside) as u32);
+                    let _length = put_be16(out, place, (end - inside) as u32);
                     Gone::To(head.rdata + head.rdlength, end, head.kind)
                 }
             }
@@ -150,19 +150,19 @@ fn put_message(s: &[u8], out: &mut [u8]) -> Came
     ensures { λ r. ⌜ Runs 0 (messageRun (now (s .entry))) (now (out .entry)) 0 (now (out .exit)) r ⌝ }
 {
     let first = put_all(out, 0, &s[0..12]);
-    let questions = put_section(s, false, two_at(s, 4), 12, out, first);
+    let questions = put_section(s, false, be16_at(s, 4), 12, out, first);
     let Came::To(answers_at, second, _) = questions else {
         return questions;
     };
-    let answers = put_section(s, true, two_at(s, 6), answers_at, out, second);
+    let answers = put_section(s, true, be16_at(s, 6), answers_at, out, second);
     let Came::To(authority_at, third, _) = answers else {
         return answers;
     };
-    let authority = put_section(s, true, two_at(s, 8), authority_at, out, third);
+    let authority = put_section(s, true, be16_at(s, 8), authority_at, out, third);
     let Came::To(additional_at, fourth, _) = authority else {
         return authority;
     };
-    put_section(s, true, two_at(s, 10), additional_at, out, fourth)
+    put_section(s, true, be16_at(s, 10), additional_at, out, fourth)
 }
 
 // The length of the form or the refusal, and the number of TYPE 41 records of the additional section.

@@ -4,7 +4,7 @@ ghost use mathlib.Core.Path.{_≡_};
 ghost use Prim.Native.Nat.{_+_, _*_, _<_, _≤_};
 ghost use lib.ListN.{length, getD};
 ghost use Rattle.octets.specs.Lists.{digitValue, paired};
-ghost use Rattle.octets.specs.Fields.{twoAt};
+ghost use Rattle.octets.specs.Fields.{be16At};
 ghost use Rattle.hex_or_octets.specs.Digits.{Hexes};
 ghost use Rattle.hex_or_octets.specs.Either.{octetsIn, Spelled};
 
@@ -52,9 +52,9 @@ pub fn octet(s: &[u8], hex: bool, i: usize) -> u8
 }
 
 // The number in the two octets at `at`, the high one first.
-pub fn two_at(s: &[u8], hex: bool, at: usize) -> u32
+pub fn be16_at(s: &[u8], hex: bool, at: usize) -> u32
     requires { ⌜ Spelled hex (now s) × (at + 2 ≤ length (octetsIn hex (now s))) ⌝ }
-    ensures { λ r. ⌜ r ≡ twoAt (octetsIn hex (now (s .entry))) at ⌝ }
+    ensures { λ r. ⌜ r ≡ be16At (octetsIn hex (now (s .entry))) at ⌝ }
     ensures { λ r. ⌜ r < 65536 ⌝ }
 {
     let n = wide(octet(s, hex, at)) * 256 + wide(octet(s, hex, at + 1));

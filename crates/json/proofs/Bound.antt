@@ -9,9 +9,9 @@ use native.Mathlib.Nat.{pow-suc}
 use native.Mathlib.Omega.{arith}
 use lib.Dec.{T, leb, ltb, eqb, leb→le, ltb→lt}
 use lib.ListN.{length, take, drop, length-append, length-take, length-drop}
-use Rattle.octets.specs.Lists.{ascii, all, All, Octets, each, ended, listed, rowText, word?, octet?, key?}
+use Rattle.octets.specs.Lists.{ascii, all, All, Octets, each, ended, listed, rowText, u16?, u8?, key?}
 use Rattle.octets.specs.Bits.{and-left, and-right, all→All, All-map, octets-in}
-use Rattle.octets.specs.Fields.{two, twoAt, fourAt, twoAt-word, fourAt-long}
+use Rattle.octets.specs.Fields.{be16, be16At, be32At, twoAt-word, fourAt-long}
 use Rattle.octets.specs.Decimal.{decimal}
 use Rattle.octets.specs.Hexadecimal.{hexOctet, hexText}
 use Rattle.octets.proofs.Writing.{decimal-short, each-hex-length}
@@ -217,9 +217,9 @@ shape-short hexObject l h = within _ (omega arith) (quote "{\"HEX\":\"" ⊕ hex-
 shape-short octetList l h = within _ (omega arith) (numbers-short l h)
 shape-short expiry l h = go (eqb (length l) 0) (eqb (length l) 4)
   where
-    go : (a b : Bool) → Holds expiry (cond a (some none) (cond b (some (some (fourAt l 0))) none)) (10 * length l + 27)
+    go : (a b : Bool) → Holds expiry (cond a (some none) (cond b (some (some (be32At l 0))) none)) (10 * length l + 27)
     go true b = record { short = omega arith }
-    go false true = within _ (omega arith) (decimal-ten (fourAt l 0) (omega (arith, fourAt-long l h 0)))
+    go false true = within _ (omega arith) (decimal-ten (be32At l 0) (omega (arith, fourAt-long l h 0)))
     go false false = tt
 shape-short hexList l h = go (eqb (length l) 8) (leb 16 (length l) && leb (length l) 40)
   where
@@ -241,8 +241,8 @@ shape-short hexList l h = go (eqb (length l) 8) (leb 16 (length l) && leb (lengt
     go false false = tt
 shape-short word l h = go (eqb (length l) 2)
   where
-    go : (a : Bool) → Holds word (cond a (some (twoAt l 0)) none) (10 * length l + 27)
-    go true = within _ (omega arith) (decimal-five (twoAt l 0) (twoAt-word l h 0))
+    go : (a : Bool) → Holds word (cond a (some (be16At l 0)) none) (10 * length l + 27)
+    go true = within _ (omega arith) (decimal-five (be16At l 0) (twoAt-word l h 0))
     go false = tt
 shape-short padding l h = go (all zero? l)
   where
@@ -257,10 +257,10 @@ shape-short wordList l h = go (eqb (length l % 2) 0)
     go false = tt
 shape-short extendedError l h = go (leb 2 (length l) && all printable? (drop 2 l))
   where
-    go : (a : Bool) → Holds extendedError (cond a (some (twoAt l 0, present (drop 2 l))) none) (10 * length l + 27)
+    go : (a : Bool) → Holds extendedError (cond a (some (be16At l 0, present (drop 2 l))) none) (10 * length l + 27)
     go true =
         within _ (omega (arith, length-drop 2 l))
-        (quote "{\"CODE\":" ⊕ decimal-five (twoAt l 0) (twoAt-word l h 0) ⊕ error-short (drop 2 l))
+        (quote "{\"CODE\":" ⊕ decimal-five (be16At l 0) (twoAt-word l h 0) ⊕ error-short (drop 2 l))
     go false = tt
 shape-short unlisted l h = tt
 
@@ -279,8 +279,8 @@ chosen-short code l h (some v) k = within _ (omega arith) (quote "\"" ⊕ member
 member-short : (o : EdnsOption) → T (option? o) → length (44 ∷ memberText (memberOf o)) ≤ 10 * length (optionForm o)
 unfolding memberOf option?
 member-short o h =
-    let code = ltb→lt (o .code) 65536 (and-left (word? (o .code)) _ h) in
-    let octets = octets-in (o .value) (and-right (word? (o .code)) _ h) in
+    let code = ltb→lt (o .code) 65536 (and-left (u16? (o .code)) _ h) in
+    let octets = octets-in (o .value) (and-right (u16? (o .code)) _ h) in
     let k = chosen-short (o .code) (o .value) code (shape (formOf (o .code)) (o .value))
     (shape-short (formOf (o .code)) (o .value) octets) in
     omega (arith, k .short, option-long o)
@@ -312,8 +312,8 @@ question-short q h =
     omega (
       arith,
       k .short,
-      length-append (nameForm (q .name)) (two (q .type)),
-      length-append (nameForm (q .name) ++ two (q .type)) (two (q .class)),
+      length-append (nameForm (q .name)) (be16 (q .type)),
+      length-append (nameForm (q .name) ++ be16 (q .type)) (be16 (q .class)),
     )
 
 record-short : (r : Record) → T (record? r) → length (recordText (recordItem r)) + 1 ≤ 10 * length (recordForm r)
@@ -331,8 +331,8 @@ record-short r h =
 edns-parts : (rcode : ℕ) (e : Edns) → T (edns? rcode e) → (e .size < 65536) × T (all option? (e .options))
 unfolding edns?
 edns-parts rcode e h =
-    let a = word? (e .size) in
-    let b = octet? (e .extended) in
+    let a = u16? (e .size) in
+    let b = u8? (e .extended) in
     let c = bit? (e .dnssecOk) in
     let d = key? (fullRcode rcode (e .extended)) rcodes in
     let f = all option? (e .options) in
@@ -417,7 +417,7 @@ unfolding additionals?
 additional-valid v h =
     let l = v .additional in
     let s = section? (additional? (v .header .rcode)) l in
-    and-right (word? (length l)) (all (additional? (v .header .rcode)) l) (and-left s _ (view-additional v h))
+    and-right (u16? (length l)) (all (additional? (v .header .rcode)) l) (and-left s _ (view-additional v h))
 
 view-short : (v : View) → T (view? v) → length (viewText v) ≤ 10 * length (form (messageOf v)) + 400
 unfolding viewText documentText documentOf messageOf

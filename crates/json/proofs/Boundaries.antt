@@ -6,7 +6,7 @@ use Prim.Native.Nat.{ℕ}
 use Prim.Native.String.{String}
 use lib.ListN.{length}
 use Rattle.octets.specs.Lists.{hexed, lookup, key?, each}
-use Rattle.octets.specs.Fields.{two}
+use Rattle.octets.specs.Fields.{be16}
 use Rattle.names.specs.Name.{nameForm}
 use Rattle.names.specs.Walk.{walk, nameFrom}
 use Rattle.records.specs.Layout.{layouts, layoutOf, pieces, rdataAt}
@@ -28,12 +28,12 @@ elements (refused number place) = []
 
 -- a header with this RCODE, answers and additional records
 abbrev pub extended : ℕ → ℕ → ℕ → List ℕ
-extended rcode count additional = hexed "0000" ++ two rcode ++ hexed "0000" ++ two count ++ hexed "0000"
-    ++ two additional
+extended rcode count additional = hexed "0000" ++ be16 rcode ++ hexed "0000" ++ be16 count ++ hexed "0000"
+    ++ be16 additional
 
 -- a TYPE 41 record: owner, TTL, options
 abbrev pub opt : String → String → String → List ℕ
-opt owner ttl options = hexed owner ++ hexed "002904D0" ++ hexed ttl ++ two (length (hexed options)) ++ hexed options
+opt owner ttl options = hexed owner ++ hexed "002904D0" ++ hexed ttl ++ be16 (length (hexed options)) ++ hexed options
 
 pub record Condition : Type 0 where
   pub message : List ℕ

@@ -9,9 +9,9 @@ use native.Mathlib.Omega.{arith}
 use borrow.Author.Tests.{eqb-true}
 use lib.Dec.{T, eqb, leb→le, le→leb}
 use lib.ListN.{length, length-append}
-use Rattle.octets.specs.Lists.{all, All, count, word?, each, present?}
+use Rattle.octets.specs.Lists.{all, All, count, u16?, each, present?}
 use Rattle.octets.specs.Bits.{both, and-left, and-right, all→All}
-use Rattle.octets.specs.Fields.{two, four}
+use Rattle.octets.specs.Fields.{be16, be32}
 use Rattle.names.specs.Name.{nameForm}
 use Rattle.records.specs.Message.{Header, Question, Record, Message, headerForm, questionForm, recordForm, form}
 use Rattle.records.specs.Message.{header?, question?, record?, section?, valid?, opt?}
@@ -94,7 +94,7 @@ additional-map rcode l = go (eqb (count opt? l) 1)
 
 -- every record of a valid section
 records-valid : (l : List Record) → T (section? record? l) → All (λ r. T (record? r)) l
-records-valid l h = all→All record? l (and-right (word? (length l)) (all record? l) h)
+records-valid l h = all→All record? l (and-right (u16? (length l)) (all record? l) h)
 
 module _ (rcode : ℕ) (l : List Record) (h : T (section? record? l)) where
   -- the entry of each of them
@@ -115,14 +115,14 @@ module _ (rcode : ℕ) (l : List Record) (h : T (section? record? l)) where
       let f = entryOf rcode (eqb (count opt? l) 1) in
       let m = map f l in
       let records = records-valid l h in
-      let long : T (word? (length m)) = rw (map-long f l) (and-left (word? (length l)) (all record? l) h) in
+      let long : T (u16? (length m)) = rw (map-long f l) (and-left (u16? (length l)) (all record? l) h) in
       let valid : T (all (additional? rcode) m) =
       map-all f (additional? rcode) (λ r k. an-entry r k .valid) l records in
       let settled : T (all (settled? rcode (count opt-entry? m)) m) =
       rw (map-count f opt? opt-entry? (λ r k. an-entry r k .counted) l records)
       (map-all f (settled? rcode (count opt? l)) (λ r k. an-entry r k .settled) l records) in
       rw (additional-map rcode l) (both (section? (additional? rcode) m) (all (settled? rcode (count opt-entry? m)) m)
-      (both (word? (length m)) (all (additional? rcode) m) long valid) settled)
+      (both (u16? (length m)) (all (additional? rcode) m) long valid) settled)
 
 -- the record of an entry has TYPE 41 just if the entry says so
 opt-counted : (a : Additional) → opt? (recordOf a) ≡ opt-entry? a
@@ -155,7 +155,7 @@ module _ (rcode : ℕ) (l : List Additional) (h : T (additionals? rcode l)) wher
   entries-settled = and-right (section? (additional? rcode) l) (all (settled? rcode (count opt-entry? l)) l) h
 
   each-valid : All (λ a. T (additional? rcode a)) l
-  each-valid = all→All (additional? rcode) l (and-right (word? (length l)) (all (additional? rcode) l) entries-valid)
+  each-valid = all→All (additional? rcode) l (and-right (u16? (length l)) (all (additional? rcode) l) entries-valid)
 
   entries-back : T (all small-options? l) → additionalOf rcode (map recordOf l) ≡ l
   entries-back k =
@@ -176,9 +176,9 @@ module _ (rcode : ℕ) (l : List Additional) (h : T (additionals? rcode l)) wher
   entries-section : T (section? record? (map recordOf l))
   entries-section =
       let m = map recordOf l in
-      let long : T (word? (length m)) =
-      rw (map-long recordOf l) (and-left (word? (length l)) (all (additional? rcode) l) entries-valid) in
-      both (word? (length m)) (all record? m) long (map-all recordOf record? (record-valid rcode) l each-valid)
+      let long : T (u16? (length m)) =
+      rw (map-long recordOf l) (and-left (u16? (length l)) (all (additional? rcode) l) entries-valid) in
+      both (u16? (length m)) (all record? m) long (map-all recordOf record? (record-valid rcode) l each-valid)
 
 -- ---- messages and views
 -- the parts that a message and its view share
@@ -268,8 +268,8 @@ map-tested f p q h (a ∷ l) k =
 rdata-part : (r : Record) → length (recordForm r) ≤ 65535 → T (small-rdata? r)
 unfolding recordForm small-rdata?
 rdata-part r h =
-    let long = length-append (nameForm (r .name) ++ two (r .type) ++ two (r .class) ++ four (r .ttl)
-    ++ two (length (r .rdata))) (r .rdata) in
+    let long = length-append (nameForm (r .name) ++ be16 (r .type) ++ be16 (r .class) ++ be32 (r .ttl)
+    ++ be16 (length (r .rdata))) (r .rdata) in
     le→leb (length (r .rdata)) 65535 (omega arith)
 
 -- an option's value is a part of its form, and that of RDATA

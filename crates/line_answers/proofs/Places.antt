@@ -9,7 +9,7 @@ use borrow.Author.Tests.{ltb-false}
 use lib.Dec.{leb, ltb, eqb}
 use lib.ListN.{length}
 use Rattle.octets.specs.Lists.{Octets}
-use Rattle.octets.specs.Fields.{twoAt}
+use Rattle.octets.specs.Fields.{be16At}
 use Rattle.octets.specs.Answer.{Output, output, Answer, success, refusal, Result, overwritten, delivered}
 use Rattle.octets.specs.Answer as answer
 use Rattle.octets.specs.Parsed.{Parsed, took, stuck}
@@ -57,10 +57,10 @@ sections-inside : (s : List ℕ) → Octets s → 12 ≤ length s → Inside (le
 unfolding sectionsOf
 sections-inside s o h =
     let records = from-inside recordAt s (λ at a next e. record-read s at a next o e .2) in
-    records (twoAt s 10) _
-    (records (twoAt s 8) _
-    (records (twoAt s 6) _ (section-inside questionAt s (λ at a next e. question-read s at a next o e .2)
-    (twoAt s 4) 12 h)))
+    records (be16At s 10) _
+    (records (be16At s 8) _
+    (records (be16At s 6) _ (section-inside questionAt s (λ at a next e. question-read s at a next o e .2)
+    (be16At s 4) 12 h)))
 
 -- a refusal's place is within `size` octets
 abbrev Placed : ℕ → Decoded → Type 0

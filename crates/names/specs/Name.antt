@@ -4,7 +4,7 @@ use mathlib.Core.List.{List, [], _∷_, _++_}
 use Prim.Native.Nat.{ℕ}
 use lib.Dec.{leb}
 use lib.ListN.{length}
-use Rattle.octets.specs.Lists.{all, octet?}
+use Rattle.octets.specs.Lists.{all, u8?}
 
 -- a name is its labels, each a list of octets; the root has none
 abbrev pub Name : Type 0
@@ -17,7 +17,7 @@ nameForm (label ∷ name) = length label ∷ (label ++ nameForm name)
 
 -- a label has 1 to 63 octets; a name has at most 255 octets, root octet included
 unfoldable pub label? : List ℕ → Bool
-label? label = leb 1 (length label) && leb (length label) 63 && all octet? label
+label? label = leb 1 (length label) && leb (length label) 63 && all u8? label
 
 unfoldable pub name? : Name → Bool
 name? name = all label? name && leb (length (nameForm name)) 255

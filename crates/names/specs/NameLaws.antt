@@ -8,7 +8,7 @@ use borrow.Author.Tests.{le-leb, lt-leb, le-ltb, ne-eqb, leb-true, leb-false, lt
 use lib.Dec.{T, leb, ltb, eqb, leb→le, le→leb, ltb→lt}
 use lib.ListN.{length, getD, take, drop, length-append, length-drop, take-append-drop}
 use lib.Seq.{drop-drop, length-take-le}
-use Rattle.octets.specs.Lists.{all, All, octet?, Octets}
+use Rattle.octets.specs.Lists.{all, All, u8?, Octets}
 use Rattle.octets.specs.Bits.{both, and-left, and-right, All-append, octets-in, octets-test}
 use Rattle.octets.specs.Fields.{drop-past, take-here, getD-here, drop-one}
 use Rattle.names.specs.Name.{Name, nameForm, label?, name?, reserved, target, long, Fault}
@@ -174,24 +174,24 @@ pub label-some : (l : List ℕ) → T (label? l) → 1 ≤ length l
 unfolding label?
 label-some l h = leb→le 1 (length l)
     (and-left (leb 1 (length l)) (leb (length l) 63)
-    (and-left (leb 1 (length l) && leb (length l) 63) (all octet? l) h))
+    (and-left (leb 1 (length l) && leb (length l) 63) (all u8? l) h))
 
 -- a valid label has at most 63 octets
 pub label-short : (l : List ℕ) → T (label? l) → length l ≤ 63
 unfolding label?
 label-short l h = leb→le (length l) 63
     (and-right (leb 1 (length l)) (leb (length l) 63)
-    (and-left (leb 1 (length l) && leb (length l) 63) (all octet? l) h))
+    (and-left (leb 1 (length l) && leb (length l) 63) (all u8? l) h))
 
 -- a valid label is octets
 pub label-octets : (l : List ℕ) → T (label? l) → Octets l
 unfolding label?
-label-octets l h = octets-in l (and-right (leb 1 (length l) && leb (length l) 63) (all octet? l) h)
+label-octets l h = octets-in l (and-right (leb 1 (length l) && leb (length l) 63) (all u8? l) h)
 
 -- 1 to 63 octets are a valid label
 pub label-test : (l : List ℕ) → 1 ≤ length l → length l ≤ 63 → Octets l → T (label? l)
 unfolding label?
-label-test l h k o = both (leb 1 (length l) && leb (length l) 63) (all octet? l)
+label-test l h k o = both (leb 1 (length l) && leb (length l) 63) (all u8? l)
     (both (leb 1 (length l)) (leb (length l) 63) (le→leb 1 (length l) h) (le→leb (length l) 63 k)) (octets-test l o)
 
 -- labels of 1 to 63 elements, octets or not

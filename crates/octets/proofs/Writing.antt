@@ -8,7 +8,7 @@ use native.Mathlib.Omega.{arith}
 use borrow.Author.Tests.{lt-ltb, le-ltb, ltb-true, ltb-false}
 use lib.Dec.{ltb}
 use lib.ListN.{length, length-append}
-use Rattle.octets.specs.Fields.{two}
+use Rattle.octets.specs.Fields.{be16}
 use Rattle.octets.specs.Decimal.{decimal, decimal-digit, decimal-step}
 use Rattle.octets.specs.Hexadecimal.{hexDigit, hexOctet}
 use Rattle.octets.specs.Overlay.{Wrote, then}
@@ -62,7 +62,7 @@ each-hex-length (x ∷ l) = rw length-append (omega (arith, each-hex-length l))
 
 -- ---- numbers of 16 and 32 bits
 pub wrote-two : (n : ℕ) {b b₁ b₂ : List ℕ} {at r₁ r₂ : ℕ} → n < 65536 → Wrote b at (n / 256 ∷ []) b₁ r₁
-    → Wrote b₁ r₁ (n % 256 ∷ []) b₂ r₂ → Wrote b at (two n) b₂ r₂
+    → Wrote b₁ r₁ (n % 256 ∷ []) b₂ r₂ → Wrote b at (be16 n) b₂ r₂
 wrote-two n h p q =
     let e : n / 256 % 256 ≡ n / 256 = omega arith in
     rw e (then p q)

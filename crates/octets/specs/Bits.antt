@@ -7,7 +7,7 @@ use Prim.Native.Nat.{ℕ, zero, suc, _<_}
 use native.Mathlib.Omega.{arith}
 use borrow.Author.Tests.{eqb-true, eqb-false}
 use lib.Dec.{T, not-T, eqb, eqb→eq, ltb→lt, lt→ltb}
-use Rattle.octets.specs.Lists.{all, All, octet?, Octets}
+use Rattle.octets.specs.Lists.{all, All, u8?, Octets}
 
 -- what a test answers
 pub is-true : (b : Bool) → T b → b ≡ true
@@ -85,8 +85,8 @@ module _ {A : Type 0} where
   All-right P (x ∷ l) m h = All-right P l m (h .1)
 
 -- octets by test and by bound
-pub octets-in : (l : List ℕ) → T (all octet? l) → Octets l
-octets-in l h = All-map (λ x t. ltb→lt x 256 t) l (all→All octet? l h)
+pub octets-in : (l : List ℕ) → T (all u8? l) → Octets l
+octets-in l h = All-map (λ x t. ltb→lt x 256 t) l (all→All u8? l h)
 
-pub octets-test : (l : List ℕ) → Octets l → T (all octet? l)
-octets-test l h = All→all octet? l (All-map (λ x t. lt→ltb x 256 t) l h)
+pub octets-test : (l : List ℕ) → Octets l → T (all u8? l)
+octets-test l h = All→all u8? l (All-map (λ x t. lt→ltb x 256 t) l h)

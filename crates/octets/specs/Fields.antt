@@ -11,18 +11,18 @@ use Rattle.octets.specs.Lists.{Octets}
 use Rattle.octets.specs.Bits.{All-append}
 
 -- a number in two octets, the high one first; in four octets
-abbrev pub two : ℕ → List ℕ
-two n = n / 256 % 256 ∷ n % 256 ∷ []
+abbrev pub be16 : ℕ → List ℕ
+be16 n = n / 256 % 256 ∷ n % 256 ∷ []
 
-abbrev pub four : ℕ → List ℕ
-four n = two (n / 65536) ++ two (n % 65536)
+abbrev pub be32 : ℕ → List ℕ
+be32 n = be16 (n / 65536) ++ be16 (n % 65536)
 
 -- the number in the two octets at a place of a text; in the four octets
-abbrev pub twoAt : List ℕ → ℕ → ℕ
-twoAt s at = getD s at 0 * 256 + getD s (at + 1) 0
+abbrev pub be16At : List ℕ → ℕ → ℕ
+be16At s at = getD s at 0 * 256 + getD s (at + 1) 0
 
-abbrev pub fourAt : List ℕ → ℕ → ℕ
-fourAt s at = twoAt s at * 65536 + twoAt s (at + 2)
+abbrev pub be32At : List ℕ → ℕ → ℕ
+be32At s at = be16At s at * 65536 + be16At s (at + 2)
 
 -- octets, each by its place
 pub octets-known : (s : List ℕ) → ((i : ℕ) → getD s i 0 < 256) → Octets s
@@ -58,31 +58,31 @@ room-here s x r at e h =
 pub two-back : (n : ℕ) → n < 65536 → n / 256 % 256 * 256 + n % 256 ≡ n
 two-back n h = omega arith
 
-pub two-same : (a b : ℕ) → a < 256 → b < 256 → two (a * 256 + b) ≡ a ∷ b ∷ []
+pub two-same : (a b : ℕ) → a < 256 → b < 256 → be16 (a * 256 + b) ≡ a ∷ b ∷ []
 two-same a b h k =
     let p : (a * 256 + b) / 256 % 256 ≡ a = omega arith in
     let q : (a * 256 + b) % 256 ≡ b = omega arith in
     ap₂ (λ (x y : ℕ). x ∷ y ∷ []) p q
 
-pub two-at : (s r : List ℕ) (at n : ℕ) → n < 65536 → drop at s ≡ two n ++ r → twoAt s at ≡ n
+pub two-at : (s r : List ℕ) (at n : ℕ) → n < 65536 → drop at s ≡ be16 n ++ r → be16At s at ≡ n
 two-at s r at n h e =
     rw (getD-here s _ _ at e, getD-here s r (n % 256) (at + 1) (drop-past s (n / 256 % 256 ∷ []) (n % 256 ∷ r) at e))
     (two-back n h)
 
-pub four-at : (s r : List ℕ) (at n : ℕ) → n < 4294967296 → drop at s ≡ four n ++ r → fourAt s at ≡ n
+pub four-at : (s r : List ℕ) (at n : ℕ) → n < 4294967296 → drop at s ≡ be32 n ++ r → be32At s at ≡ n
 four-at s r at n h e =
     rw (
-      two-at s (two (n % 65536) ++ r) at (n / 65536) (omega arith) e,
-      two-at s r (at + 2) (n % 65536) (omega arith) (drop-past s (two (n / 65536)) (two (n % 65536) ++ r) at e),
+      two-at s (be16 (n % 65536) ++ r) at (n / 65536) (omega arith) e,
+      two-at s r (at + 2) (n % 65536) (omega arith) (drop-past s (be16 (n / 65536)) (be16 (n % 65536) ++ r) at e),
     )
     (omega arith)
 
 -- ---- octets
-pub two-octets : (n : ℕ) → Octets (two n)
+pub two-octets : (n : ℕ) → Octets (be16 n)
 two-octets n = (omega arith, (omega arith, tt))
 
-pub four-octets : (n : ℕ) → Octets (four n)
-four-octets n = All-append (λ x. x < 256) (two (n / 65536)) (two (n % 65536)) (two-octets (n / 65536))
+pub four-octets : (n : ℕ) → Octets (be32 n)
+four-octets n = All-append (λ x. x < 256) (be16 (n / 65536)) (be16 (n % 65536)) (two-octets (n / 65536))
     (two-octets (n % 65536))
 
 -- an octet of a text, or 0 past its end
@@ -91,8 +91,8 @@ getD-octet [] h at = omega arith
 getD-octet (x ∷ s) h zero = h .0
 getD-octet (x ∷ s) h (suc at) = getD-octet s (h .1) at
 
-pub twoAt-word : (s : List ℕ) → Octets s → (at : ℕ) → twoAt s at < 65536
+pub twoAt-word : (s : List ℕ) → Octets s → (at : ℕ) → be16At s at < 65536
 twoAt-word s h at = omega (arith, getD-octet s h at, getD-octet s h (at + 1))
 
-pub fourAt-long : (s : List ℕ) → Octets s → (at : ℕ) → fourAt s at < 4294967296
+pub fourAt-long : (s : List ℕ) → Octets s → (at : ℕ) → be32At s at < 4294967296
 fourAt-long s h at = omega (arith, twoAt-word s h at, twoAt-word s h (at + 2))

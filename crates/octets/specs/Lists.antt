@@ -51,14 +51,14 @@ All P [] = Unit {0}
 All P (x ∷ l) = P x × All P l
 
 -- an octet; a number of 16 bits, of 32 bits
-abbrev pub octet? : ℕ → Bool
-octet? x = ltb x 256
+abbrev pub u8? : ℕ → Bool
+u8? x = ltb x 256
 
-abbrev pub word? : ℕ → Bool
-word? n = ltb n 65536
+abbrev pub u16? : ℕ → Bool
+u16? n = ltb n 65536
 
-abbrev pub long? : ℕ → Bool
-long? n = ltb n 4294967296
+abbrev pub u32? : ℕ → Bool
+u32? n = ltb n 4294967296
 
 -- a list of octets
 abbrev pub Octets : List ℕ → Type 0

@@ -3,7 +3,7 @@ ghost use mathlib.Core.Path.{_≡_};
 ghost use mathlib.Core.List.{[], _∷_};
 ghost use Prim.Native.Nat.{_+_, _*_, _^_, _<_, _≤_};
 ghost use lib.ListN.{length};
-ghost use Rattle.octets.specs.Fields.{two, four, twoAt, fourAt};
+ghost use Rattle.octets.specs.Fields.{be16, be32, be16At, be32At};
 ghost use Rattle.octets.specs.Decimal.{decimal};
 ghost use Rattle.octets.specs.Hexadecimal.{hexDigit, hexOctet};
 ghost use Rattle.octets.specs.Overlay.{Wrote};
@@ -158,9 +158,9 @@ pub fn put_hex(out: &mut [u8], at: usize, src: &[u8]) -> usize
 }
 
 // The number in the two octets at `at`, the high one first.
-pub fn two_at(s: &[u8], at: usize) -> u32
+pub fn be16_at(s: &[u8], at: usize) -> u32
     requires { ⌜ at + 2 ≤ length (now s) ⌝ }
-    ensures { λ r. ⌜ r ≡ twoAt (now (s .entry)) at ⌝ }
+    ensures { λ r. ⌜ r ≡ be16At (now (s .entry)) at ⌝ }
     ensures { λ r. ⌜ r < 65536 ⌝ }
 {
     let n = wide(s[at]) * 256 + wide(s[at + 1]);
@@ -168,27 +168,27 @@ pub fn two_at(s: &[u8], at: usize) -> u32
 }
 
 // The number in the four octets at `at`, the high ones first.
-pub fn four_at(s: &[u8], at: usize) -> u32
+pub fn be32_at(s: &[u8], at: usize) -> u32
     requires { ⌜ at + 4 ≤ length (now s) ⌝ }
-    ensures { λ r. ⌜ r ≡ fourAt (now (s .entry)) at ⌝ }
+    ensures { λ r. ⌜ r ≡ be32At (now (s .entry)) at ⌝ }
 {
-    two_at(s, at) * 65536 + two_at(s, at + 2)
+    be16_at(s, at) * 65536 + be16_at(s, at + 2)
 }
 
 // Writes a number in two octets, the high one first.
-pub fn put_two(out: &mut [u8], at: usize, n: u32) -> usize
+pub fn put_be16(out: &mut [u8], at: usize, n: u32) -> usize
     requires { ⌜ (at + 1 < 2 ^ 40) × (n < 65536) ⌝ }
-    ensures { λ r. ⌜ Wrote (now (out .entry)) at (two n) (now (out .exit)) r ⌝ }
+    ensures { λ r. ⌜ Wrote (now (out .entry)) at (be16 n) (now (out .exit)) r ⌝ }
 {
     let next = put(out, at, (n / 256) as u8);
     put(out, next, (n % 256) as u8)
 }
 
 // Writes a number in four octets, the high ones first.
-pub fn put_four(out: &mut [u8], at: usize, n: u32) -> usize
+pub fn put_be32(out: &mut [u8], at: usize, n: u32) -> usize
     requires { ⌜ at < 2 ^ 39 ⌝ }
-    ensures { λ r. ⌜ Wrote (now (out .entry)) at (four n) (now (out .exit)) r ⌝ }
+    ensures { λ r. ⌜ Wrote (now (out .entry)) at (be32 n) (now (out .exit)) r ⌝ }
 {
-    let next = put_two(out, at, n / 65536);
-    put_two(out, next, n % 65536)
+    let next = put_be16(out, at, n / 65536);
+    put_be16(out, next, n % 65536)
 }

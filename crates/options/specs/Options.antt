@@ -7,7 +7,7 @@ use Prim.Native.String.{String}
 use lib.Dec.{leb, eqb}
 use lib.ListN.{length, take, drop}
 use Rattle.octets.specs.Lists.{ascii, all, lookup, rowText, listed}
-use Rattle.octets.specs.Fields.{twoAt, fourAt}
+use Rattle.octets.specs.Fields.{be16At, be32At}
 use Rattle.octets.specs.Decimal.{decimal}
 use Rattle.octets.specs.Hexadecimal.{hexText}
 use Rattle.spelling.specs.Spelling.{printable?, stringText}
@@ -121,14 +121,15 @@ present (x ∷ l) = some (x ∷ l)
 unfoldable pub shape : (form : Form) → List ℕ → Option (Value form)
 shape hexObject l = some l
 shape octetList l = some l
-shape expiry l = cond (eqb (length l) 0) (some none) (cond (eqb (length l) 4) (some (some (fourAt l 0))) none)
+shape expiry l = cond (eqb (length l) 0) (some none) (cond (eqb (length l) 4) (some (some (be32At l 0))) none)
 shape hexList l =
     cond (eqb (length l) 8) (some (l ∷ []))
     (cond (leb 16 (length l) && leb (length l) 40) (some (take 8 l ∷ drop 8 l ∷ [])) none)
-shape word l = cond (eqb (length l) 2) (some (twoAt l 0)) none
+shape word l = cond (eqb (length l) 2) (some (be16At l 0)) none
 shape padding l = some (length l, cond (all zero? l) none (some l))
 shape wordList l = cond (eqb (length l % 2) 0) (some (words l)) none
-shape extendedError l = cond (leb 2 (length l) && all printable? (drop 2 l)) (some (twoAt l 0, present (drop 2 l))) none
+shape extendedError l =
+    cond (leb 2 (length l) && all printable? (drop 2 l)) (some (be16At l 0, present (drop 2 l))) none
 shape unlisted l = none
 
 -- ---- an option, and its member

@@ -10,7 +10,7 @@ use lib.Dec.{leb, eqb}
 use lib.ListN.{length, take, drop}
 use Rattle.octets.specs.Lists.{all, lookup, present?}
 use Rattle.octets.proofs.Arms.{Missed, armsOf, missed-row}
-use Rattle.octets.specs.Fields.{fourAt}
+use Rattle.octets.specs.Fields.{be32At}
 use Rattle.spelling.specs.Spelling.{printable?}
 use Rattle.options.specs.Options.{Form, unlisted, rows, row-form, formOf, shape}
 
@@ -103,7 +103,7 @@ module _ (v : List ℕ) where
   pub expire-four : Shaped 9 v → (length v ≡ 0 → ⊥) → length v ≡ 4
   unfolding lookup rows formOf shape
   expire-four s h =
-      let t : present? (cond (eqb (length v) 4) (some (some (fourAt v 0))) none) ≡ true =
+      let t : present? (cond (eqb (length v) 4) (some (some (be32At v 0))) none) ≡ true =
       rw (ne-eqb (length v) 0 h) at s in
       eqb-true (length v) 4 (chosen (eqb (length v) 4) _ ∙ t)
 

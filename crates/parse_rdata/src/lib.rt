@@ -4,7 +4,7 @@ use hex_or_octets::octet;
 use octets::put;
 use octets::wide;
 use records::Piece;
-use records::piece_of;
+use records::layout_piece;
 ghost use mathlib.Core.Path.{_≡_};
 ghost use Prim.Native.Nat.{_+_, _^_, _<_};
 ghost use lib.ListN.{length};
@@ -82,7 +82,7 @@ pub fn fits_layout(kind: u32, hex: &[u8]) -> bool
     let mut i = 0;
     let mut at = 0;
     loop {
-        match piece_of(kind, size, i) {
+        match layout_piece(kind, size, i) {
             Piece::End => {
                 return at >= size;
             }

@@ -7,10 +7,10 @@ use native.Mathlib.Omega.{arith}
 use borrow.Author.Tests.{lt-ltb, le-ltb, not-true, not-false}
 use lib.Dec.{T, leb, ltb}
 use lib.ListN.{length}
-use Rattle.octets.specs.Lists.{octet?, word?, long?}
+use Rattle.octets.specs.Lists.{u8?, u16?, u32?}
 use Rattle.octets.specs.Bits.{and-right}
 use Rattle.octets.specs.Parsed.{Parsed}
-use Rattle.octets.specs.Fields.{two, four}
+use Rattle.octets.specs.Fields.{be16, be32}
 use Rattle.octets.specs.Overlay.{Wrote}
 use Rattle.strict.specs.Meaning.{ttl?, unsigned}
 use Rattle.parse_tokens.specs.declared.Cursor.{Cursor}
@@ -40,7 +40,7 @@ abbrev pub NumberPut : ℕ → (ℕ → Bool) → (ℕ → List ℕ) → (c : Cu
 NumberPut value ok wire = FieldPut (λ n. value ≡ capped n) ok wire (ok value) (wire value)
 
 abbrev pub TtlPut : Bool → ℕ → (c : Cursor) (b : List ℕ) (r : Cursor) (b′ : List ℕ) → Type 0
-TtlPut fits bits = FieldPut (TtlKept fits bits) ttl? (λ s. four (unsigned s)) fits (four bits)
+TtlPut fits bits = FieldPut (TtlKept fits bits) ttl? (λ s. be32 (unsigned s)) fits (be32 bits)
 
 module _ {A : Type 0} {P : A → Type 0} {ok : A → Bool} {wire : A → List ℕ} {c r : Cursor} {b b′ : List ℕ} where
   -- out of range
@@ -119,29 +119,29 @@ module _ {v : ℕ} {c r : Cursor} {b : List ℕ} (limit : ℕ) (low : limit ≤ 
   number-in k = field-in (lt-ltb v limit k) λ n e. let d : n ≡ v = omega arith in (lt-ltb n limit (omega arith), rw d)
 
 module _ {v : ℕ} {c r : Cursor} {b : List ℕ} where
-  pub octet-out : c .to ≤ 65535 → 255 < v → Judged false c r → NumberPut v octet? (λ n. n ∷ []) c b r b
+  pub octet-out : c .to ≤ 65535 → 255 < v → Judged false c r → NumberPut v u8? (λ n. n ∷ []) c b r b
   octet-out h k = number-out 256 (omega arith) _ h (omega arith)
 
-  pub octet-in : {b′ : List ℕ} → v ≤ 255 → Emits (v ∷ []) c b r b′ → NumberPut v octet? (λ n. n ∷ []) c b r b′
+  pub octet-in : {b′ : List ℕ} → v ≤ 255 → Emits (v ∷ []) c b r b′ → NumberPut v u8? (λ n. n ∷ []) c b r b′
   octet-in k = number-in 256 (omega arith) _ (omega arith)
 
-  pub word-out : c .to ≤ 65535 → 65535 < v → Judged false c r → NumberPut v word? two c b r b
-  word-out h k = number-out 65536 (omega arith) two h (omega arith)
+  pub word-out : c .to ≤ 65535 → 65535 < v → Judged false c r → NumberPut v u16? be16 c b r b
+  word-out h k = number-out 65536 (omega arith) be16 h (omega arith)
 
-  pub word-in : {xs b′ : List ℕ} → v ≤ 65535 → xs ≡ two v → Emits xs c b r b′ → NumberPut v word? two c b r b′
-  word-in k x e = number-in 65536 (omega arith) two (omega arith) (rw (← x) e)
+  pub word-in : {xs b′ : List ℕ} → v ≤ 65535 → xs ≡ be16 v → Emits xs c b r b′ → NumberPut v u16? be16 c b r b′
+  word-in k x e = number-in 65536 (omega arith) be16 (omega arith) (rw (← x) e)
 
-  pub long-out : c .to ≤ 65535 → 4294967295 < v → Judged false c r → NumberPut v long? four c b r b
-  long-out h k = number-out 4294967296 (omega arith) four h (omega arith)
+  pub long-out : c .to ≤ 65535 → 4294967295 < v → Judged false c r → NumberPut v u32? be32 c b r b
+  long-out h k = number-out 4294967296 (omega arith) be32 h (omega arith)
 
-  pub long-in : {xs b′ : List ℕ} → v ≤ 4294967295 → xs ≡ four v → Emits xs c b r b′ → NumberPut v long? four c b r b′
-  long-in k x e = number-in 4294967296 (omega arith) four (omega arith) (rw (← x) e)
+  pub long-in : {xs b′ : List ℕ} → v ≤ 4294967295 → xs ≡ be32 v → Emits xs c b r b′ → NumberPut v u32? be32 c b r b′
+  long-in k x e = number-in 4294967296 (omega arith) be32 (omega arith) (rw (← x) e)
 
 module _ {bits : ℕ} {fits : Bool} {c r : Cursor} {b : List ℕ} where
   pub ttl-out : c .to ≤ 65535 → not fits ≡ true → Judged false c r → TtlPut fits bits c b r b
   ttl-out h k = field-out (not-true fits k) h λ s e. sym (e .0) ∙ not-true fits k
 
-  pub ttl-in : {b′ : List ℕ} → not fits ≡ false → Emits (four bits) c b r b′ → TtlPut fits bits c b r b′
+  pub ttl-in : {b′ : List ℕ} → not fits ≡ false → Emits (be32 bits) c b r b′ → TtlPut fits bits c b r b′
   ttl-in k = let g = not-false fits k in field-in g λ s e. (sym (e .0) ∙ g, rw (← (e .1 (subst T (sym g) tt))))
 
 -- ---- read, and then judged and written

@@ -5,8 +5,8 @@ ghost use mathlib.Core.Bool.{true, false, not, _&&_, _||_};
 ghost use Prim.Native.Nat.{_+_, _-_, _*_, _^_, _<_, _≤_};
 ghost use mathlib.Core.List.{[], _∷_};
 ghost use lib.ListN.{length};
-ghost use Rattle.octets.specs.Lists.{octet?, word?, long?};
-ghost use Rattle.octets.specs.Fields.{two, four};
+ghost use Rattle.octets.specs.Lists.{u8?, u16?, u32?};
+ghost use Rattle.octets.specs.Fields.{be16, be32};
 ghost use Rattle.octets.specs.Codec.{tried};
 ghost use Rattle.options.specs.Options.{members};
 ghost use Rattle.edns.specs.Edns.{flags, rcodes};
@@ -37,7 +37,7 @@ pub struct Cursor {
 }
 
 // The reader comes to a place.
-pub fn came(c: Cursor, at: usize) -> Cursor
+pub fn advance(c: Cursor, at: usize) -> Cursor
     ensures { λ r. ⌜ Came c at r ⌝ }
 {
     Cursor {
@@ -50,7 +50,7 @@ pub fn came(c: Cursor, at: usize) -> Cursor
 }
 
 // The reader stops at a place.
-pub fn stop(c: Cursor, at: usize) -> Cursor
+pub fn fail_at(c: Cursor, at: usize) -> Cursor
     ensures { λ r. ⌜ Stopped c at r ⌝ }
 {
     Cursor {
@@ -74,15 +74,15 @@ pub fn literal(text: &[u8], c: Cursor, lit: &[u8]) -> Cursor
     let mut i = 0;
     while i < lit.len() {
         if at >= text.len() {
-            return stop(c, at);
+            return fail_at(c, at);
         }
         if text[at] != lit[i] {
-            return stop(c, at);
+            return fail_at(c, at);
         }
         at += 1;
         i += 1;
     }
-    came(c, at)
+    advance(c, at)
 }
 
 // The comma before an item; the first has none.
@@ -97,7 +97,7 @@ pub fn comma(text: &[u8], c: Cursor, first: bool) -> Cursor
 }
 
 // `meant` only if this holds too.
-pub fn judge(c: Cursor, ok: bool) -> Cursor
+pub fn demand(c: Cursor, ok: bool) -> Cursor
     ensures { λ r. ⌜ Judged ok c r ⌝ }
 {
     let meant = c.meant;
@@ -111,7 +111,7 @@ pub fn judge(c: Cursor, ok: bool) -> Cursor
 }
 
 // Holds places for n octets of the message, unless they go past its limit. Then `to` stays.
-pub fn hold(c: Cursor, n: usize) -> Cursor
+pub fn reserve(c: Cursor, n: usize) -> Cursor
     requires { ⌜ c .to ≤ 65535 ⌝ }
     ensures { λ r. ⌜ Held n c r ⌝ }
 {
@@ -139,7 +139,7 @@ pub fn emit(c: Cursor, octets: &[u8], out: &mut [u8]) -> Cursor
     requires { ⌜ c .to ≤ 65535 ⌝ }
     ensures { λ r. ⌜ Emits (now (octets .entry)) c (now (out .entry)) r (now (out .exit)) ⌝ }
 {
-    let r = hold(c, octets.len());
+    let r = reserve(c, octets.len());
     if !r.small {
         return r;
     }
@@ -149,12 +149,12 @@ pub fn emit(c: Cursor, octets: &[u8], out: &mut [u8]) -> Cursor
 }
 
 // A reader that stopped stops at the further of its place and another.
-pub fn further(c: Cursor, at: usize) -> Cursor
+pub fn furthest_failure(c: Cursor, at: usize) -> Cursor
     ensures { λ r. ⌜ Further at c r ⌝ }
 {
     if !c.spelled {
         if c.at < at {
-            return stop(c, at);
+            return fail_at(c, at);
         }
     }
     c
@@ -195,7 +195,7 @@ fn none(c: Cursor, at: usize) -> Amount
     ensures { λ r. ⌜ NoNumber c at r ⌝ }
 {
     Amount {
-        cursor: stop(c, at),
+        cursor: fail_at(c, at),
         value: 0,
     }
 }
@@ -254,14 +254,14 @@ fn positive(text: &[u8], c: Cursor) -> Amount
     loop {
         if at >= text.len() {
             return Amount {
-                cursor: came(c, at),
+                cursor: advance(c, at),
                 value: value,
             };
         }
         let d = digit(text[at]);
         if d > 9 {
             return Amount {
-                cursor: came(c, at),
+                cursor: advance(c, at),
                 value: value,
             };
         }
@@ -286,7 +286,7 @@ pub fn number(text: &[u8], c: Cursor) -> Amount
 }
 
 // A number and the fixed octets after it. On a stop the value is 0.
-pub fn till(text: &[u8], c: Cursor, title: &[u8]) -> Amount
+pub fn number_then(text: &[u8], c: Cursor, title: &[u8]) -> Amount
     requires { ⌜ Safe (now text) c ⌝ }
     ensures { λ r. ⌜ TillRead (now (title .entry)) (now (text .entry)) c r ⌝ }
 {
@@ -411,7 +411,7 @@ fn quote(text: &[u8], c: Cursor, at: usize) -> Cursor
     requires { ⌜ Safe (now text) c × ((c .at ≤ at) × (at ≤ length (now text))) ⌝ }
     ensures { λ r. ⌜ Quoted (now (text .entry)) c at r ⌝ }
 {
-    literal(text, came(c, at), b"\"")
+    literal(text, advance(c, at), b"\"")
 }
 
 // Digits in pairs, and the quote after them. On a stop, the pairs before it.
@@ -440,7 +440,7 @@ pub fn hex(text: &[u8], c: Cursor) -> Span
         let second = hex_at(text, at + 1);
         if !second {
             return Span {
-                cursor: stop(c, at + 1),
+                cursor: fail_at(c, at + 1),
                 from: from,
                 end: at,
             };
@@ -463,7 +463,7 @@ fn row_of(text: &[u8], c: Cursor, table: &[u8]) -> Row
     ensures { λ r. ⌜ RowRead (triedIn (now (table .entry))) (now (text .entry)) c r ⌝ }
 {
     let start = c.at;
-    let mut far = stop(c, start);
+    let mut far = fail_at(c, start);
     let mut from = 0;
     loop {
         if table.len() - from < 2 {
@@ -488,7 +488,7 @@ fn row_of(text: &[u8], c: Cursor, table: &[u8]) -> Row
                 key: wide(table[from]) as u32,
             };
         }
-        far = further(far, d.at);
+        far = furthest_failure(far, d.at);
         from = next;
     }
 }
@@ -535,23 +535,23 @@ pub fn option_name(text: &[u8], c: Cursor) -> Row
 }
 
 // A number of one octet.
-pub fn put_octet(c: Cursor, value: u64, out: &mut [u8]) -> Cursor
+pub fn put_u8(c: Cursor, value: u64, out: &mut [u8]) -> Cursor
     requires { ⌜ c .to ≤ 65535 ⌝ }
-    ensures { λ r. ⌜ NumberPut value octet? (λ n. n ∷ []) c (now (out .entry)) r (now (out .exit)) ⌝ }
+    ensures { λ r. ⌜ NumberPut value u8? (λ n. n ∷ []) c (now (out .entry)) r (now (out .exit)) ⌝ }
 {
     if value > 255 {
-        return judge(c, false);
+        return demand(c, false);
     }
     emit(c, &[value as u8], out)
 }
 
 // A number of two octets.
-pub fn put_word(c: Cursor, value: u64, out: &mut [u8]) -> Cursor
+pub fn put_u16(c: Cursor, value: u64, out: &mut [u8]) -> Cursor
     requires { ⌜ c .to ≤ 65535 ⌝ }
-    ensures { λ r. ⌜ NumberPut value word? two c (now (out .entry)) r (now (out .exit)) ⌝ }
+    ensures { λ r. ⌜ NumberPut value u16? be16 c (now (out .entry)) r (now (out .exit)) ⌝ }
 {
     if value > 65535 {
-        return judge(c, false);
+        return demand(c, false);
     }
     emit(c, &[(value / 256 % 256) as u8, (value % 256) as u8], out)
 }
@@ -559,7 +559,7 @@ pub fn put_word(c: Cursor, value: u64, out: &mut [u8]) -> Cursor
 // Four octets.
 fn emit_four(c: Cursor, bits: u32, out: &mut [u8]) -> Cursor
     requires { ⌜ c .to ≤ 65535 ⌝ }
-    ensures { λ r. ⌜ Emits (four bits) c (now (out .entry)) r (now (out .exit)) ⌝ }
+    ensures { λ r. ⌜ Emits (be32 bits) c (now (out .entry)) r (now (out .exit)) ⌝ }
 {
     let high = bits / 65536;
     let low = bits % 65536;
@@ -576,12 +576,12 @@ fn emit_four(c: Cursor, bits: u32, out: &mut [u8]) -> Cursor
 }
 
 // A number of four octets.
-pub fn put_long(c: Cursor, value: u64, out: &mut [u8]) -> Cursor
+pub fn put_u32(c: Cursor, value: u64, out: &mut [u8]) -> Cursor
     requires { ⌜ c .to ≤ 65535 ⌝ }
-    ensures { λ r. ⌜ NumberPut value long? four c (now (out .entry)) r (now (out .exit)) ⌝ }
+    ensures { λ r. ⌜ NumberPut value u32? be32 c (now (out .entry)) r (now (out .exit)) ⌝ }
 {
     if value > 4294967295 {
-        return judge(c, false);
+        return demand(c, false);
     }
     emit_four(c, value as u32, out)
 }
@@ -592,7 +592,7 @@ pub fn put_ttl(c: Cursor, bits: u32, fits: bool, out: &mut [u8]) -> Cursor
     ensures { λ r. ⌜ TtlPut fits bits c (now (out .entry)) r (now (out .exit)) ⌝ }
 {
     if !fits {
-        return judge(c, false);
+        return demand(c, false);
     }
     emit_four(c, bits, out)
 }

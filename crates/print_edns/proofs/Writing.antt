@@ -11,7 +11,7 @@ use lib.Dec.{T, leb, eqb}
 use lib.ListN.{length, getD, take, drop}
 use Rattle.octets.specs.Lists.{ascii, key?, rowText, each, present?}
 use Rattle.octets.specs.Bits.{is-true, and-right}
-use Rattle.octets.specs.Fields.{twoAt}
+use Rattle.octets.specs.Fields.{be16At}
 use Rattle.octets.specs.Decimal.{decimal}
 use Rattle.octets.specs.Overlay.{Wrote, then, nothing, each-ended}
 use Rattle.options.specs.Options.{EdnsOption, memberOf, memberText}
@@ -78,17 +78,19 @@ module _ {s b : List ℕ} {at : ℕ} {out : List ℕ} {to from : ℕ} (f : Optio
 
   module _ (h : from < length s) where
     -- there is an option
-    pub left-room : from + 4 + twoAt s (from + 2) ≤ length s
-    left-room = go (leb (from + 4 + twoAt s (from + 2)) (length s)) refl
+    pub left-room : from + 4 + be16At s (from + 2) ≤ length s
+    left-room = go (leb (from + 4 + be16At s (from + 2)) (length s)) refl
       where
-        go : (t : Bool) → leb (from + 4 + twoAt s (from + 2)) (length s) ≡ t → from + 4 + twoAt s (from + 2) ≤ length s
-        go true e = leb-true (from + 4 + twoAt s (from + 2)) (length s) e
+        go : (t : Bool) → leb (from + 4 + be16At s (from + 2)) (length s) ≡ t
+            → from + 4 + be16At s (from + 2) ≤ length s
+        go true e = leb-true (from + 4 + be16At s (from + 2)) (length s) e
         go false e =
-            let none-here = options-none s from h (leb-false (from + 4 + twoAt s (from + 2)) (length s) e) in
+            let none-here = options-none s from h (leb-false (from + 4 + be16At s (from + 2)) (length s) e) in
             absurd (subst (λ o. T (present? o)) none-here (f .divides))
 
     -- it is written
-    pub left-more : {code size : ℕ} → code ≡ twoAt s from → size ≡ twoAt s (from + 2) → {out₁ out₂ : List ℕ} {r₁ r₂ : ℕ}
+    pub left-more : {code size : ℕ} → code ≡ be16At s from → size ≡ be16At s (from + 2)
+        → {out₁ out₂ : List ℕ} {r₁ r₂ : ℕ}
         → Wrote out to (44 ∷ []) out₁ r₁
         → Wrote out₁ r₁ (memberText
         (memberOf (record { code = code; value = take (from + 4 + size - (from + 4)) (drop (from + 4) s) }))) out₂
@@ -96,7 +98,7 @@ module _ {s b : List ℕ} {at : ℕ} {out : List ℕ} {to from : ℕ} (f : Optio
         → OptionsLoop s b at out₂ r₂ (from + 4 + size)
     unfolding optionsText optionsIn
     left-more {code} {size} d e {out₁} {out₂} {r₁} {r₂} p q =
-        let after = drop (from + 4 + twoAt s (from + 2)) s in
+        let after = drop (from + 4 + be16At s (from + 2)) s in
         let more : optionsOf (drop from s) ≡ prepend (here s from) (optionsOf after) = options-more s from left-room in
         let (t, text) = later (here s from) (optionsOf after) (subst (λ o. T (present? o)) more (f .divides)) in
         let long : from + 4 + size - (from + 4) ≡ size = omega arith in

@@ -1,10 +1,10 @@
 // Writers of the EDNS element. The definitions are in `edns`.
 use edns::rcode_names;
 use edns::rcode_row;
+use octets::be16_at;
 use octets::put;
 use octets::put_all;
 use octets::put_decimal;
-use octets::two_at;
 use octets::wide;
 use print_options::put_member;
 ghost use mathlib.Core.Path.{_≡_};
@@ -65,8 +65,8 @@ fn put_options(out: &mut [u8], at: usize, rdata: &[u8]) -> usize
     let mut to = at;
     let mut from = 0;
     while from < rdata.len() {
-        let code = two_at(rdata, from);
-        let size = two_at(rdata, from + 2) as usize;
+        let code = be16_at(rdata, from);
+        let size = be16_at(rdata, from + 2) as usize;
         let start = from + 4;
         let end = start + size;
         to = put(out, to, b',');

@@ -10,7 +10,7 @@ use lib.Dec.{ltb}
 use lib.ListN.{length, take, length-take}
 use lib.Seq.{take-append-seam, drop-append-seam}
 use Rattle.octets.specs.Lists.{ascii, ended}
-use Rattle.octets.specs.Fields.{twoAt, fourAt}
+use Rattle.octets.specs.Fields.{be16At, be32At}
 use Rattle.octets.specs.Overlay.{Wrote, then}
 use Rattle.octets.specs.Decimal.{decimal}
 use Rattle.records.proofs.Told.{form-part, asked}
@@ -104,15 +104,15 @@ head-sized s at h next e = begun-entry (λ (h : HeadOf). h .name) s (2 ∷ 2 ∷
     room n false fault k i a j p q = sym (ap (λ (h : HeadOf). h .name) (entry-value q)) ∙ p
 
     same : (n : Name) (i : ℕ) (a : HeadOf) (j : ℕ) → headed s n i ≡ entry a j → a .name ≡ n
-    same n i a j p = room n (ltb (length s) (i + 10 + twoAt s (i + 8))) (record { kind = cut; octet = i + 10 })
+    same n i a j p = room n (ltb (length s) (i + 10 + be16At s (i + 8))) (record { kind = cut; octet = i + 10 })
         (record {
           name = n;
-          type = twoAt s i;
-          class = twoAt s (i + 2);
-          ttl = fourAt s (i + 4);
+          type = be16At s i;
+          class = be16At s (i + 2);
+          ttl = be32At s (i + 4);
           rdata = i + 10;
-          rdlength = twoAt s (i + 8);
-        }) (i + 10 + twoAt s (i + 8)) a j refl p
+          rdlength = be16At s (i + 8);
+        }) (i + 10 + be16At s (i + 8)) a j refl p
 
 -- ---- questions
 -- the texts that a question and a record begin with

@@ -17,8 +17,8 @@ use rdata::put_rdata;
 use records::Head;
 use records::Question;
 use records::Record;
-use records::head_at;
 use records::question_at;
+use records::record_at;
 use spelling::put_name;
 use spelling::put_signed;
 
@@ -151,7 +151,7 @@ fn put_record(s: &[u8], at: usize, lone: bool, out: &mut [u8], to: usize) -> Pos
         (r .to) ⌝ }
     ensures { λ r. ⌜ Within r at to (length (now (s .entry))) ⌝ }
 {
-    let read = head_at(s, at);
+    let read = record_at(s, at);
     let answer = read.answer;
     let name = read.name;
     let Record::Read(head) = answer else {

@@ -7,7 +7,7 @@ use native.Mathlib.Omega.{arith}
 use borrow.Author.Tests.{ne-eqb, eq-eqb}
 use lib.Dec.{eqb}
 use Rattle.octets.specs.Lists.{ascii}
-use Rattle.octets.specs.Fields.{twoAt}
+use Rattle.octets.specs.Fields.{be16At}
 use Rattle.octets.specs.Overlay.{Wrote, nothing}
 use Rattle.records.specs.Read.{Entry, entry}
 use Rattle.print_entry.specs.Prints.{texts, entryThen, Readable, readable-value, readable-first, Prints, prints-after}
@@ -38,16 +38,16 @@ unfoldable pub sectionText : List ℕ → Element → List ℕ → ℕ → ℕ �
 sectionText title e s n at = texts (λ t. title ++ t) (arrayText e s n at)
 
 abbrev pub questionsText : List ℕ → ℕ → Entry (List ℕ)
-questionsText s = sectionText (ascii ",\"questionRRs\":") element.Question s (twoAt s 4)
+questionsText s = sectionText (ascii ",\"questionRRs\":") element.Question s (be16At s 4)
 
 abbrev pub answersText : List ℕ → ℕ → Entry (List ℕ)
-answersText s = sectionText (ascii ",\"answerRRs\":") (element.Record false) s (twoAt s 6)
+answersText s = sectionText (ascii ",\"answerRRs\":") (element.Record false) s (be16At s 6)
 
 abbrev pub authorityText : List ℕ → ℕ → Entry (List ℕ)
-authorityText s = sectionText (ascii ",\"authorityRRs\":") (element.Record false) s (twoAt s 8)
+authorityText s = sectionText (ascii ",\"authorityRRs\":") (element.Record false) s (be16At s 8)
 
 abbrev pub additionalText : Bool → List ℕ → ℕ → Entry (List ℕ)
-additionalText lone s = sectionText (ascii ",\"additionalRRs\":") (element.Record lone) s (twoAt s 10)
+additionalText lone s = sectionText (ascii ",\"additionalRRs\":") (element.Record lone) s (be16At s 10)
 
 -- ---- the whole
 -- the text from a section on

@@ -4,7 +4,7 @@ use mathlib.Core.List.{List, [], _∷_, _++_}
 use Prim.Native.Nat.{ℕ}
 use lib.ListN.{getD}
 use Rattle.octets.specs.Lists.{ascii}
-use Rattle.octets.specs.Fields.{twoAt}
+use Rattle.octets.specs.Fields.{be16At}
 use Rattle.octets.specs.Decimal.{decimal}
 use Rattle.octets.specs.Overlay.{Wrote, then}
 use Rattle.records.specs.Decode.{headerOf}
@@ -15,10 +15,10 @@ use Rattle.print_head.specs.Head.{numberText, withHigh, withLow, highText, lowT
 abbrev pub headDocument : List ℕ → Document
 headDocument s = record {
   header = headerOf s;
-  qdcount = twoAt s 4;
-  ancount = twoAt s 6;
-  nscount = twoAt s 8;
-  arcount = twoAt s 10;
+  qdcount = be16At s 4;
+  ancount = be16At s 6;
+  nscount = be16At s 8;
+  arcount = be16At s 10;
   questions = [];
   answers = [];
   authority = [];
@@ -29,8 +29,8 @@ unfoldable pub headTextAt : List ℕ → List ℕ
 headTextAt s = headText (headDocument s)
 
 -- it is the head of every document with that header and those counts
-pub head-at : (s : List ℕ) (d : Document) → d .header ≡ headerOf s → d .qdcount ≡ twoAt s 4 → d .ancount ≡ twoAt s 6
-    → d .nscount ≡ twoAt s 8 → d .arcount ≡ twoAt s 10 → headText d ≡ headTextAt s
+pub head-at : (s : List ℕ) (d : Document) → d .header ≡ headerOf s → d .qdcount ≡ be16At s 4 → d .ancount ≡ be16At s 6
+    → d .nscount ≡ be16At s 8 → d .arcount ≡ be16At s 10 → headText d ≡ headTextAt s
 unfolding headText headTextAt
 head-at s d h q a n r = rw (h, q, a, n, r)
 
@@ -39,10 +39,10 @@ head-at s d h q a n r = rw (h, q, a, n, r)
 unfoldable pub withCounts : List ℕ → List ℕ → List ℕ
 withCounts l s =
     l
-    ++ ascii ",\"QDCOUNT\":" ++ decimal (twoAt s 4)
-    ++ ascii ",\"ANCOUNT\":" ++ decimal (twoAt s 6)
-    ++ ascii ",\"NSCOUNT\":" ++ decimal (twoAt s 8)
-    ++ ascii ",\"ARCOUNT\":" ++ decimal (twoAt s 10)
+    ++ ascii ",\"QDCOUNT\":" ++ decimal (be16At s 4)
+    ++ ascii ",\"ANCOUNT\":" ++ decimal (be16At s 6)
+    ++ ascii ",\"NSCOUNT\":" ++ decimal (be16At s 8)
+    ++ ascii ",\"ARCOUNT\":" ++ decimal (be16At s 10)
 
 -- the members alone
 abbrev pub countsText : List ℕ → List ℕ
@@ -55,13 +55,14 @@ counts-after (y ∷ l) s = ap (λ m. y ∷ m) (counts-after l s)
 
 -- the head is ID with the three parts after it
 head-parts : (s : List ℕ)
-    → headTextAt s ≡ withCounts (withLow (withHigh (ascii "{\"ID\":" ++ decimal (twoAt s 0)) (getD s 2 0)) (getD s 3 0))
+    → headTextAt s ≡ withCounts (withLow (withHigh (ascii "{\"ID\":" ++ decimal (be16At s 0)) (getD s 2 0))
+    (getD s 3 0))
     s
 unfolding headText headTextAt headerOf withHigh withLow withCounts
 head-parts s = refl
 
 -- ---- writing it
-pub wrote-head : (s : List ℕ) {n : ℕ} {b b₁ b₂ b₃ b₄ : List ℕ} {at r₁ r₂ r₃ r₄ : ℕ} → n ≡ twoAt s 0
+pub wrote-head : (s : List ℕ) {n : ℕ} {b b₁ b₂ b₃ b₄ : List ℕ} {at r₁ r₂ r₃ r₄ : ℕ} → n ≡ be16At s 0
     → Wrote b at (numberText (ascii "{\"ID\":") n) b₁ r₁ → Wrote b₁ r₁ (highText (getD s 2 0)) b₂ r₂
     → Wrote b₂ r₂ (lowText (getD s 3 0)) b₃ r₃ → Wrote b₃ r₃ (countsText s) b₄ r₄
     → Wrote b at (headTextAt s) b₄ r₄

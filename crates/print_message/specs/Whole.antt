@@ -6,7 +6,7 @@ use Prim.Native.Nat.{ℕ, zero, suc, _≤_}
 use lib.Dec.{eqb}
 use lib.ListN.{length}
 use Rattle.octets.specs.Lists.{ascii, ended, listed, count}
-use Rattle.octets.specs.Fields.{twoAt}
+use Rattle.octets.specs.Fields.{be16At}
 use Rattle.octets.specs.Overlay.{Wrote}
 use Rattle.records.specs.Message.{Record, Message, opt?}
 use Rattle.records.specs.Read.{Entry, entry, bad, Reached, reached, stopped, Section, questionAt, recordAt, sectionAt}
@@ -127,8 +127,9 @@ joined : (h t₁ l₁ t₂ l₂ t₃ l₃ t₄ l₄ z : List ℕ)
 joined h t₁ l₁ t₂ l₂ t₃ l₃ t₄ l₄ z = simp append-assoc
 
 -- the text of a document by its parts
-document-parts : (s : List ℕ) (d : Document) → d .header ≡ headerOf s → d .qdcount ≡ twoAt s 4 → d .ancount ≡ twoAt s 6
-    → d .nscount ≡ twoAt s 8 → d .arcount ≡ twoAt s 10
+document-parts : (s : List ℕ) (d : Document) → d .header ≡ headerOf s → d .qdcount ≡ be16At s 4
+    → d .ancount ≡ be16At s 6
+    → d .nscount ≡ be16At s 8 → d .arcount ≡ be16At s 10
     → headTextAt s
     ++ (ascii ",\"questionRRs\":" ++ listed questionText (d .questions)
     ++ (ascii ",\"answerRRs\":" ++ listed recordText (d .answers)
@@ -159,42 +160,42 @@ sections-text : (s : List ℕ) (i : ℕ) → sectionsOf s .additional .end ≡ r
 unfolding sectionsOf messageRead wholeText text viewText documentOf viewOf headerOf
 sections-text s i e =
     let lone = eqb (count opt? (messageRead s .additional)) 1 in
-    let f₁ = sectionAt questionAt s (twoAt s 4) 12 in
-    let f₂ = sectionFrom recordAt s (twoAt s 6) (f₁ .end) in
-    let f₃ = sectionFrom recordAt s (twoAt s 8) (f₂ .end) in
-    let f₄ = sectionFrom recordAt s (twoAt s 10) (f₃ .end) in
-    let (i₃, p₃, g₄) = from-reached recordAt s (twoAt s 10) (f₃ .end) i e in
-    let (i₂, p₂, g₃) = from-reached recordAt s (twoAt s 8) (f₂ .end) i₃ p₃ in
-    let (i₁, p₁, g₂) = from-reached recordAt s (twoAt s 6) (f₁ .end) i₂ p₂ in
+    let f₁ = sectionAt questionAt s (be16At s 4) 12 in
+    let f₂ = sectionFrom recordAt s (be16At s 6) (f₁ .end) in
+    let f₃ = sectionFrom recordAt s (be16At s 8) (f₂ .end) in
+    let f₄ = sectionFrom recordAt s (be16At s 10) (f₃ .end) in
+    let (i₃, p₃, g₄) = from-reached recordAt s (be16At s 10) (f₃ .end) i e in
+    let (i₂, p₂, g₃) = from-reached recordAt s (be16At s 8) (f₂ .end) i₃ p₃ in
+    let (i₁, p₁, g₂) = from-reached recordAt s (be16At s 6) (f₁ .end) i₂ p₂ in
     let asText : Record → List ℕ = λ r. recordText (recordItem r) in
     let d = documentOf (viewOf (messageRead s)) in
-    let l₂ : listed asText (sectionAt recordAt s (twoAt s 6) i₁ .entries) ≡ listed recordText (d .answers) =
-    ap (listed asText) (sym (from-entries recordAt s (twoAt s 6) (f₁ .end) i₁ p₁))
+    let l₂ : listed asText (sectionAt recordAt s (be16At s 6) i₁ .entries) ≡ listed recordText (d .answers) =
+    ap (listed asText) (sym (from-entries recordAt s (be16At s 6) (f₁ .end) i₁ p₁))
     ∙ sym (listed-map recordText recordItem (f₂ .entries)) in
-    let l₃ : listed asText (sectionAt recordAt s (twoAt s 8) i₂ .entries) ≡ listed recordText (d .authority) =
-    ap (listed asText) (sym (from-entries recordAt s (twoAt s 8) (f₂ .end) i₂ p₂))
+    let l₃ : listed asText (sectionAt recordAt s (be16At s 8) i₂ .entries) ≡ listed recordText (d .authority) =
+    ap (listed asText) (sym (from-entries recordAt s (be16At s 8) (f₂ .end) i₂ p₂))
     ∙ sym (listed-map recordText recordItem (f₃ .entries)) in
-    let l₄ : listed (entryText (rcodeOf s) lone) (sectionAt recordAt s (twoAt s 10) i₃ .entries) ≡ listed itemText
+    let l₄ : listed (entryText (rcodeOf s) lone) (sectionAt recordAt s (be16At s 10) i₃ .entries) ≡ listed itemText
     (d .additional) =
-    ap (listed (entryText (rcodeOf s) lone)) (sym (from-entries recordAt s (twoAt s 10) (f₃ .end) i₃ p₃))
+    ap (listed (entryText (rcodeOf s) lone)) (sym (from-entries recordAt s (be16At s 10) (f₃ .end) i₃ p₃))
     ∙ sym (additional-text (rcodeOf s) (f₄ .entries)) in
     let t₄ = on-text (λ next. entry (ascii "}") next)
     (section-text (entryText (rcodeOf s) lone) recordAt (element.Record lone) s (entry-same lone s)
-    (ascii ",\"additionalRRs\":") _ (twoAt s 10) i₃ i g₄ l₄) refl in
+    (ascii ",\"additionalRRs\":") _ (be16At s 10) i₃ i g₄ l₄) refl in
     let t₃ = on-text (fromAdditional lone s)
     (section-text asText recordAt (element.Record false) s (record-same s) (ascii ",\"authorityRRs\":") _
-    (twoAt s 8) i₂ i₃ g₃ l₃) t₄ in
+    (be16At s 8) i₂ i₃ g₃ l₃) t₄ in
     let t₂ = on-text (fromAuthority lone s)
     (section-text asText recordAt (element.Record false) s (record-same s) (ascii ",\"answerRRs\":") _
-    (twoAt s 6) i₁ i₂ g₂ l₂) t₃ in
+    (be16At s 6) i₁ i₂ g₂ l₂) t₃ in
     let t₁ = on-text (fromAnswers lone s) (section-text questionText questionAt element.Question s (question-same s)
-    (ascii ",\"questionRRs\":") _ (twoAt s 4) 12 i₁ p₁ refl) t₂ in
+    (ascii ",\"questionRRs\":") _ (be16At s 4) 12 i₁ p₁ refl) t₂ in
     ap (texts (λ t. headTextAt s ++ t)) t₁
     ∙ ap (λ (a : List ℕ). entry a i) (document-parts s d refl
-    (section-count questionAt s (twoAt s 4) 12 i₁ p₁)
-    (from-count recordAt s (twoAt s 6) (f₁ .end) i₂ p₂)
-    (from-count recordAt s (twoAt s 8) (f₂ .end) i₃ p₃)
-    (additional-long (rcodeOf s) (f₄ .entries) ∙ from-count recordAt s (twoAt s 10) (f₃ .end) i e))
+    (section-count questionAt s (be16At s 4) 12 i₁ p₁)
+    (from-count recordAt s (be16At s 6) (f₁ .end) i₂ p₂)
+    (from-count recordAt s (be16At s 8) (f₂ .end) i₃ p₃)
+    (additional-long (rcodeOf s) (f₄ .entries) ∙ from-count recordAt s (be16At s 10) (f₃ .end) i e))
 
 -- ---- accepted messages
 -- the text of the message, none of octets that are refused

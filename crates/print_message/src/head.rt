@@ -3,7 +3,7 @@ ghost use Prim.Native.Nat.{_+_, _^_, _<_, _≤_};
 ghost use lib.ListN.{length};
 ghost use Rattle.octets.specs.Overlay.{Wrote};
 ghost use Rattle.print_message.specs.Head.{headTextAt, countsText};
-use octets::two_at;
+use octets::be16_at;
 use print_head::put_high;
 use print_head::put_low;
 use print_head::put_number;
@@ -14,10 +14,10 @@ fn put_counts(out: &mut [u8], to: usize, s: &[u8]) -> usize
     ensures { λ r. ⌜ Wrote (now (out .entry)) to (countsText (now (s .entry))) (now (out .exit)) r ⌝ }
     ensures { λ r. ⌜ r ≤ to + 84 ⌝ }
 {
-    let questions = put_number(out, to, b",\"QDCOUNT\":", two_at(s, 4));
-    let answers = put_number(out, questions, b",\"ANCOUNT\":", two_at(s, 6));
-    let authority = put_number(out, answers, b",\"NSCOUNT\":", two_at(s, 8));
-    put_number(out, authority, b",\"ARCOUNT\":", two_at(s, 10))
+    let questions = put_number(out, to, b",\"QDCOUNT\":", be16_at(s, 4));
+    let answers = put_number(out, questions, b",\"ANCOUNT\":", be16_at(s, 6));
+    let authority = put_number(out, answers, b",\"NSCOUNT\":", be16_at(s, 8));
+    put_number(out, authority, b",\"ARCOUNT\":", be16_at(s, 10))
 }
 
 // Writes the head of the text of a message, whose first 12 octets s has at least.
@@ -26,7 +26,7 @@ pub fn put_head(out: &mut [u8], to: usize, s: &[u8]) -> usize
     ensures { λ r. ⌜ Wrote (now (out .entry)) to (headTextAt (now (s .entry))) (now (out .exit)) r ⌝ }
     ensures { λ r. ⌜ r ≤ to + 251 ⌝ }
 {
-    let id = put_number(out, to, b"{\"ID\":", two_at(s, 0));
+    let id = put_number(out, to, b"{\"ID\":", be16_at(s, 0));
     let high = put_high(out, id, s[2]);
     let low = put_low(out, high, s[3]);
     put_counts(out, low, s)

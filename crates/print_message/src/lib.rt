@@ -1,15 +1,15 @@
 // The text of a message by its octets. Definitions and laws are in specs/.
 ghost use Prim.Native.Nat.{_+_, _*_, _^_, _<_, _≤_};
 ghost use lib.ListN.{length};
-ghost use Rattle.octets.specs.Fields.{twoAt};
+ghost use Rattle.octets.specs.Fields.{be16At};
 ghost use Rattle.octets.specs.Overlay.{Wrote};
 ghost use Rattle.print_entry.specs.Prints.{Readable, Prints};
 ghost use Rattle.print_message.specs.Arrays.{comma, arrayText, sectionText, Arrives, Placed};
 ghost use Rattle.print_message.specs.Whole.{profileText, AcceptedMessage};
 use head::put_head;
+use octets::be16_at;
 use octets::put;
 use octets::put_all;
-use octets::two_at;
 use print_entry::Element;
 use print_entry::Position;
 use print_entry::put_element;
@@ -71,12 +71,12 @@ fn put_section(
 ) -> Position
     requires { ⌜ (12 ≤ length (now s)) × (length (now s) ≤ 65535) × (length (now title) ≤ 18) × (place ≤ 10)
         × Placed start (length (now s)) place
-        × Readable (sectionText (now title) element (now s) (twoAt (now s) place) (start .at)) ⌝ }
-    ensures { λ r. ⌜ Prints (sectionText (now (title .entry)) element (now (s .entry)) (twoAt (now (s .entry)) place)
+        × Readable (sectionText (now title) element (now s) (be16At (now s) place) (start .at)) ⌝ }
+    ensures { λ r. ⌜ Prints (sectionText (now (title .entry)) element (now (s .entry)) (be16At (now (s .entry)) place)
         (start .at)) (now (out .entry)) (start .to) (now (out .exit)) (r .at) (r .to) ⌝ }
     ensures { λ r. ⌜ Placed r (length (now (s .entry))) (place + 2) ⌝ }
 {
-    let count = two_at(s, place);
+    let count = be16_at(s, place);
     let next = put_all(out, start.to, title);
     put_array(s, element, count, start.at, out, next)
 }

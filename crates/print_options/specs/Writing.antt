@@ -9,7 +9,7 @@ use borrow.Author.Tests.{eq-eqb, ne-eqb, le-leb, not-true}
 use lib.ListN.{length, take, drop, length-drop}
 use lib.Seq.{take-all}
 use Rattle.octets.specs.Lists.{ascii, all, lookup, rowText, each, listed, present?}
-use Rattle.octets.specs.Fields.{twoAt, fourAt}
+use Rattle.octets.specs.Fields.{be16At, be32At}
 use Rattle.octets.specs.Decimal.{decimal}
 use Rattle.octets.specs.Hexadecimal.{hexOctet, hexText}
 use Rattle.octets.specs.Overlay.{Wrote, then, each-ended}
@@ -83,7 +83,7 @@ module _ (v : List ℕ) {b b′ : List ℕ} {at r : ℕ} where
   unfolding lookup rowText rows members formOf shape valueText memberOf memberText
   expire-none e w = rw (eq-eqb _ _ e) w
 
-  pub expire-is : {n : ℕ} {b₁ : List ℕ} {r₁ : ℕ} → Shaped 9 v → (length v ≡ 0 → ⊥) → n ≡ fourAt v 0
+  pub expire-is : {n : ℕ} {b₁ : List ℕ} {r₁ : ℕ} → Shaped 9 v → (length v ≡ 0 → ⊥) → n ≡ be32At v 0
       → Wrote b at (ascii "\"EXPIRE\":") b₁ r₁ → Wrote b₁ r₁ (decimal n) b′ r → Wrote b at (optionText 9 v) b′ r
   unfolding lookup rowText rows members formOf shape valueText memberOf memberText
   expire-is s h f p q = rw (expire-four v s h, ← f) (then p q)
@@ -110,7 +110,7 @@ module _ (v : List ℕ) {b b′ : List ℕ} {at r : ℕ} where
       (then (then p (rw (rest-is 8 v) at q)) s)
 
   -- KEEPALIVE
-  pub keepalive-is : {n : ℕ} {b₁ : List ℕ} {r₁ : ℕ} → Shaped 11 v → n ≡ twoAt v 0
+  pub keepalive-is : {n : ℕ} {b₁ : List ℕ} {r₁ : ℕ} → Shaped 11 v → n ≡ be16At v 0
       → Wrote b at (ascii "\"KEEPALIVE\":") b₁ r₁ → Wrote b₁ r₁ (decimal n) b′ r → Wrote b at (optionText 11 v) b′ r
   unfolding lookup rowText rows members formOf shape valueText memberOf memberText
   keepalive-is s f p q = rw (keepalive-two v s, ← f) (then p q)
@@ -137,7 +137,7 @@ module _ (v : List ℕ) {b b′ : List ℕ} {at r : ℕ} where
   keytag-is s w = rw (keytag-even v s) w
 
   -- EDE
-  pub error-is : {n : ℕ} {b₁ b₂ : List ℕ} {r₁ r₂ : ℕ} → Shaped 15 v → n ≡ twoAt v 0
+  pub error-is : {n : ℕ} {b₁ b₂ : List ℕ} {r₁ r₂ : ℕ} → Shaped 15 v → n ≡ be16At v 0
       → Wrote b at (ascii "\"EDE\":{\"CODE\":") b₁ r₁
       → Wrote b₁ r₁ (decimal n) b₂ r₂ → Wrote b₂ r₂ (errorTail (present (take (length v - 2) (drop 2 v)))) b′ r
       → Wrote b at (optionText 15 v) b′ r

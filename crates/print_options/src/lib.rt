@@ -1,9 +1,9 @@
 // Writers of the members of EDNS options. The definitions are in specs/ and in `options`.
-use octets::four_at;
+use octets::be16_at;
+use octets::be32_at;
 use octets::put;
 use octets::put_all;
 use octets::put_decimal;
-use octets::two_at;
 use options::all_zero;
 use options::has_shape;
 use print_values::put_error_tail;
@@ -62,7 +62,7 @@ fn put_expire(out: &mut [u8], at: usize, value: &[u8]) -> usize
         return put_all(out, at, b"\"EXPIRE\":\"NONE\"");
     }
     let next = put_all(out, at, b"\"EXPIRE\":");
-    put_decimal(out, next, four_at(value, 0))
+    put_decimal(out, next, be32_at(value, 0))
 }
 
 // COOKIE: 8 octets, or 16 to 40
@@ -87,7 +87,7 @@ fn put_keepalive(out: &mut [u8], at: usize, value: &[u8]) -> usize
     ensures { λ r. ⌜ r ≤ at + 4 * length (now (value .entry)) + 64 ⌝ }
 {
     let next = put_all(out, at, b"\"KEEPALIVE\":");
-    put_decimal(out, next, two_at(value, 0))
+    put_decimal(out, next, be16_at(value, 0))
 }
 
 // PADDING: the octets are written unless all are zero
@@ -122,7 +122,7 @@ fn put_error(out: &mut [u8], at: usize, value: &[u8]) -> usize
     ensures { λ r. ⌜ r ≤ at + 4 * length (now (value .entry)) + 64 ⌝ }
 {
     let mut next = put_all(out, at, b"\"EDE\":{\"CODE\":");
-    next = put_decimal(out, next, two_at(value, 0));
+    next = put_decimal(out, next, be16_at(value, 0));
     put_error_tail(out, next, &value[2..value.len()])
 }
 

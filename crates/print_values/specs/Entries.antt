@@ -9,7 +9,7 @@ use borrow.Author.Tests.{eqb-true, eqb-false, ne-eqb}
 use lib.Dec.{eqb}
 use lib.ListN.{length, getD, drop, length-drop, drop-of-length-le}
 use Rattle.octets.specs.Lists.{ascii, ended, listed}
-use Rattle.octets.specs.Fields.{twoAt, drop-one}
+use Rattle.octets.specs.Fields.{be16At, drop-one}
 use Rattle.octets.specs.Decimal.{decimal}
 use Rattle.octets.specs.Overlay.{Wrote, then}
 use Rattle.octets.proofs.Writing.{decimal-short}
@@ -26,10 +26,10 @@ numbers w s = cond (eqb w 2) (words s) s
 
 -- the number at a place
 abbrev pub numberAt : ℕ → List ℕ → ℕ → ℕ
-numberAt w s i = cond (eqb w 2) (twoAt s i) (getD s i 0)
+numberAt w s i = cond (eqb w 2) (be16At s i) (getD s i 0)
 
 -- two octets: the numbers from a place on are the number there and those after it; fewer than two make none
-word-here : (s : List ℕ) (i : ℕ) → i + 2 ≤ length s → words (drop i s) ≡ twoAt s i ∷ words (drop (i + 2) s)
+word-here : (s : List ℕ) (i : ℕ) → i + 2 ≤ length s → words (drop i s) ≡ be16At s i ∷ words (drop (i + 2) s)
 unfolding words
 word-here s i h =
     let two : i + 1 + 1 ≡ i + 2 = omega arith in
@@ -50,7 +50,7 @@ module _ {w : ℕ} (k : Width w) (s : List ℕ) (i : ℕ) where
   number-here h = go (eqb w 2) refl
     where
       go : (b : Bool) → eqb w 2 ≡ b
-          → cond b (words (drop i s)) (drop i s) ≡ cond b (twoAt s i) (getD s i 0) ∷ cond b (words (drop (i + w) s))
+          → cond b (words (drop i s)) (drop i s) ≡ cond b (be16At s i) (getD s i 0) ∷ cond b (words (drop (i + w) s))
           (drop (i + w) s)
       go true e = let q = eqb-true w 2 e in rw q (word-here s i (omega arith))
       go false e = let q = one e in rw q (drop-one s i (omega arith))
@@ -70,7 +70,7 @@ module _
     {w m : ℕ} (s : List ℕ) (i : ℕ) {n : ℕ} {b b₁ b₂ : List ℕ} {at r₁ r₂ : ℕ}
     (p : Wrote b at (m ∷ []) b₁ r₁) (q : Wrote b₁ r₁ (decimal n) b₂ r₂)
   where
-    pub two-entry : w ≡ 2 → n ≡ twoAt s i → Wrote b at (m ∷ decimal (numberAt w s i)) b₂ r₂
+    pub two-entry : w ≡ 2 → n ≡ be16At s i → Wrote b at (m ∷ decimal (numberAt w s i)) b₂ r₂
     two-entry e d = rw (e, ← d) (then p q)
 
     pub one-entry : (w ≡ 2 → ⊥) → n ≡ getD s i 0 → Wrote b at (m ∷ decimal (numberAt w s i)) b₂ r₂

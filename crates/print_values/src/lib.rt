@@ -1,9 +1,9 @@
 // Writers of the parts of option values: octets in hexadecimal, lists of numbers, the text of EDE.
+use octets::be16_at;
 use octets::put;
 use octets::put_all;
 use octets::put_decimal;
 use octets::put_hex;
-use octets::two_at;
 use octets::wide;
 use spelling::put_string;
 ghost use mathlib.Core.Path.{_≡_};
@@ -37,7 +37,7 @@ fn put_entry(out: &mut [u8], at: usize, mark: u8, value: &[u8], i: usize, width:
 {
     let next = put(out, at, mark);
     if width == 2 {
-        return put_decimal(out, next, two_at(value, i));
+        return put_decimal(out, next, be16_at(value, i));
     }
     put_decimal(out, next, wide(value[i]) as u32)
 }

@@ -4,7 +4,7 @@ use mathlib.Core.List.{List, [], _∷_, _++_, map}
 use Prim.Native.Nat.{ℕ}
 use lib.ListN.{replicate}
 use Rattle.octets.specs.Lists.{hexed, lookup, each}
-use Rattle.octets.specs.Fields.{two}
+use Rattle.octets.specs.Fields.{be16}
 use Rattle.names.proofs.Boundaries.{labelOf}
 use Rattle.names.specs.Name.{nameForm}
 use Rattle.names.specs.Walk.{walk, nameFrom}
@@ -28,7 +28,7 @@ pub record Boundary : Type 0 where
 
 -- a header with these counts of questions and answers
 abbrev pub counts : ℕ → ℕ → List ℕ
-counts questions answers = hexed "00000000" ++ two questions ++ two answers ++ hexed "00000000"
+counts questions answers = hexed "00000000" ++ be16 questions ++ be16 answers ++ hexed "00000000"
 
 -- a question whose name has these octets
 abbrev pub asks : List ℕ → List ℕ
@@ -36,7 +36,7 @@ asks name = counts 1 0 ++ name ++ hexed "00010001"
 
 -- an answer of TYPE whose owner is the root, with this RDATA
 abbrev pub answers : ℕ → ℕ → List ℕ → List ℕ
-answers type size rdata = counts 0 1 ++ hexed "00" ++ two type ++ hexed "000100000000" ++ two size ++ rdata
+answers type size rdata = counts 0 1 ++ hexed "00" ++ be16 type ++ hexed "000100000000" ++ be16 size ++ rdata
 
 -- three labels of 63 and one of n octets, and the root octet
 abbrev pub long : ℕ → List ℕ
@@ -45,7 +45,7 @@ long n = labelOf 63 ++ labelOf 63 ++ labelOf 63 ++ labelOf n ++ hexed "00"
 -- a question for `a.` and an answer that points to it, with n octets of RDATA: the form is one octet longer than the
 -- message
 abbrev pub pointed : ℕ → List ℕ
-pointed n = counts 1 1 ++ hexed "01610000010001" ++ hexed "C00C03E8000100000000" ++ two n ++ replicate n 0
+pointed n = counts 1 1 ++ hexed "01610000010001" ++ hexed "C00C03E8000100000000" ++ be16 n ++ replicate n 0
 
 unfoldable pub boundaries : List Boundary
 boundaries =

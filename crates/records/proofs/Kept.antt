@@ -8,7 +8,7 @@ use native.Mathlib.Omega.{arith}
 use lib.ListN.{length, getD, take, drop, length-append, length-drop}
 use lib.Seq.{take-suc}
 use Rattle.octets.specs.Lists.{Octets}
-use Rattle.octets.specs.Fields.{two, four, twoAt, fourAt, drop-one, two-same, getD-octet, twoAt-word}
+use Rattle.octets.specs.Fields.{be16, be32, be16At, be32At, drop-one, two-same, getD-octet, twoAt-word}
 use Rattle.names.specs.Name.{Name, nameForm}
 use Rattle.names.specs.Walk.{message, named, nameFrom, nameAt}
 use Rattle.names.specs.NameLaws.{named-name, named-next, read-sized, read-form, read-plain}
@@ -44,21 +44,21 @@ first-twelve s h =
 
 -- in sections that are read to their end the counts are the header's
 sections-count : (s : List ℕ) (i : ℕ) → sectionsOf s .additional .end ≡ reached i
-    → (length (sectionsOf s .questions .entries) ≡ twoAt s 4) × (length (sectionsOf s .answers .entries) ≡ twoAt s 6)
-    × (length (sectionsOf s .authority .entries) ≡ twoAt s 8)
-    × (length (sectionsOf s .additional .entries) ≡ twoAt s 10)
+    → (length (sectionsOf s .questions .entries) ≡ be16At s 4) × (length (sectionsOf s .answers .entries) ≡ be16At s 6)
+    × (length (sectionsOf s .authority .entries) ≡ be16At s 8)
+    × (length (sectionsOf s .additional .entries) ≡ be16At s 10)
 unfolding sectionsOf
 sections-count s i e =
-    let f₁ = sectionAt questionAt s (twoAt s 4) 12 in
-    let f₂ = sectionFrom recordAt s (twoAt s 6) (f₁ .end) in
-    let f₃ = sectionFrom recordAt s (twoAt s 8) (f₂ .end) in
-    let (i₃, p₃, g₄) = from-reached recordAt s (twoAt s 10) (f₃ .end) i e in
-    let (i₂, p₂, g₃) = from-reached recordAt s (twoAt s 8) (f₂ .end) i₃ p₃ in
-    let (i₁, p₁, g₂) = from-reached recordAt s (twoAt s 6) (f₁ .end) i₂ p₂ in (
-      section-count questionAt s (twoAt s 4) 12 i₁ p₁,
-      from-count recordAt s (twoAt s 6) (f₁ .end) i₂ p₂,
-      from-count recordAt s (twoAt s 8) (f₂ .end) i₃ p₃,
-      from-count recordAt s (twoAt s 10) (f₃ .end) i e,
+    let f₁ = sectionAt questionAt s (be16At s 4) 12 in
+    let f₂ = sectionFrom recordAt s (be16At s 6) (f₁ .end) in
+    let f₃ = sectionFrom recordAt s (be16At s 8) (f₂ .end) in
+    let (i₃, p₃, g₄) = from-reached recordAt s (be16At s 10) (f₃ .end) i e in
+    let (i₂, p₂, g₃) = from-reached recordAt s (be16At s 8) (f₂ .end) i₃ p₃ in
+    let (i₁, p₁, g₂) = from-reached recordAt s (be16At s 6) (f₁ .end) i₂ p₂ in (
+      section-count questionAt s (be16At s 4) 12 i₁ p₁,
+      from-count recordAt s (be16At s 6) (f₁ .end) i₂ p₂,
+      from-count recordAt s (be16At s 8) (f₂ .end) i₃ p₃,
+      from-count recordAt s (be16At s 10) (f₃ .end) i e,
     )
 
 -- the flags' octets from their bits
@@ -94,10 +94,10 @@ header-same s i o h z e =
     (ap₂ (λ (x y : List ℕ). x ++ y) (ap₂ (λ (x y : List ℕ). x ++ y) (ap₂ (λ (x y : List ℕ). x ++ y)
     (two-same (getD s 0 0) (getD s 1 0) (o 0) (o 1))
     (ap₂ (λ (x y : ℕ). x ∷ y ∷ []) (high-bits (getD s 2 0)) (low-bits (getD s 3 0) clear)))
-    (ap two (c .0) ∙ two-same (getD s 4 0) (getD s 5 0) (o 4) (o 5)))
-    (ap two (c .1) ∙ two-same (getD s 6 0) (getD s 7 0) (o 6) (o 7)))
-    (ap two (c .2) ∙ two-same (getD s 8 0) (getD s 9 0) (o 8) (o 9)))
-    (ap two (c .3) ∙ two-same (getD s 10 0) (getD s 11 0) (o 10) (o 11))
+    (ap be16 (c .0) ∙ two-same (getD s 4 0) (getD s 5 0) (o 4) (o 5)))
+    (ap be16 (c .1) ∙ two-same (getD s 6 0) (getD s 7 0) (o 6) (o 7)))
+    (ap be16 (c .2) ∙ two-same (getD s 8 0) (getD s 9 0) (o 8) (o 9)))
+    (ap be16 (c .3) ∙ two-same (getD s 10 0) (getD s 11 0) (o 10) (o 11))
     ∙ sym (first-twelve s h)
 
 -- a form begins with its header
@@ -114,7 +114,7 @@ header-kept s m o e =
 
 -- ---- fields
 -- a number of 16 bits is its own octets, and so is one of 32
-two-kept : (s : List ℕ) (at : ℕ) → Octets s → at + 2 ≤ length s → drop at s ≡ two (twoAt s at) ++ drop (at + 2) s
+two-kept : (s : List ℕ) (at : ℕ) → Octets s → at + 2 ≤ length s → drop at s ≡ be16 (be16At s at) ++ drop (at + 2) s
 two-kept s at o h =
     let place : at + 1 + 1 ≡ at + 2 = omega arith in
     let same = two-same (getD s at 0) (getD s (at + 1) 0) (getD-octet s o at) (getD-octet s o (at + 1)) in
@@ -122,45 +122,45 @@ two-kept s at o h =
     ∙ ap (λ l. getD s at 0 ∷ l) (drop-one s (at + 1) (omega arith) ∙ ap (λ i. getD s (at + 1) 0 ∷ drop i s) place)
     ∙ ap (λ l. l ++ drop (at + 2) s) (sym same)
 
-four-kept : (s : List ℕ) (at : ℕ) → Octets s → at + 4 ≤ length s → drop at s ≡ four (fourAt s at) ++ drop (at + 4) s
+four-kept : (s : List ℕ) (at : ℕ) → Octets s → at + 4 ≤ length s → drop at s ≡ be32 (be32At s at) ++ drop (at + 4) s
 four-kept s at o h =
-    let a = twoAt s at in
-    let b = twoAt s (at + 2) in
+    let a = be16At s at in
+    let b = be16At s (at + 2) in
     let small = twoAt-word s o (at + 2) in
     let high : (a * 65536 + b) / 65536 ≡ a = omega arith in
     let low : (a * 65536 + b) % 65536 ≡ b = omega arith in
     let place : at + 2 + 2 ≡ at + 4 = omega arith in
     two-kept s at o (omega arith)
-    ∙ ap (λ l. two a ++ l) (two-kept s (at + 2) o (omega arith) ∙ ap (λ i. two b ++ drop i s) place)
-    ∙ ap₂ (λ x y. two x ++ two y ++ drop (at + 4) s) (sym high) (sym low)
+    ∙ ap (λ l. be16 a ++ l) (two-kept s (at + 2) o (omega arith) ∙ ap (λ i. be16 b ++ drop i s) place)
+    ∙ ap₂ (λ x y. be16 x ++ be16 y ++ drop (at + 4) s) (sym high) (sym low)
 
 -- TYPE and CLASS
 question-fields : (s : List ℕ) (at : ℕ) → Octets s → at + 4 ≤ length s
-    → drop at s ≡ two (twoAt s at) ++ two (twoAt s (at + 2)) ++ drop (at + 4) s
+    → drop at s ≡ be16 (be16At s at) ++ be16 (be16At s (at + 2)) ++ drop (at + 4) s
 question-fields s at o h =
     let place : at + 2 + 2 ≡ at + 4 = omega arith in
     two-kept s at o (omega arith)
-    ∙ ap (λ l. two (twoAt s at) ++ l) (two-kept s (at + 2) o (omega arith)
-    ∙ ap (λ i. two (twoAt s (at + 2)) ++ drop i s) place)
+    ∙ ap (λ l. be16 (be16At s at) ++ l) (two-kept s (at + 2) o (omega arith)
+    ∙ ap (λ i. be16 (be16At s (at + 2)) ++ drop i s) place)
 
 -- TTL and RDLENGTH after them
 record-fields : (s : List ℕ) (at : ℕ) → Octets s → at + 10 ≤ length s
-    → drop at s ≡ two (twoAt s at) ++ two (twoAt s (at + 2)) ++ four (fourAt s (at + 4)) ++ two (twoAt s (at + 8))
+    → drop at s ≡ be16 (be16At s at) ++ be16 (be16At s (at + 2)) ++ be32 (be32At s (at + 4)) ++ be16 (be16At s (at + 8))
     ++ drop (at + 10) s
 record-fields s at o h =
     let ttl : at + 4 + 4 ≡ at + 8 = omega arith in
     let rdata : at + 8 + 2 ≡ at + 10 = omega arith in
-    let last = two-kept s (at + 8) o (omega arith) ∙ ap (λ i. two (twoAt s (at + 8)) ++ drop i s) rdata in
+    let last = two-kept s (at + 8) o (omega arith) ∙ ap (λ i. be16 (be16At s (at + 8)) ++ drop i s) rdata in
     question-fields s at o (omega arith)
-    ∙ ap (λ l. two (twoAt s at) ++ two (twoAt s (at + 2)) ++ l) (four-kept s (at + 4) o (omega arith)
-    ∙ ap (λ l. four (fourAt s (at + 4)) ++ l) (ap (λ i. drop i s) ttl ∙ last))
+    ∙ ap (λ l. be16 (be16At s at) ++ be16 (be16At s (at + 2)) ++ l) (four-kept s (at + 4) o (omega arith)
+    ∙ ap (λ l. be32 (be32At s (at + 4)) ++ l) (ap (λ i. drop i s) ttl ∙ last))
 
 -- ---- entries
 -- a question: after its name, TYPE and CLASS
 pub record QuestionKept (s : List ℕ) (at : ℕ) (q : Question) (next : ℕ) : Type 0 where
   pub after : ℕ
   pub name : nameAt s message at ≡ named (q .name) after
-  pub fields : drop after s ≡ two (q .type) ++ two (q .class) ++ drop next s
+  pub fields : drop after s ≡ be16 (q .type) ++ be16 (q .class) ++ drop next s
 
 pub question-kept : (s : List ℕ) (at : ℕ) (q : Question) (next : ℕ) → Octets s → questionAt s at ≡ entry q next
     → QuestionKept s at q next
@@ -170,7 +170,7 @@ question-kept s at q next o e =
     let (u, g) = with-fields-back (firstCut s i (2 ∷ 2 ∷ [])) _ q next f in
     let over = read-sized s message at at n i (omega arith) p .3 in
     let room = fields-room s i (2 ∷ 2 ∷ []) over u in
-    let made : Question = record { name = n; type = twoAt s i; class = twoAt s (i + 2) } in
+    let made : Question = record { name = n; type = be16At s i; class = be16At s (i + 2) } in
     let kept : QuestionKept s at made (i + 4) =
     record { after = i; name = p; fields = question-fields s i o (omega arith) } in
     subst (λ q. QuestionKept s at q next) (entry-value g) (subst (QuestionKept s at made) (entry-next g) kept)
@@ -180,7 +180,7 @@ pub record RecordKept (s : List ℕ) (at : ℕ) (r : Record) (next : ℕ) : Type
   pub after : ℕ
   pub size : ℕ
   pub name : nameAt s message at ≡ named (r .name) after
-  pub fields : drop after s ≡ two (r .type) ++ two (r .class) ++ four (r .ttl) ++ two size ++ drop (after + 10) s
+  pub fields : drop after s ≡ be16 (r .type) ++ be16 (r .class) ++ be32 (r .ttl) ++ be16 size ++ drop (after + 10) s
   pub rdata : rdataAt true s (r .type) (after + 10) size ≡ laid (r .rdata)
   pub ends : next ≡ after + 10 + size
   pub within : next ≤ length s
@@ -193,11 +193,11 @@ record-kept s at r next o e =
     let (u, g) = with-fields-back (firstCut s i (2 ∷ 2 ∷ 4 ∷ 2 ∷ [])) _ r next f in
     let over = read-sized s message at at n i (omega arith) p .3 in
     let space = fields-room s i (2 ∷ 2 ∷ 4 ∷ 2 ∷ []) over u in
-    let size = twoAt s (i + 8) in
+    let size = be16At s (i + 8) in
     let made : List ℕ → Record =
-    λ d. record { name = n; type = twoAt s i; class = twoAt s (i + 2); ttl = fourAt s (i + 4); rdata = d } in
+    λ d. record { name = n; type = be16At s i; class = be16At s (i + 2); ttl = be32At s (i + 4); rdata = d } in
     let (room, k) = room-back s (i + 10 + size) _ _ r next g in
-    let w = rdataAt true s (twoAt s i) (i + 10) size in
+    let w = rdataAt true s (be16At s i) (i + 10) size in
     let (d, l, same, place) = filled-back made (i + 10 + size) w r next k in
     let kept : RecordKept s at (made d) next = record {
       after = i;
@@ -258,8 +258,8 @@ record-own s at r next o e n i size d p h q =
     ap₂ (λ i n. rdataAt false s (r .type) (i + 10) n) (sym place) (sym same) ∙ q in
     let (whole, long) = rdata-own s (r .type) (k .after + 10) (k .size) (omega (arith, k .ends, k .within))
     (k .rdata) inside in
-    let head = two (r .type) ++ two (r .class) ++ four (r .ttl) in
+    let head = be16 (r .type) ++ be16 (r .class) ++ be32 (r .ttl) in
     own
     ∙ ap (λ l. nameForm (r .name) ++ l) (k .fields
-    ∙ ap₂ (λ n l. head ++ two n ++ l) (sym long) (whole ∙ ap (λ i. r .rdata ++ drop i s) (sym (k .ends))))
+    ∙ ap₂ (λ n l. head ++ be16 n ++ l) (sym long) (whole ∙ ap (λ i. r .rdata ++ drop i s) (sym (k .ends))))
     ∙ sym (simp append-assoc)

@@ -9,9 +9,10 @@ use native.Mathlib.Omega.{arith}
 use borrow.Author.Tests.{le-ltb, ltb-false, eqb-false}
 use lib.Dec.{T, ltb, eqb, ltb→lt, lt→ltb}
 use lib.ListN.{length, drop, length-append}
-use Rattle.octets.specs.Lists.{all, Octets, word?, each}
+use Rattle.octets.specs.Lists.{all, Octets, u16?, each}
 use Rattle.octets.specs.Bits.{both, and-left, and-right, All-append}
-use Rattle.octets.specs.Fields.{two, four, twoAt, drop-past, two-back, getD-octet, twoAt-word, two-octets, four-octets}
+use Rattle.octets.specs.Fields.{be16, be32, be16At, drop-past, two-back, getD-octet, twoAt-word, two-octets}
+use Rattle.octets.specs.Fields.{four-octets}
 use Rattle.names.specs.Name.{nameForm, Fault, refusalNumber}
 use Rattle.names.specs.NameLaws as N
 use Rattle.records.specs.Message.{Header, Question, Record, Message, flagsHigh, flagsLow, questionForm}
@@ -250,14 +251,14 @@ z-clear m k = let h = m .header in let e : flagsLow h / 64 % 2 ≡ 0 = omega ari
 section-parts : {A : Type 0} (entry? : A → Bool) (l : List A) → T (section? entry? l)
     → (length l < 65536) × T (all entry? l)
 section-parts entry? l h = (
-  ltb→lt (length l) 65536 (and-left (word? (length l)) (all entry? l) h),
-  and-right (word? (length l)) (all entry? l) h,
+  ltb→lt (length l) 65536 (and-left (u16? (length l)) (all entry? l) h),
+  and-right (u16? (length l)) (all entry? l) h,
 )
 
 -- a section with both is valid
 section-made : {A : Type 0} (entry? : A → Bool) (l : List A) → length l < 65536 → T (all entry? l)
     → T (section? entry? l)
-section-made entry? l h k = both (word? (length l)) (all entry? l) (lt→ltb (length l) 65536 h) k
+section-made entry? l h k = both (u16? (length l)) (all entry? l) (lt→ltb (length l) 65536 h) k
 
 -- a valid message
 pub record Valid (m : Message) : Type 0 where
@@ -357,13 +358,13 @@ module _ (m : Message) (v : Valid m) (h : length (form m) ≤ 65535) where
       let n = each recordForm (m .authority) in
       let r = each recordForm (m .additional) in
       let long = form-long m in
-      let c₁ : twoAt s 4 ≡ length (m .questions) =
+      let c₁ : be16At s 4 ≡ length (m .questions) =
       unfold form headerForm in two-back (length (m .questions)) (v .questions .0) in
-      let c₂ : twoAt s 6 ≡ length (m .answers) =
+      let c₂ : be16At s 6 ≡ length (m .answers) =
       unfold form headerForm in two-back (length (m .answers)) (v .answers .0) in
-      let c₃ : twoAt s 8 ≡ length (m .authority) =
+      let c₃ : be16At s 8 ≡ length (m .authority) =
       unfold form headerForm in two-back (length (m .authority)) (v .authority .0) in
-      let c₄ : twoAt s 10 ≡ length (m .additional) =
+      let c₄ : be16At s 10 ≡ length (m .additional) =
       unfold form headerForm in two-back (length (m .additional)) (v .additional .0) in
       let e₁ : drop 12 s ≡ q ++ (a ++ (n ++ r)) = unfold form headerForm in append-assoc (q ++ a) n r
       ∙ append-assoc q a (n ++ r) in
@@ -469,17 +470,17 @@ decode-back s m e =
 sections-valid : (s : List ℕ) (i : ℕ) → Octets s → sectionsOf s .additional .end ≡ reached i → Valid (messageRead s)
 unfolding sectionsOf messageRead
 sections-valid s i o e =
-    let f₁ = sectionAt questionAt s (twoAt s 4) 12 in
-    let f₂ = sectionFrom recordAt s (twoAt s 6) (f₁ .end) in
-    let f₃ = sectionFrom recordAt s (twoAt s 8) (f₂ .end) in
-    let f₄ = sectionFrom recordAt s (twoAt s 10) (f₃ .end) in
-    let (i₃, p₃, g₄) = from-reached recordAt s (twoAt s 10) (f₃ .end) i e in
-    let (i₂, p₂, g₃) = from-reached recordAt s (twoAt s 8) (f₂ .end) i₃ p₃ in
-    let (i₁, p₁, g₂) = from-reached recordAt s (twoAt s 6) (f₁ .end) i₂ p₂ in
-    let n₁ = section-count questionAt s (twoAt s 4) 12 i₁ p₁ in
-    let n₂ = from-count recordAt s (twoAt s 6) (f₁ .end) i₂ p₂ in
-    let n₃ = from-count recordAt s (twoAt s 8) (f₂ .end) i₃ p₃ in
-    let n₄ = from-count recordAt s (twoAt s 10) (f₃ .end) i e in
+    let f₁ = sectionAt questionAt s (be16At s 4) 12 in
+    let f₂ = sectionFrom recordAt s (be16At s 6) (f₁ .end) in
+    let f₃ = sectionFrom recordAt s (be16At s 8) (f₂ .end) in
+    let f₄ = sectionFrom recordAt s (be16At s 10) (f₃ .end) in
+    let (i₃, p₃, g₄) = from-reached recordAt s (be16At s 10) (f₃ .end) i e in
+    let (i₂, p₂, g₃) = from-reached recordAt s (be16At s 8) (f₂ .end) i₃ p₃ in
+    let (i₁, p₁, g₂) = from-reached recordAt s (be16At s 6) (f₁ .end) i₂ p₂ in
+    let n₁ = section-count questionAt s (be16At s 4) 12 i₁ p₁ in
+    let n₂ = from-count recordAt s (be16At s 6) (f₁ .end) i₂ p₂ in
+    let n₃ = from-count recordAt s (be16At s 8) (f₂ .end) i₃ p₃ in
+    let n₄ = from-count recordAt s (be16At s 10) (f₃ .end) i e in
     let w₁ = twoAt-word s o 4 in
     let w₂ = twoAt-word s o 6 in
     let w₃ = twoAt-word s o 8 in
@@ -490,11 +491,11 @@ sections-valid s i o e =
       header = header-octets s o;
       questions = (
         omega (arith, n₁, w₁),
-        section-valid questionAt s question? (λ at a next k. question-read s at a next o k .0) (twoAt s 4) 12,
+        section-valid questionAt s question? (λ at a next k. question-read s at a next o k .0) (be16At s 4) 12,
       );
-      answers = (omega (arith, n₂, w₂), from-valid recordAt s record? each (twoAt s 6) (f₁ .end));
-      authority = (omega (arith, n₃, w₃), from-valid recordAt s record? each (twoAt s 8) (f₂ .end));
-      additional = (omega (arith, n₄, w₄), from-valid recordAt s record? each (twoAt s 10) (f₃ .end));
+      answers = (omega (arith, n₂, w₂), from-valid recordAt s record? each (be16At s 6) (f₁ .end));
+      authority = (omega (arith, n₃, w₃), from-valid recordAt s record? each (be16At s 8) (f₂ .end));
+      additional = (omega (arith, n₄, w₄), from-valid recordAt s record? each (be16At s 10) (f₃ .end));
     }
 
 -- a message that is accepted is valid, and its form is within the limit
@@ -514,8 +515,8 @@ unfolding questionForm
 question-octets q h =
     let P : ℕ → Type 0 = λ x. x < 256 in
     let n = nameForm (q .name) in
-    All-append P (n ++ two (q .type)) (two (q .class))
-    (All-append P n (two (q .type)) (N.form-octets (q .name) (question-parts q h .0)) (two-octets (q .type)))
+    All-append P (n ++ be16 (q .type)) (be16 (q .class))
+    (All-append P n (be16 (q .type)) (N.form-octets (q .name) (question-parts q h .0)) (two-octets (q .type)))
     (two-octets (q .class))
 
 -- the form of a valid record is octets
@@ -524,10 +525,10 @@ unfolding recordForm
 record-octets r h =
     let P : ℕ → Type 0 = λ x. x < 256 in
     let n = nameForm (r .name) in
-    let a = two (r .type) in
-    let b = two (r .class) in
-    let c = four (r .ttl) in
-    let d = two (length (r .rdata)) in
+    let a = be16 (r .type) in
+    let b = be16 (r .class) in
+    let c = be32 (r .ttl) in
+    let d = be16 (length (r .rdata)) in
     let k = record-parts r h in
     All-append P (n ++ a ++ b ++ c ++ d) (r .rdata)
     (All-append P (n ++ a ++ b ++ c) d

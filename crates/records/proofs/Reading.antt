@@ -8,7 +8,7 @@ use native.Mathlib.Omega.{arith}
 use borrow.Author.Tests.{le-leb, lt-leb, le-ltb, lt-ltb}
 use lib.ListN.{length, getD, drop, replicate, drop-of-length-le}
 use lib.Seq.{drop-cons}
-use Rattle.octets.specs.Fields.{twoAt, fourAt}
+use Rattle.octets.specs.Fields.{be16At, be32At}
 use Rattle.names.specs.Name.{Name, nameForm}
 use Rattle.names.specs.Name as name
 use Rattle.names.specs.Walk.{message, named, faulty, nameAt}
@@ -164,8 +164,8 @@ module _ (s : List ℕ) (at : ℕ) {r : NameRead} (e : r ≡ nameRead (begunAt s
           → record { answer = question.Faulty f; name = r .octets } ≡ questionRead (questionAt s at)
       go (fault, q, a, b) = rw (question-begun s at, q, a, b)
 
-  pub question-whole : {next size kind class : ℕ} → r .answer ≡ Read next size → kind ≡ twoAt s next
-      → class ≡ twoAt s (next + 2)
+  pub question-whole : {next size kind class : ℕ} → r .answer ≡ Read next size → kind ≡ be16At s next
+      → class ≡ be16At s (next + 2)
       → record {
         answer = question.Read (record { size = size; kind = kind; class = class; next = next + 4 });
         name = r .octets;
@@ -193,7 +193,7 @@ module _ (s : List ℕ) (at : ℕ) {r : NameRead} (e : r ≡ nameRead (begunAt s
           → record { answer = record′.Faulty f; name = r .octets } ≡ recordRead (recordHeadAt s at)
       go (fault, q, a, b) = rw (q, a, b)
 
-  module _ {next size : ℕ} (p : r .answer ≡ Read next size) {rdlength : ℕ} (l : rdlength ≡ twoAt s (next + 8)) where
+  module _ {next size : ℕ} (p : r .answer ≡ Read next size) {rdlength : ℕ} (l : rdlength ≡ be16At s (next + 8)) where
     pub head-cut : length s < next + 10 + rdlength
         → record { answer = record′.Faulty (Cut (next + 10)); name = replicate 255 0 } ≡ recordRead (recordHeadAt s at)
     unfolding recordRead recordHeadAt
@@ -201,8 +201,8 @@ module _ (s : List ℕ) (at : ℕ) {r : NameRead} (e : r ≡ nameRead (begunAt s
         let (n, q, a, b) = name-read (begunAt s at (2 ∷ 2 ∷ 4 ∷ 2 ∷ [])) e p in
         rw (q, ← l, lt-ltb (length s) (next + 10 + rdlength) h)
 
-    pub head-whole : {kind class ttl : ℕ} → next + 10 + rdlength ≤ length s → kind ≡ twoAt s next
-        → class ≡ twoAt s (next + 2) → ttl ≡ fourAt s (next + 4)
+    pub head-whole : {kind class ttl : ℕ} → next + 10 + rdlength ≤ length s → kind ≡ be16At s next
+        → class ≡ be16At s (next + 2) → ttl ≡ be32At s (next + 4)
         → record {
           answer = record′.Read
               (record { size = size; kind = kind; class = class; ttl = ttl; rdata = next + 10; rdlength = rdlength });

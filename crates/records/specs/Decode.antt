@@ -4,7 +4,7 @@ use mathlib.Core.List.{List}
 use Prim.Native.Nat.{ℕ, _/_, _%_}
 use lib.Dec.{ltb, eqb}
 use lib.ListN.{length, getD}
-use Rattle.octets.specs.Fields.{twoAt}
+use Rattle.octets.specs.Fields.{be16At}
 use Rattle.names.specs.Name.{refusalNumber}
 use Rattle.records.specs.Message.{Header, Question, Record, Message, form}
 use Rattle.records.specs.Read.{Reached, Section, reached, stopped, questionAt, recordAt, sectionAt, sectionFrom}
@@ -15,7 +15,7 @@ headerOf s =
     let high = getD s 2 0 in
     let low = getD s 3 0 in
     record {
-      id = twoAt s 0;
+      id = be16At s 0;
       qr = high / 128;
       opcode = high / 8 % 16;
       aa = high / 4 % 2;
@@ -39,10 +39,10 @@ pub record Sections : Type 0 where
 
 unfoldable pub sectionsOf : List ℕ → Sections
 sectionsOf s =
-    let questions = sectionAt questionAt s (twoAt s 4) 12 in
-    let answers = sectionFrom recordAt s (twoAt s 6) (questions .end) in
-    let authority = sectionFrom recordAt s (twoAt s 8) (answers .end) in
-    let additional = sectionFrom recordAt s (twoAt s 10) (authority .end) in
+    let questions = sectionAt questionAt s (be16At s 4) 12 in
+    let answers = sectionFrom recordAt s (be16At s 6) (questions .end) in
+    let authority = sectionFrom recordAt s (be16At s 8) (answers .end) in
+    let additional = sectionFrom recordAt s (be16At s 10) (authority .end) in
     record { questions = questions; answers = answers; authority = authority; additional = additional }
 
 -- the entries that were read, under the header

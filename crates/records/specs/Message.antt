@@ -4,8 +4,8 @@ use mathlib.Core.List.{List, [], _∷_, _++_}
 use Prim.Native.Nat.{ℕ, _+_, _*_}
 use lib.Dec.{ltb, eqb}
 use lib.ListN.{length}
-use Rattle.octets.specs.Lists.{each, all, octet?, word?, long?}
-use Rattle.octets.specs.Fields.{two, four}
+use Rattle.octets.specs.Lists.{each, all, u8?, u16?, u32?}
+use Rattle.octets.specs.Fields.{be16, be32}
 use Rattle.names.specs.Name.{Name, nameForm, name?}
 use Rattle.records.specs.Layout.{rdataFits?}
 
@@ -55,20 +55,20 @@ abbrev pub flagsLow : Header → ℕ
 flagsLow h = h .ra * 128 + h .ad * 32 + h .cd * 16 + h .rcode
 
 unfoldable pub questionForm : Question → List ℕ
-questionForm q = nameForm (q .name) ++ two (q .type) ++ two (q .class)
+questionForm q = nameForm (q .name) ++ be16 (q .type) ++ be16 (q .class)
 
 unfoldable pub recordForm : Record → List ℕ
-recordForm r = nameForm (r .name) ++ two (r .type) ++ two (r .class) ++ four (r .ttl) ++ two (length (r .rdata))
+recordForm r = nameForm (r .name) ++ be16 (r .type) ++ be16 (r .class) ++ be32 (r .ttl) ++ be16 (length (r .rdata))
     ++ r .rdata
 
 unfoldable pub headerForm : Message → List ℕ
 headerForm m =
-    two (m .header .id)
+    be16 (m .header .id)
     ++ (flagsHigh (m .header) ∷ flagsLow (m .header) ∷ [])
-    ++ two (length (m .questions))
-    ++ two (length (m .answers))
-    ++ two (length (m .authority))
-    ++ two (length (m .additional))
+    ++ be16 (length (m .questions))
+    ++ be16 (length (m .answers))
+    ++ be16 (length (m .authority))
+    ++ be16 (length (m .additional))
 
 unfoldable pub form : Message → List ℕ
 form m =
@@ -87,7 +87,7 @@ four-bits? n = ltb n 16
 
 unfoldable pub header? : Header → Bool
 header? h =
-    word? (h .id)
+    u16? (h .id)
     && bit? (h .qr)
     && four-bits? (h .opcode)
     && bit? (h .aa)
@@ -99,15 +99,15 @@ header? h =
     && four-bits? (h .rcode)
 
 unfoldable pub question? : Question → Bool
-question? q = name? (q .name) && word? (q .type) && word? (q .class)
+question? q = name? (q .name) && u16? (q .type) && u16? (q .class)
 
 unfoldable pub record? : Record → Bool
-record? r = name? (r .name) && word? (r .type) && word? (r .class) && long? (r .ttl) && all octet? (r .rdata)
+record? r = name? (r .name) && u16? (r .type) && u16? (r .class) && u32? (r .ttl) && all u8? (r .rdata)
     && rdataFits? (r .type) (r .rdata)
 
 -- the number of entries of a section is a number of 16 bits
 abbrev pub section? : {A : Type 0} → (A → Bool) → List A → Bool
-section? entry? l = word? (length l) && all entry? l
+section? entry? l = u16? (length l) && all entry? l
 
 unfoldable pub valid? : Message → Bool
 valid? m =

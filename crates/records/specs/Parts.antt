@@ -9,7 +9,7 @@ use native.Mathlib.Omega.{arith}
 use borrow.Author.Tests.{le-ltb, eqb-true}
 use lib.Dec.{ltb, eqb}
 use lib.ListN.{length, drop}
-use Rattle.octets.specs.Fields.{twoAt, fourAt}
+use Rattle.octets.specs.Fields.{be16At, be32At}
 use Rattle.names.specs.Name.{Name, nameForm, cut, short, surplus, Fault}
 use Rattle.names.specs.Walk.{part, message, rdata, Named, named, faulty, nameAt}
 use Rattle.records.specs.Layout.{Piece, fixed, name, layoutOf, Laid, laid, misfit, before, pieces, rdataAt}
@@ -45,7 +45,7 @@ module _ {A : Type 0} (s : List ℕ) (widths : List ℕ) (e : Name → ℕ → E
 -- a question is a name with TYPE and CLASS after it
 pub question-begun : (s : List ℕ) (at : ℕ)
     → questionAt s at ≡ with-name (begunAt s at (2 ∷ 2 ∷ [])) λ n next. entry
-    (record { name = n; type = twoAt s next; class = twoAt s (next + 2) }) (next + 4)
+    (record { name = n; type = be16At s next; class = be16At s (next + 2) }) (next + 4)
 unfolding questionAt begunAt
 question-begun s at = begun-fields s (2 ∷ 2 ∷ []) _ (nameAt s message at)
 
@@ -66,13 +66,13 @@ withRdata h d = record { name = h .name; type = h .type; class = h .class; ttl =
 -- TYPE, CLASS, TTL, RDLENGTH after the name; RDATA must end within the message
 abbrev pub headed : List ℕ → Name → ℕ → Entry HeadOf
 headed s n next =
-    let size = twoAt s (next + 8) in
+    let size = be16At s (next + 8) in
     cond (ltb (length s) (next + 10 + size)) (past-end (next + 10))
     (entry (record {
       name = n;
-      type = twoAt s next;
-      class = twoAt s (next + 2);
-      ttl = fourAt s (next + 4);
+      type = be16At s next;
+      class = be16At s (next + 2);
+      ttl = be32At s (next + 4);
       rdata = next + 10;
       rdlength = size;
     }) (next + 10 + size))
@@ -120,37 +120,37 @@ record-head s at = begun-fields s (2 ∷ 2 ∷ 4 ∷ 2 ∷ []) read (nameAt s me
     ∙ go (begun s (2 ∷ 2 ∷ 4 ∷ 2 ∷ []) (nameAt s message at))
   where
     inside : Name → ℕ → Laid
-    inside n next = rdataAt true s (twoAt s next) (next + 10) (twoAt s (next + 8))
+    inside n next = rdataAt true s (be16At s next) (next + 10) (be16At s (next + 8))
 
     made : Name → ℕ → List ℕ → Record
     made n next d = record {
       name = n;
-      type = twoAt s next;
-      class = twoAt s (next + 2);
-      ttl = fourAt s (next + 4);
+      type = be16At s next;
+      class = be16At s (next + 2);
+      ttl = be32At s (next + 4);
       rdata = d;
     }
 
     read : Name → ℕ → Entry Record
-    read n next = cond (ltb (length s) (next + 10 + twoAt s (next + 8))) (past-end (next + 10))
-        (filled (made n next) (next + 10 + twoAt s (next + 8)) (inside n next))
+    read n next = cond (ltb (length s) (next + 10 + be16At s (next + 8))) (past-end (next + 10))
+        (filled (made n next) (next + 10 + be16At s (next + 8)) (inside n next))
 
     room : (b : Bool) (n : Name) (next : ℕ)
-        → cond b (past-end (next + 10)) (filled (made n next) (next + 10 + twoAt s (next + 8)) (inside n next))
+        → cond b (past-end (next + 10)) (filled (made n next) (next + 10 + be16At s (next + 8)) (inside n next))
         ≡ with-rdata s (cond b (past-end (next + 10))
         (entry (record {
           name = n;
-          type = twoAt s next;
-          class = twoAt s (next + 2);
-          ttl = fourAt s (next + 4);
+          type = be16At s next;
+          class = be16At s (next + 2);
+          ttl = be32At s (next + 4);
           rdata = next + 10;
-          rdlength = twoAt s (next + 8);
-        }) (next + 10 + twoAt s (next + 8))))
+          rdlength = be16At s (next + 8);
+        }) (next + 10 + be16At s (next + 8))))
     room true n next = refl
     room false n next = refl
 
     go : (w : Named) → with-name w read ≡ with-rdata s (with-name w (headed s))
-    go (named n next) = room (ltb (length s) (next + 10 + twoAt s (next + 8))) n next
+    go (named n next) = room (ltb (length s) (next + 10 + be16At s (next + 8))) n next
     go (faulty fault) = refl
 
 -- a record ends after its RDATA
@@ -165,7 +165,7 @@ head-next s at h next e = go (begunAt s at (2 ∷ 2 ∷ 4 ∷ 2 ∷ [])) e
     room false i k q = sym (entry-next q) ∙ ap (λ (x : HeadOf). x .rdata + x .rdlength) (entry-value q)
 
     go : (w : Named) → with-name w (headed s) ≡ entry h next → next ≡ h .rdata + h .rdlength
-    go (named n i) q = room (ltb (length s) (i + 10 + twoAt s (i + 8))) (i + 10) _ q
+    go (named n i) q = room (ltb (length s) (i + 10 + be16At s (i + 8))) (i + 10) _ q
     go (faulty fault) q = absurd (bad≢entry q)
 
 -- ---- RDATA by its pieces

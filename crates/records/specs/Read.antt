@@ -5,7 +5,7 @@ use mathlib.Core.List.{List, [], _∷_}
 use Prim.Native.Nat.{ℕ, zero, suc, _+_}
 use lib.Dec.{leb, ltb}
 use lib.ListN.{length}
-use Rattle.octets.specs.Fields.{twoAt, fourAt}
+use Rattle.octets.specs.Fields.{be16At, be32At}
 use Rattle.names.specs.Name.{Name, cut, Fault}
 use Rattle.names.specs.Walk.{message, Named, named, faulty, nameAt}
 use Rattle.records.specs.Layout.{Laid, laid, misfit, rdataAt}
@@ -44,15 +44,15 @@ filled made next (misfit fault) = bad fault
 unfoldable pub questionAt : List ℕ → ℕ → Entry Question
 questionAt s at = with-name (nameAt s message at) λ name next.
     with-fields (firstCut s next (2 ∷ 2 ∷ []))
-    (entry (record { name = name; type = twoAt s next; class = twoAt s (next + 2) }) (next + 4))
+    (entry (record { name = name; type = be16At s next; class = be16At s (next + 2) }) (next + 4))
 
 -- TYPE, CLASS, TTL, RDLENGTH after the name, then RDATA; RDATA past the message is found before anything inside it
 unfoldable pub recordAt : List ℕ → ℕ → Entry Record
 recordAt s at = with-name (nameAt s message at) λ name next.
-    let type = twoAt s next in
-    let size = twoAt s (next + 8) in
+    let type = be16At s next in
+    let size = be16At s (next + 8) in
     let made : List ℕ → Record = λ octets.
-    record { name = name; type = type; class = twoAt s (next + 2); ttl = fourAt s (next + 4); rdata = octets } in
+    record { name = name; type = type; class = be16At s (next + 2); ttl = be32At s (next + 4); rdata = octets } in
     with-fields (firstCut s next (2 ∷ 2 ∷ 4 ∷ 2 ∷ []))
     (cond (ltb (length s) (next + 10 + size)) (past-end (next + 10))
     (filled made (next + 10 + size) (rdataAt true s type (next + 10) size)))

@@ -10,9 +10,10 @@ use borrow.Author.Tests.{le-leb, le-ltb, ne-eqb, leb-true, ltb-false, eqb-true, 
 use lib.Dec.{T, leb, ltb, eqb, ltb→lt, lt→ltb}
 use lib.ListN.{length, drop, length-append}
 use lib.Seq.{drop-length}
-use Rattle.octets.specs.Lists.{all, octet?, Octets, word?, long?}
+use Rattle.octets.specs.Lists.{all, u8?, Octets, u16?, u32?}
 use Rattle.octets.specs.Bits.{both, and-left, and-right, All-append, octets-in, octets-test}
-use Rattle.octets.specs.Fields.{two, four, twoAt, fourAt, drop-past, take-here, two-at, four-at, room-here, twoAt-word}
+use Rattle.octets.specs.Fields.{be16, be32, be16At, be32At, drop-past, take-here, two-at, four-at, room-here}
+use Rattle.octets.specs.Fields.{twoAt-word}
 use Rattle.octets.specs.Fields.{fourAt-long, empty}
 use Rattle.names.specs.Name.{Name, nameForm, name?, short, surplus, Fault}
 use Rattle.names.specs.Walk.{part, message, rdata, Named, named, faulty, nameFrom, nameAt}
@@ -345,18 +346,18 @@ module _ {A : Type 0} where
 pub question-parts : (q : Question) → T (question? q) → T (name? (q .name)) × (q .type < 65536) × (q .class < 65536)
 unfolding question?
 question-parts q h =
-    let k = and-left (name? (q .name) && word? (q .type)) (word? (q .class)) h in (
-      and-left (name? (q .name)) (word? (q .type)) k,
-      ltb→lt (q .type) 65536 (and-right (name? (q .name)) (word? (q .type)) k),
-      ltb→lt (q .class) 65536 (and-right (name? (q .name) && word? (q .type)) (word? (q .class)) h),
+    let k = and-left (name? (q .name) && u16? (q .type)) (u16? (q .class)) h in (
+      and-left (name? (q .name)) (u16? (q .type)) k,
+      ltb→lt (q .type) 65536 (and-right (name? (q .name)) (u16? (q .type)) k),
+      ltb→lt (q .class) 65536 (and-right (name? (q .name) && u16? (q .type)) (u16? (q .class)) h),
     )
 
 -- a question of valid parts is valid
 question-made : (q : Question) → T (name? (q .name)) → q .type < 65536 → q .class < 65536 → T (question? q)
 unfolding question?
 question-made q a b c =
-    both (name? (q .name) && word? (q .type)) (word? (q .class))
-    (both (name? (q .name)) (word? (q .type)) a (lt→ltb (q .type) 65536 b)) (lt→ltb (q .class) 65536 c)
+    both (name? (q .name) && u16? (q .type)) (u16? (q .class))
+    (both (name? (q .name)) (u16? (q .type)) a (lt→ltb (q .type) 65536 b)) (lt→ltb (q .class) 65536 c)
 
 -- where a valid question's form is, that question is read
 pub question-back : (s r : List ℕ) (at : ℕ) (q : Question) → T (question? q) → drop at s ≡ questionForm q ++ r
@@ -366,16 +367,17 @@ question-back s r at q h e =
     let (v, t, c) = question-parts q h in
     let n = nameForm (q .name) in
     let next = at + length n in
-    let here : drop at s ≡ n ++ (two (q .type) ++ (two (q .class) ++ r)) =
-    e ∙ append-assoc (n ++ two (q .type)) (two (q .class)) r ∙ append-assoc n (two (q .type)) (two (q .class) ++ r) in
+    let here : drop at s ≡ n ++ (be16 (q .type) ++ (be16 (q .class) ++ r)) =
+    e ∙ append-assoc (n ++ be16 (q .type)) (be16 (q .class)) r
+    ∙ append-assoc n (be16 (q .type)) (be16 (q .class) ++ r) in
     let some = form-some (q .name) in
     let room = room-here s n _ at here (omega arith) in
-    let first : drop next s ≡ two (q .type) ++ (two (q .class) ++ r) = drop-past s n _ at here in
-    let second : drop (next + 2) s ≡ two (q .class) ++ r = drop-past s (two (q .type)) _ next first in
-    let room′ = room-here s (two (q .class)) r (next + 2) second (omega arith) in
-    let long = length-append (n ++ two (q .type)) (two (q .class)) in
-    let long′ = length-append n (two (q .type)) in
-    let place : next + 4 ≡ at + length (n ++ two (q .type) ++ two (q .class)) = omega arith in
+    let first : drop next s ≡ be16 (q .type) ++ (be16 (q .class) ++ r) = drop-past s n _ at here in
+    let second : drop (next + 2) s ≡ be16 (q .class) ++ r = drop-past s (be16 (q .type)) _ next first in
+    let room′ = room-here s (be16 (q .class)) r (next + 2) second (omega arith) in
+    let long = length-append (n ++ be16 (q .type)) (be16 (q .class)) in
+    let long′ = length-append n (be16 (q .type)) in
+    let place : next + 4 ≡ at + length (n ++ be16 (q .type) ++ be16 (q .class)) = omega arith in
     rw (
       read-back s _ message at at (q .name) v here room,
       fields-fit s next (2 ∷ 2 ∷ []) (omega arith),
@@ -408,10 +410,10 @@ pub record-parts : (r : Record) → T (record? r)
 unfolding record?
 record-parts r h =
     let a = name? (r .name) in
-    let b = word? (r .type) in
-    let c = word? (r .class) in
-    let d = long? (r .ttl) in
-    let f = all octet? (r .rdata) in
+    let b = u16? (r .type) in
+    let c = u16? (r .class) in
+    let d = u32? (r .ttl) in
+    let f = all u8? (r .rdata) in
     let g = rdataFits? (r .type) (r .rdata) in
     let h₄ = and-left (a && b && c && d && f) g h in
     let h₃ = and-left (a && b && c && d) f h₄ in
@@ -432,10 +434,10 @@ record-made : (r : Record) → T (name? (r .name)) → r .type < 65536 → r .cl
 unfolding record?
 record-made r v t c l o z =
     let a = name? (r .name) in
-    let b = word? (r .type) in
-    let d = word? (r .class) in
-    let f = long? (r .ttl) in
-    let g = all octet? (r .rdata) in
+    let b = u16? (r .type) in
+    let d = u16? (r .class) in
+    let f = u32? (r .ttl) in
+    let g = all u8? (r .rdata) in
     let i = rdataFits? (r .type) (r .rdata) in
     both (a && b && d && f && g) i
     (both (a && b && d && f) g
@@ -450,11 +452,11 @@ unfolding recordForm
 record-long r =
     let n = nameForm (r .name) in
     let l = length (r .rdata) in
-    let a = length-append n (two (r .type)) in
-    let b = length-append (n ++ two (r .type)) (two (r .class)) in
-    let c = length-append (n ++ two (r .type) ++ two (r .class)) (four (r .ttl)) in
-    let d = length-append (n ++ two (r .type) ++ two (r .class) ++ four (r .ttl)) (two l) in
-    let f = length-append (n ++ two (r .type) ++ two (r .class) ++ four (r .ttl) ++ two l) (r .rdata) in
+    let a = length-append n (be16 (r .type)) in
+    let b = length-append (n ++ be16 (r .type)) (be16 (r .class)) in
+    let c = length-append (n ++ be16 (r .type) ++ be16 (r .class)) (be32 (r .ttl)) in
+    let d = length-append (n ++ be16 (r .type) ++ be16 (r .class) ++ be32 (r .ttl)) (be16 l) in
+    let f = length-append (n ++ be16 (r .type) ++ be16 (r .class) ++ be32 (r .ttl) ++ be16 l) (r .rdata) in
     omega arith
 
 -- where a valid record's form is, that record is read
@@ -467,10 +469,10 @@ record-back s r at q h small e =
     let n = nameForm (q .name) in
     let next = at + length n in
     let d = q .rdata in
-    let a₁ = two (q .type) in
-    let a₂ = two (q .class) in
-    let a₃ = four (q .ttl) in
-    let a₄ = two (length d) in
+    let a₁ = be16 (q .type) in
+    let a₂ = be16 (q .class) in
+    let a₃ = be32 (q .ttl) in
+    let a₄ = be16 (length d) in
     let here : drop at s ≡ n ++ (a₁ ++ (a₂ ++ (a₃ ++ (a₄ ++ (d ++ r))))) =
     e ∙ append-assoc (n ++ a₁ ++ a₂ ++ a₃ ++ a₄) d r ∙ append-assoc (n ++ a₁ ++ a₂ ++ a₃) a₄ (d ++ r)
     ∙ append-assoc (n ++ a₁ ++ a₂) a₃ (a₄ ++ (d ++ r))
@@ -492,12 +494,12 @@ record-back s r at q h small e =
     let place : next + 10 + length d ≡ at + length (recordForm q) = let f = record-long q in omega arith in
     let f₁ = two-at s _ next (q .type) t e₁ in
     let f₄ = two-at s _ (next + 8) (length d) small e₄ in
-    let inside : rdataAt true s (twoAt s next) (next + 10) (twoAt s (next + 8)) ≡ laid d =
+    let inside : rdataAt true s (be16At s next) (next + 10) (be16At s (next + 8)) ≡ laid d =
     rw (f₁, f₄) (rdata-back true s r (q .type) (next + 10) d z e₅) in
     rw (
       read-back s _ message at at (q .name) v here room,
       fields-fit s next (2 ∷ 2 ∷ 4 ∷ 2 ∷ []) (omega arith),
-      le-ltb (length s) (next + 10 + twoAt s (next + 8)) (omega arith),
+      le-ltb (length s) (next + 10 + be16At s (next + 8)) (omega arith),
       inside,
       recordAt,
       f₁,
@@ -530,13 +532,13 @@ record-read s at q next o e =
     let (n, i, p, f) = with-name-back (nameAt s message at) _ q next e in
     let (v, a, b) = read-valid s message at at n i o (omega arith) p in
     let (u, g) = with-fields-back (firstCut s i (2 ∷ 2 ∷ 4 ∷ 2 ∷ [])) _ q next f in
-    let size = twoAt s (i + 8) in
+    let size = be16At s (i + 8) in
     let made : List ℕ → Record =
-    λ d. record { name = n; type = twoAt s i; class = twoAt s (i + 2); ttl = fourAt s (i + 4); rdata = d } in
+    λ d. record { name = n; type = be16At s i; class = be16At s (i + 2); ttl = be32At s (i + 4); rdata = d } in
     let (room, k) = room-back s (i + 10 + size) _ _ q next g in
-    let w = rdataAt true s (twoAt s i) (i + 10) size in
+    let w = rdataAt true s (be16At s i) (i + 10) size in
     let (d, l, same, place) = filled-back made (i + 10 + size) w q next k in
-    let (z, c) = rdata-fits true s (twoAt s i) (i + 10) size d o room l in (
+    let (z, c) = rdata-fits true s (be16At s i) (i + 10) size d o room l in (
       subst (λ (r : Record). T (record? r)) same
           (record-made (made d) v (twoAt-word s o i) (twoAt-word s o (i + 2)) (fourAt-long s o (i + 4)) c z),
       omega arith,

@@ -9,7 +9,7 @@ use native.Mathlib.Omega.{arith}
 use borrow.Author.Tests.{le-ltb}
 use lib.Dec.{T, ltb, eqb, leb→le, le→leb, ltb→lt, eqb→eq, eqb-refl, nltb→le}
 use lib.ListN.{length, length-map}
-use Rattle.octets.specs.Lists.{all, All, count, octet?, word?, long?, key?}
+use Rattle.octets.specs.Lists.{all, All, count, u8?, u16?, u32?, key?}
 use Rattle.octets.specs.Bits.{is-true, both, and-left, and-right, all→All, All-map, octets-in}
 use Rattle.names.specs.Name.{Name, label?, name?}
 use Rattle.names.specs.NameLaws.{name-labels, label-octets}
@@ -88,23 +88,23 @@ question-in : (q : Question) → T (question? q) → QuestionIn q
 unfolding question?
 question-in q h = (
   name-in (q .name)
-      (and-left (name? (q .name)) (word? (q .type))
-      (and-left (name? (q .name) && word? (q .type)) (word? (q .class)) h)),
+      (and-left (name? (q .name)) (u16? (q .type))
+      (and-left (name? (q .name) && u16? (q .type)) (u16? (q .class)) h)),
   (tt, tt),
 )
 
 -- ---- records
 -- the parts of a valid record that the grammar speaks of
-record-parts : (r : Record) → T (record? r) → T (name? (r .name)) × T (long? (r .ttl)) × T (all octet? (r .rdata))
+record-parts : (r : Record) → T (record? r) → T (name? (r .name)) × T (u32? (r .ttl)) × T (all u8? (r .rdata))
 unfolding record?
 record-parts r h =
-    let a = name? (r .name) && word? (r .type) && word? (r .class) in
-    let i = and-left (a && long? (r .ttl) && all octet? (r .rdata)) (rdataFits? (r .type) (r .rdata)) h in
-    let j = and-left (a && long? (r .ttl)) (all octet? (r .rdata)) i in
-    let k = and-left a (long? (r .ttl)) j in (
-      and-left (name? (r .name)) (word? (r .type)) (and-left (name? (r .name) && word? (r .type)) (word? (r .class)) k),
-      and-right a (long? (r .ttl)) j,
-      and-right (a && long? (r .ttl)) (all octet? (r .rdata)) i,
+    let a = name? (r .name) && u16? (r .type) && u16? (r .class) in
+    let i = and-left (a && u32? (r .ttl) && all u8? (r .rdata)) (rdataFits? (r .type) (r .rdata)) h in
+    let j = and-left (a && u32? (r .ttl)) (all u8? (r .rdata)) i in
+    let k = and-left a (u32? (r .ttl)) j in (
+      and-left (name? (r .name)) (u16? (r .type)) (and-left (name? (r .name) && u16? (r .type)) (u16? (r .class)) k),
+      and-right a (u32? (r .ttl)) j,
+      and-right (a && u32? (r .ttl)) (all u8? (r .rdata)) i,
     )
 
 -- a valid record's members are in the grammar and in range, and are read back
@@ -132,8 +132,8 @@ option-forth : (o : EdnsOption) → T (option? o)
     → MemberIn (memberOf o) × T (member? (memberOf o)) × (optionOf (memberOf o) ≡ o)
 unfolding option?
 option-forth o h =
-    let w = member-option o (octets-in (o .value) (and-right (word? (o .code)) (all octet? (o .value)) h))
-    (ltb→lt (o .code) 65536 (and-left (word? (o .code)) (all octet? (o .value)) h)) in
+    let w = member-option o (octets-in (o .value) (and-right (u16? (o .code)) (all u8? (o .value)) h))
+    (ltb→lt (o .code) 65536 (and-left (u16? (o .code)) (all u8? (o .value)) h)) in
     (w .2, w .1, w .0)
 
 -- 0 and 1 have a spelling of FLAGS
@@ -148,7 +148,7 @@ edns-parts : (rcode : ℕ) (e : Edns) → T (edns? rcode e)
     → T (bit? (e .dnssecOk)) × T (key? (fullRcode rcode (e .extended)) rcodes) × T (all option? (e .options))
 unfolding edns?
 edns-parts rcode e h =
-    let a = word? (e .size) && octet? (e .extended) in
+    let a = u16? (e .size) && u8? (e .extended) in
     let b = a && bit? (e .dnssecOk) in
     let c = b && key? (fullRcode rcode (e .extended)) rcodes in
     let i = and-left (c && all option? (e .options)) (rising? (e .options)) h in
@@ -206,7 +206,7 @@ item-back rcode (doc.edns e) i h = ap doc.edns (edns-back rcode e i h)
 header-rcode : (h : Header) → T (header? h) → h .rcode < 16
 unfolding header?
 header-rcode h t =
-    let bits = word? (h .id) && bit? (h .qr) && four-bits? (h .opcode) && bit? (h .aa) && bit? (h .tc) && bit? (h .rd)
+    let bits = u16? (h .id) && bit? (h .qr) && four-bits? (h .opcode) && bit? (h .aa) && bit? (h .tc) && bit? (h .rd)
     && bit? (h .ra) && bit? (h .ad) && bit? (h .cd) in
     ltb→lt (h .rcode) 16 (and-right bits (four-bits? (h .rcode)) t)
 
@@ -226,13 +226,13 @@ view-parts v h =
     let j = and-left c (section? record? (v .authority)) i in
     let k = and-left b (section? record? (v .answers)) j in (
       header-rcode (v .header) (and-left a (section? question? (v .questions)) k),
-      and-right (word? (length (v .questions))) (all question? (v .questions))
+      and-right (u16? (length (v .questions))) (all question? (v .questions))
           (and-right a (section? question? (v .questions)) k),
-      and-right (word? (length (v .answers))) (all record? (v .answers))
+      and-right (u16? (length (v .answers))) (all record? (v .answers))
           (and-right b (section? record? (v .answers)) j),
-      and-right (word? (length (v .authority))) (all record? (v .authority))
+      and-right (u16? (length (v .authority))) (all record? (v .authority))
           (and-right c (section? record? (v .authority)) i),
-      and-right (word? (length (v .additional))) (all (additional? rcode) (v .additional))
+      and-right (u16? (length (v .additional))) (all (additional? rcode) (v .additional))
           (and-left last (all (settled? rcode (count opt-entry? (v .additional))) (v .additional))
           (and-right d (additionals? rcode (v .additional)) h)),
     )

@@ -10,10 +10,10 @@ use borrow.Author.Tests.{le-leb, eq-eqb, ne-eqb, eqb-true}
 use lib.Dec.{T, leb, eqb, leb→le, ltb→lt, lt→ltb, eqb→eq, eqb-refl}
 use lib.ListN.{length, take, drop, replicate, length-append, length-drop, length-replicate, take-append-drop}
 use lib.Seq.{length-take-le, take-at, drop-at}
-use Rattle.octets.specs.Lists.{all, All, octet?, Octets, word?, lookup, key?, each, present?}
+use Rattle.octets.specs.Lists.{all, All, u8?, Octets, u16?, lookup, key?, each, present?}
 use Rattle.octets.specs.Bits.{is-true, is-false, both, and-left, and-right, all→All, All→all, All-map, All-append}
 use Rattle.octets.specs.Bits.{octets-in, octets-test}
-use Rattle.octets.specs.Fields.{two, four, twoAt, fourAt, two-back, four-at, two-octets, four-octets, twoAt-word}
+use Rattle.octets.specs.Fields.{be16, be32, be16At, be32At, two-back, four-at, two-octets, four-octets, twoAt-word}
 use Rattle.octets.specs.Fields.{fourAt-long, two-same}
 use Rattle.names.specs.NameLaws.{drop-octets, take-octets}
 use Rattle.spelling.specs.Spelling.{printable?}
@@ -26,20 +26,20 @@ use Rattle.edns.specs.Edns.{option?}
 
 -- ---- numbers in octets
 -- the two octets at the front, and those after
-front-two : (l : List ℕ) → 2 ≤ length l → Octets l → two (twoAt l 0) ++ drop 2 l ≡ l
+front-two : (l : List ℕ) → 2 ≤ length l → Octets l → be16 (be16At l 0) ++ drop 2 l ≡ l
 front-two [] h o = absurd (omega arith)
 front-two (x ∷ []) h o = absurd (omega arith)
 front-two (x ∷ y ∷ l) h o = ap (λ (t : List ℕ). t ++ l) (two-same x y (o .0) (o .1 .0))
 
 -- a list of just two octets
-two-whole : (l : List ℕ) → length l ≡ 2 → Octets l → two (twoAt l 0) ≡ l
+two-whole : (l : List ℕ) → length l ≡ 2 → Octets l → be16 (be16At l 0) ≡ l
 two-whole [] h o = absurd (omega arith)
 two-whole (x ∷ []) h o = absurd (omega arith)
 two-whole (x ∷ y ∷ []) h o = two-same x y (o .0) (o .1 .0)
 two-whole (x ∷ y ∷ z ∷ l) h o = absurd (omega arith)
 
 -- a list of just four octets
-four-whole : (l : List ℕ) → length l ≡ 4 → Octets l → four (fourAt l 0) ≡ l
+four-whole : (l : List ℕ) → length l ≡ 4 → Octets l → be32 (be32At l 0) ≡ l
 four-whole [] h o = absurd (omega arith)
 four-whole (x ∷ []) h o = absurd (omega arith)
 four-whole (x ∷ y ∷ []) h o = absurd (omega arith)
@@ -52,11 +52,11 @@ four-whole (x ∷ y ∷ z ∷ w ∷ []) h o =
     let n : ℕ = (x * 256 + y) * 65536 + (z * 256 + w) in
     let p : n / 65536 ≡ x * 256 + y = omega arith in
     let q : n % 65536 ≡ z * 256 + w = omega arith in
-    (λ i. two (p i) ++ two (q i)) ∙ ap₂ (λ (t u : List ℕ). t ++ u) (two-same x y a b) (two-same z w c d)
+    (λ i. be16 (p i) ++ be16 (q i)) ∙ ap₂ (λ (t u : List ℕ). t ++ u) (two-same x y a b) (two-same z w c d)
 four-whole (x ∷ y ∷ z ∷ w ∷ u ∷ l) h o = absurd (omega arith)
 
 -- pairs of octets and the numbers of 16 bits that they hold
-words-forms : (l : List ℕ) → length l % 2 ≡ 0 → Octets l → each two (words l) ≡ l
+words-forms : (l : List ℕ) → length l % 2 ≡ 0 → Octets l → each be16 (words l) ≡ l
 unfolding words each
 words-forms [] h o = refl
 words-forms (x ∷ []) h o = absurd (omega arith)
@@ -64,34 +64,34 @@ words-forms (x ∷ y ∷ l) h o =
     ap₂ (λ (t u : List ℕ). t ++ u) (two-same x y (o .0) (o .1 .0)) (words-forms l (omega arith) (o .1 .1))
 
 -- those numbers have 16 bits
-words-word : (l : List ℕ) → Octets l → T (all word? (words l))
+words-word : (l : List ℕ) → Octets l → T (all u16? (words l))
 unfolding words
 words-word [] o = tt
 words-word (x ∷ []) o = tt
 words-word (x ∷ y ∷ l) o =
     let a : x < 256 = o .0 in
     let b : y < 256 = o .1 .0 in
-    both (word? (x * 256 + y)) (all word? (words l)) (lt→ltb (x * 256 + y) 65536 (omega arith)) (words-word l (o .1 .1))
+    both (u16? (x * 256 + y)) (all u16? (words l)) (lt→ltb (x * 256 + y) 65536 (omega arith)) (words-word l (o .1 .1))
 
 -- numbers of 16 bits are read back from their octets
-forms-words : (l : List ℕ) → T (all word? l) → words (each two l) ≡ l
+forms-words : (l : List ℕ) → T (all u16? l) → words (each be16 l) ≡ l
 unfolding words each
 forms-words [] h = refl
 forms-words (n ∷ l) h =
-    ap₂ (λ (k : ℕ) (t : List ℕ). k ∷ t) (two-back n (ltb→lt n 65536 (and-left (word? n) (all word? l) h)))
-    (forms-words l (and-right (word? n) (all word? l) h))
+    ap₂ (λ (k : ℕ) (t : List ℕ). k ∷ t) (two-back n (ltb→lt n 65536 (and-left (u16? n) (all u16? l) h)))
+    (forms-words l (and-right (u16? n) (all u16? l) h))
 
 -- their octets are an even number
-forms-even : (l : List ℕ) → length (each two l) % 2 ≡ 0
+forms-even : (l : List ℕ) → length (each be16 l) % 2 ≡ 0
 unfolding each
 forms-even [] = refl
 forms-even (n ∷ l) = omega (arith, forms-even l)
 
 -- they are octets
-forms-octets : (l : List ℕ) → Octets (each two l)
+forms-octets : (l : List ℕ) → Octets (each be16 l)
 unfolding each
 forms-octets [] = tt
-forms-octets (n ∷ l) = All-append (λ x. x < 256) (two n) (each two l) (two-octets n) (forms-octets l)
+forms-octets (n ∷ l) = All-append (λ x. x < 256) (be16 n) (each be16 l) (two-octets n) (forms-octets l)
 
 -- a number is any number
 numbers : (l : List ℕ) → All Number l
@@ -165,18 +165,19 @@ padding-stands l false h o = (
 
 -- an extended error: a text that is there is not empty
 error-stands : (l : List ℕ) → Octets l → T (leb 2 (length l) && all printable? (drop 2 l))
-    → Stands extendedError l (twoAt l 0, present (drop 2 l))
+    → Stands extendedError l (be16At l 0, present (drop 2 l))
 unfolding value? octetsOf
 error-stands l o h =
     go (drop 2 l) (and-right (leb 2 (length l)) (all printable? (drop 2 l)) h)
     (front-two l (leb→le 2 (length l) (and-left (leb 2 (length l)) (all printable? (drop 2 l)) h)) o)
   where
-    range : T (word? (twoAt l 0))
-    range = lt→ltb (twoAt l 0) 65536 (twoAt-word l o 0)
+    range : T (u16? (be16At l 0))
+    range = lt→ltb (be16At l 0) 65536 (twoAt-word l o 0)
 
-    go : (t : List ℕ) → T (all printable? t) → two (twoAt l 0) ++ t ≡ l → Stands extendedError l (twoAt l 0, present t)
-    go [] p e = (both (word? (twoAt l 0)) true range tt, (tt, tt), e)
-    go (x ∷ t) p e = (both (word? (twoAt l 0)) true range tt, (tt, all→All printable? (x ∷ t) p), e)
+    go : (t : List ℕ) → T (all printable? t) → be16 (be16At l 0) ++ t ≡ l
+        → Stands extendedError l (be16At l 0, present t)
+    go [] p e = (both (u16? (be16At l 0)) true range tt, (tt, tt), e)
+    go (x ∷ t) p e = (both (u16? (be16At l 0)) true range tt, (tt, all→All printable? (x ∷ t) p), e)
 
 -- a value that octets have the shape of is valid, and they are its octets
 pub shape-value : (form : Form) (l : List ℕ) (v : Value form) → Octets l → shape form l ≡ some v → Stands form l v
@@ -185,20 +186,20 @@ shape-value hexObject l v o e = subst (Stands hexObject l) (Option·some-injecti
 shape-value octetList l v o e =
     subst (Stands octetList l) (Option·some-injective l v e) (octets-test l o, numbers l, refl)
 shape-value expiry l v o e =
-    either-some (Stands expiry l) (eqb (length l) 0) (eqb (length l) 4) none (some (fourAt l 0)) v
+    either-some (Stands expiry l) (eqb (length l) 0) (eqb (length l) 4) none (some (be32At l 0)) v
     (λ h. (tt, tt, empty l (eqb→eq (length l) 0 h)))
-    (λ h. (lt→ltb (fourAt l 0) 4294967296 (fourAt-long l o 0), tt, four-whole l (eqb→eq (length l) 4 h) o)) e
+    (λ h. (lt→ltb (be32At l 0) 4294967296 (fourAt-long l o 0), tt, four-whole l (eqb→eq (length l) 4 h) o)) e
 shape-value hexList l v o e = either-some (Stands hexList l) (eqb (length l) 8) (leb 16 (length l) && leb (length l) 40)
     (l ∷ []) (take 8 l ∷ drop 8 l ∷ []) v
     (λ h. (h, (o, tt), append-nil l)) (λ h. cookie-stands l o h) e
-shape-value word l v o e = one-some (Stands word l) (eqb (length l) 2) (twoAt l 0) v
-    (λ h. (lt→ltb (twoAt l 0) 65536 (twoAt-word l o 0), tt, two-whole l (eqb→eq (length l) 2 h) o)) e
+shape-value word l v o e = one-some (Stands word l) (eqb (length l) 2) (be16At l 0) v
+    (λ h. (lt→ltb (be16At l 0) 65536 (twoAt-word l o 0), tt, two-whole l (eqb→eq (length l) 2 h) o)) e
 shape-value padding l v o e =
     subst (Stands padding l) (Option·some-injective _ v e) (padding-stands l (all zero? l) refl o)
 shape-value wordList l v o e = one-some (Stands wordList l) (eqb (length l % 2) 0) (words l) v
     (λ h. (words-word l o, numbers (words l), words-forms l (eqb→eq (length l % 2) 0 h) o)) e
 shape-value extendedError l v o e =
-    one-some (Stands extendedError l) (leb 2 (length l) && all printable? (drop 2 l)) (twoAt l 0, present (drop 2 l)) v
+    one-some (Stands extendedError l) (leb 2 (length l) && all printable? (drop 2 l)) (be16At l 0, present (drop 2 l)) v
     (λ h. error-stands l o h) e
 shape-value unlisted l v o e = absurd (Option·none-ne-some v e)
 
@@ -212,7 +213,7 @@ expiry-shaped : (n : Option ℕ) → T (value? expiry n) → ShapedBy expiry n
 unfolding shape value? octetsOf
 expiry-shaped none h = (refl, tt)
 expiry-shaped (some n) h = (
-  let k = ltb→lt n 4294967296 h in let e : fourAt (four n) 0 ≡ n = four-at (four n) [] 0 n k refl in
+  let k = ltb→lt n 4294967296 h in let e : be32At (be32 n) 0 ≡ n = four-at (be32 n) [] 0 n k refl in
       ap (λ (m : ℕ). some (some m)) e,
   four-octets n,
 )
@@ -265,15 +266,15 @@ error-shaped : (n : ℕ) (x : Option (List ℕ)) → T (value? extendedError (n,
     → ShapedBy extendedError (n, x)
 unfolding shape value? octetsOf
 error-shaped n none h o =
-    (ap (λ (m : ℕ). some (m, none)) (two-back n (ltb→lt n 65536 (and-left (word? n) true h))), two-octets n)
-error-shaped n (some []) h o = absurd (and-right (word? n) false h)
+    (ap (λ (m : ℕ). some (m, none)) (two-back n (ltb→lt n 65536 (and-left (u16? n) true h))), two-octets n)
+error-shaped n (some []) h o = absurd (and-right (u16? n) false h)
 error-shaped n (some (x ∷ l)) h o =
-    let e = two-back n (ltb→lt n 65536 (and-left (word? n) true h)) in (
+    let e = two-back n (ltb→lt n 65536 (and-left (u16? n) true h)) in (
       rw (
         le-leb 2 (suc (suc (suc (length l)))) (omega arith),
         is-true (all printable? (x ∷ l)) (All→all printable? (x ∷ l) o),
       ) (ap (λ (m : ℕ). some (m, some (x ∷ l))) e),
-      All-append (λ x. x < 256) (two n) (x ∷ l) (two-octets n) (printable-octets (x ∷ l) o),
+      All-append (λ x. x < 256) (be16 n) (x ∷ l) (two-octets n) (printable-octets (x ∷ l) o),
     )
 
 -- a valid value's octets have its shape
@@ -286,7 +287,7 @@ value-shape hexList v h i = cookie-shaped v h i
 value-shape word v h i = (ap some (two-back v (ltb→lt v 65536 h)), two-octets v)
 value-shape padding v h i = padding-shaped (v .0) (v .1) h (i .1)
 value-shape wordList v h i =
-    (rw (eq-eqb (length (each two v) % 2) 0 (forms-even v), forms-words v h) refl, forms-octets v)
+    (rw (eq-eqb (length (each be16 v) % 2) 0 (forms-even v), forms-words v h) refl, forms-octets v)
 value-shape extendedError v h i = error-shaped (v .0) (v .1) h (i .1)
 value-shape unlisted v h i = absurd h
 
@@ -341,7 +342,7 @@ listed-key code h = rows-key rows code h
 -- a key of the members is a number of 16 bits
 pub key-word : (code : ℕ) → T (key? code members) → code < 65536
 unfolding members rows
-key-word code k = ltb→lt code 65536 (key-holds word? members code tt k)
+key-word code k = ltb→lt code 65536 (key-holds u16? members code tt k)
 
 -- only a form of a row has a value
 shape-listed : (form : Form) (l : List ℕ) (v : Value form) → shape form l ≡ some v → Listed form
@@ -370,7 +371,7 @@ member-option o i h = go (shape (formOf (o .code)) (o .value)) refl
         → (optionOf (chosen-of x) ≡ o) × T (member? (chosen-of x)) × MemberIn (chosen-of x)
     go none e = (
       refl,
-      both (word? (o .code)) (not (present? (shape (formOf (o .code)) (o .value))))
+      both (u16? (o .code)) (not (present? (shape (formOf (o .code)) (o .value))))
           (lt→ltb (o .code) 65536 h) (rw e tt),
       (tt, i),
     )
@@ -392,12 +393,12 @@ unfolding memberOf optionOf member? option?
 option-member (known code v) i h =
     let w = value-shape (formOf code) v h (i .1) in (
       ap (chosen code (octetsOf (formOf code) v)) (w .0),
-      both (word? code) (all octet? (octetsOf (formOf code) v)) (lt→ltb code 65536 (key-word code (i .0)))
+      both (u16? code) (all u8? (octetsOf (formOf code) v)) (lt→ltb code 65536 (key-word code (i .0)))
           (octets-test (octetsOf (formOf code) v) (w .1)),
     )
 option-member (other code hex) i h = (
   ap (chosen code hex) (absent-none (shape (formOf code) hex)
-      (and-right (word? code) (not (present? (shape (formOf code) hex))) h)),
-  both (word? code) (all octet? hex) (and-left (word? code) (not (present? (shape (formOf code) hex))) h)
+      (and-right (u16? code) (not (present? (shape (formOf code) hex))) h)),
+  both (u16? code) (all u8? hex) (and-left (u16? code) (not (present? (shape (formOf code) hex))) h)
       (octets-test hex (i .1)),
 )

@@ -5,8 +5,8 @@ use mathlib.Core.List.{List, [], _∷_, _++_}
 use Prim.Native.Nat.{ℕ}
 use lib.Dec.{leb, eqb}
 use lib.ListN.{length, replicate}
-use Rattle.octets.specs.Lists.{all, none?, octet?, word?, long?, each, present?}
-use Rattle.octets.specs.Fields.{two, four}
+use Rattle.octets.specs.Lists.{all, none?, u8?, u16?, u32?, each, present?}
+use Rattle.octets.specs.Fields.{be16, be32}
 use Rattle.options.specs.Options.{Form, hexObject, octetList, expiry, hexList, word, padding, wordList, extendedError}
 use Rattle.options.specs.Options.{unlisted, Value, formOf, zero?, shape, EdnsOption, Member, known, other}
 
@@ -17,7 +17,7 @@ optional (some l) = l
 
 abbrev pub expiryOctets : Option ℕ → List ℕ
 expiryOctets none = []
-expiryOctets (some n) = four n
+expiryOctets (some n) = be32 n
 
 abbrev pub paddingOctets : ℕ → Option (List ℕ) → List ℕ
 paddingOctets n none = replicate n 0
@@ -28,17 +28,17 @@ octetsOf hexObject hex = hex
 octetsOf octetList l = l
 octetsOf expiry n = expiryOctets n
 octetsOf hexList l = each (λ hex. hex) l
-octetsOf word n = two n
+octetsOf word n = be16 n
 octetsOf padding p = paddingOctets (p .0) (p .1)
-octetsOf wordList l = each two l
-octetsOf extendedError e = two (e .0) ++ optional (e .1)
+octetsOf wordList l = each be16 l
+octetsOf extendedError e = be16 (e .0) ++ optional (e .1)
 octetsOf unlisted u = []
 
 -- Whether a value in the grammar can be that of an option: numbers in range; COOKIE 8 octets, then none or one of 8 to
 -- 32; a PADDING `LENGTH` that agrees with its `HEX`, which is not all zero; a `TEXT` that is not empty.
 abbrev pub expiry? : Option ℕ → Bool
 expiry? none = true
-expiry? (some n) = long? n
+expiry? (some n) = u32? n
 
 abbrev pub cookie? : List (List ℕ) → Bool
 cookie? [] = false
@@ -56,13 +56,13 @@ text? (some text) = not (none? text)
 
 unfoldable pub value? : (form : Form) → Value form → Bool
 value? hexObject hex = true
-value? octetList l = all octet? l
+value? octetList l = all u8? l
 value? expiry n = expiry? n
 value? hexList l = cookie? l
-value? word n = word? n
+value? word n = u16? n
 value? padding p = padding? (p .0) (p .1)
-value? wordList l = all word? l
-value? extendedError e = word? (e .0) && text? (e .1)
+value? wordList l = all u16? l
+value? extendedError e = u16? (e .0) && text? (e .1)
 value? unlisted u = false
 
 -- the option of a member
@@ -73,4 +73,4 @@ optionOf (other code hex) = record { code = code; value = hex }
 -- a member that is one of an option: `OPTn` only where the value doesn't have the shape of a row of that code
 unfoldable pub member? : Member → Bool
 member? (known code v) = value? (formOf code) v
-member? (other code hex) = word? code && not (present? (shape (formOf code) hex))
+member? (other code hex) = u16? code && not (present? (shape (formOf code) hex))

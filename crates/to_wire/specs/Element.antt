@@ -7,9 +7,9 @@ use native.Mathlib.Omega.{arith}
 use borrow.Author.Tests.{eqb-true, lt-ltb}
 use lib.Dec.{T, ltb, eqb, ltb→lt}
 use lib.ListN.{length}
-use Rattle.octets.specs.Lists.{ascii, all, All, each, octet?, key?, rowText}
+use Rattle.octets.specs.Lists.{ascii, all, All, each, u8?, key?, rowText}
 use Rattle.octets.specs.Bits.{is-true, and-left, and-right}
-use Rattle.octets.specs.Fields.{two, four}
+use Rattle.octets.specs.Fields.{be16, be32}
 use Rattle.octets.specs.Parsed.{Parsed, took, stuck, and-then, strip}
 use Rattle.octets.specs.Codec.{Any, Codec, on, joined, table, _▷_, _◁_, _⊗_, tried}
 use Rattle.octets.specs.Decimal.{decimal, number, till}
@@ -109,7 +109,7 @@ flags-bit n h = ltb→lt n 2 (key-holds bit? flags n tt h)
 
 rcode-octet : (n : ℕ) → T (key? n rcodes) → n / 16 < 256
 unfolding rcodes
-rcode-octet n h = ltb→lt (n / 16) 256 (key-holds (λ n. octet? (n / 16)) rcodes n tt h)
+rcode-octet n h = ltb→lt (n / 16) 256 (key-holds (λ n. u8? (n / 16)) rcodes n tt h)
 
 element-is : (rcode : ℕ) (e : EdnsItem) → EdnsIn e
     → element? rcode e ≡ (options? (e .options) && ednsFits? (e .version) (e .rcode) rcode (e .size))
@@ -145,7 +145,7 @@ element-is rcode e i =
 
 -- ---- the octets before the options
 abbrev pub optFront : ℕ → ℕ → ℕ → List ℕ
-optFront size ttl n = (0 ∷ []) ++ two 41 ++ two size ++ four ttl ++ two n
+optFront size ttl n = (0 ∷ []) ++ be16 41 ++ be16 size ++ be32 ttl ++ be16 n
 
 abbrev pub optTtl : ℕ → ℕ → ℕ
 optTtl full flags = full / 16 * 16777216 + flags * 32768
@@ -161,8 +161,8 @@ opt-none b h = record { wrote = λ i j k l. absurd (omega arith) }
 
 pub opt-fronted : {size full flags start to class ttl n : ℕ} {b b₁ b₂ b₃ b₄ b₅ : List ℕ} {r₁ r₂ r₃ r₄ r₅ : ℕ}
     → class ≡ size % 65536 → ttl ≡ full / 16 % 256 * 16777216 + flags % 2 * 32768 → n ≡ to - (start + 11)
-    → Wrote b start (0 ∷ []) b₁ r₁ → Wrote b₁ r₁ (two 41) b₂ r₂ → Wrote b₂ r₂ (two class) b₃ r₃
-    → Wrote b₃ r₃ (four ttl) b₄ r₄ → Wrote b₄ r₄ (two n) b₅ r₅
+    → Wrote b start (0 ∷ []) b₁ r₁ → Wrote b₁ r₁ (be16 41) b₂ r₂ → Wrote b₂ r₂ (be16 class) b₃ r₃
+    → Wrote b₃ r₃ (be32 ttl) b₄ r₄ → Wrote b₄ r₄ (be16 n) b₅ r₅
     → OptFronted size full flags start to b b₅ r₅
 opt-fronted {size} {full} {flags} {start} {to} {class} {ttl} {n} {b} {b₅ = b₅} {r₅ = r₅} e d m v w x y z = record {
   wrote = λ i j k l.

@@ -5,8 +5,8 @@ use mathlib.Core.List.{List, [], _∷_, _++_}
 use Prim.Native.Nat.{ℕ, _+_, _*_, _%_}
 use native.Mathlib.Omega.{arith}
 use lib.Dec.{T, ltb→lt}
-use Rattle.octets.specs.Lists.{ascii, word?}
-use Rattle.octets.specs.Fields.{two}
+use Rattle.octets.specs.Lists.{ascii, u16?}
+use Rattle.octets.specs.Fields.{be16}
 use Rattle.octets.specs.Bits.{and-left, and-right}
 use Rattle.octets.specs.Parsed.{Parsed}
 use Rattle.octets.specs.Codec.{_⊗_}
@@ -222,16 +222,16 @@ put-flags high low {c} {f = f} e j m = record {
 }
 
 abbrev pub words? : Four → Bool
-words? u = word? (u .0) && (word? (u .1 .0) && (word? (u .1 .1 .0) && word? (u .1 .1 .1)))
+words? u = u16? (u .0) && (u16? (u .1 .0) && (u16? (u .1 .1 .0) && u16? (u .1 .1 .1)))
 
 abbrev pub fourWords : Four → List ℕ
-fourWords u = two (u .0) ++ (two (u .1 .0) ++ (two (u .1 .1 .0) ++ two (u .1 .1 .1)))
+fourWords u = be16 (u .0) ++ (be16 (u .1 .0) ++ (be16 (u .1 .1 .0) ++ be16 (u .1 .1 .1)))
 
 abbrev pub PutCounts : Counts → Cursor → List ℕ → Cursor → List ℕ → Type 0
 PutCounts counts = Done (Counted counts) words? fourWords
 
 abbrev pub Words : ℕ → Cursor → List ℕ → Cursor → List ℕ → Type 0
-Words value = Done (λ n. value ≡ capped n) word? two
+Words value = Done (λ n. value ≡ capped n) u16? be16
 
 pub put-counts : {q a n r : ℕ} {c d e f g : Cursor} {b b₁ b₂ b₃ b₄ : List ℕ} → Words q c b d b₁ → Words a d b₁ e b₂
     → Words n e b₂ f b₃ → Words r f b₃ g b₄
@@ -276,8 +276,8 @@ head-read {t} {b} {b₁} {b₂} {b₃} {c} {start} {d} {e} {r} {id} {high} {low}
     all : Done {A = ℕ × ((Five × Four) × Four)} (λ u. (id .value ≡ capped (u .0))
         × ((FlagsKept highMeant? highOctet high (u .1 .0 .0) × FlagsKept lowMeant? lowOctet low (u .1 .0 .1))
         × Counted counts (u .1 .1)))
-        (λ u. word? (u .0) && ((highMeant? (u .1 .0 .0) && lowMeant? (u .1 .0 .1)) && words? (u .1 .1)))
-        (λ u. two (u .0) ++ ((highOctet (u .1 .0 .0) ∷ lowOctet (u .1 .0 .1) ∷ []) ++ fourWords (u .1 .1)))
+        (λ u. u16? (u .0) && ((highMeant? (u .1 .0 .0) && lowMeant? (u .1 .0 .1)) && words? (u .1 .1)))
+        (λ u. be16 (u .0) ++ ((highOctet (u .1 .0 .0) ∷ lowOctet (u .1 .0 .1) ∷ []) ++ fourWords (u .1 .1)))
         (counts .cursor) b r b₃
     all = done-then w (done-then f g)
 
@@ -292,7 +292,7 @@ head-read {t} {b} {b₁} {b₂} {b₃} {c} {start} {d} {e} {r} {id} {high} {low}
     told u k =
         let p = put-from keeps
         (all .put (u .0, ((u .1 .0, u .1 .1 .0), u .1 .1 .1)) (k .0, ((k .1 .0, k .1 .1 .0), k .1 .1 .1))) in (
-          put-as (inner (word? (u .0)) (highMeant? (u .1 .0)) (lowMeant? (u .1 .1 .0)) (words? (u .1 .1 .1))) refl p,
+          put-as (inner (u16? (u .0)) (highMeant? (u .1 .0)) (lowMeant? (u .1 .1 .0)) (words? (u .1 .1 .1))) refl p,
           record { rcode = code p; counts = k .1 .1 .1 },
         )
       where
@@ -301,14 +301,14 @@ head-read {t} {b} {b₁} {b₂} {b₃} {c} {start} {d} {e} {r} {id} {high} {low}
         inner true false y v = refl
         inner false x y v = refl
 
-        code : Put {A = ℕ × ((Five × Four) × Four)} (λ v. word? (v .0)
-            && ((highMeant? (v .1 .0 .0) && lowMeant? (v .1 .0 .1)) && words? (v .1 .1))) (λ v. two (v .0)
+        code : Put {A = ℕ × ((Five × Four) × Four)} (λ v. u16? (v .0)
+            && ((highMeant? (v .1 .0 .0) && lowMeant? (v .1 .0 .1)) && words? (v .1 .1))) (λ v. be16 (v .0)
             ++ ((highOctet (v .1 .0 .0) ∷ lowOctet (v .1 .0 .1) ∷ []) ++ fourWords (v .1 .1))) c b r b₃
             (u .0, ((u .1 .0, u .1 .1 .0), u .1 .1 .1))
             → T (r .meant) → rcode ≡ u .1 .1 .0 .1 .1 .1
         code p m =
             let t0 = and-right (c .meant) _ (subst T (p .meant) m) in
-            let t1 = and-left (highMeant? (u .1 .0) && lowMeant? (u .1 .1 .0)) _ (and-right (word? (u .0)) _ t0) in
+            let t1 = and-left (highMeant? (u .1 .0) && lowMeant? (u .1 .1 .0)) _ (and-right (u16? (u .0)) _ t0) in
             let t2 = and-right (highMeant? (u .1 .0)) _ t1 in
             let o = k .1 .1 .0 .1 (subst T (sym (k .1 .1 .0 .0)) t2) in
             let t3 = and-right (bit? (u .1 .1 .0 .1 .1 .0)) _

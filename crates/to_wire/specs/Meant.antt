@@ -6,9 +6,9 @@ use mathlib.Core.List.{List, [], _∷_, _++_, map, append-assoc}
 use Prim.Native.Nat.{ℕ, _+_, _*_}
 use lib.Dec.{T, eqb, eqb→eq}
 use lib.ListN.{length, length-map}
-use Rattle.octets.specs.Lists.{all, All, count, each, word?, present?}
+use Rattle.octets.specs.Lists.{all, All, count, each, u16?, present?}
 use Rattle.octets.specs.Bits.{both, and-left, and-right}
-use Rattle.octets.specs.Fields.{two}
+use Rattle.octets.specs.Fields.{be16}
 use Rattle.records.specs.Message.{Header, bit?, four-bits?, header?, question?, record?, section?, questionForm}
 use Rattle.records.specs.Message.{recordForm, headerForm, form, opt?}
 use Rattle.edns.specs.Edns.{ednsOf}
@@ -79,11 +79,11 @@ lowOf h = (h .ra, (h .ad, (h .cd, h .rcode)))
 -- the numbers of the head are in range; its octets, with the counts that it says
 unfoldable pub headMeant? : Head → Bool
 headMeant? (h, (q, (a, (n, r)))) =
-    word? (h .id) && (highMeant? (highOf h) && (lowMeant? (lowOf h) && (word? q && (word? a && (word? n && word? r)))))
+    u16? (h .id) && (highMeant? (highOf h) && (lowMeant? (lowOf h) && (u16? q && (u16? a && (u16? n && u16? r)))))
 
 unfoldable pub headOctets : Head → List ℕ
 headOctets (h, (q, (a, (n, r)))) =
-    two (h .id) ++ ((highOctet (highOf h) ∷ lowOctet (lowOf h) ∷ []) ++ (two q ++ (two a ++ (two n ++ two r))))
+    be16 (h .id) ++ ((highOctet (highOf h) ∷ lowOctet (lowOf h) ∷ []) ++ (be16 q ++ (be16 a ++ (be16 n ++ be16 r))))
 
 -- ---- the whole
 abbrev pub sectionsMeant? : Document → Bool
@@ -182,10 +182,10 @@ all-hold a (b ∷ l) t h = all-hold (a && b) l (both a b t (h .0)) (h .1)
 
 -- the numbers of the head: those of the header, and the counts
 pub head-numbers : (h : Header) (q a n r : ℕ)
-    → headMeant? (h, (q, (a, (n, r)))) ≡ (header? h && (word? q && (word? a && (word? n && word? r))))
+    → headMeant? (h, (q, (a, (n, r)))) ≡ (header? h && (u16? q && (u16? a && (u16? n && u16? r))))
 unfolding headMeant? header?
 head-numbers h q a n r =
-    go (word? (h .id)) (bit? (h .qr)) (four-bits? (h .opcode)) (bit? (h .aa)) (bit? (h .tc)) (bit? (h .rd))
+    go (u16? (h .id)) (bit? (h .qr)) (four-bits? (h .opcode)) (bit? (h .aa)) (bit? (h .tc)) (bit? (h .rd))
     (bit? (h .ra)) (bit? (h .ad)) (bit? (h .cd)) (four-bits? (h .rcode)) _
   where
     go : (a b c d e f g h i j w : Bool)
@@ -234,22 +234,22 @@ document-meant d = same-truth _ _ forward backward
     settled-same = rw (count-map itemAdditional opt-entry? (d .additional)) (settled-once (h .rcode) _ (d .additional))
 
     -- a section whose count is its length
-    section : {A B : Type 0} (f : A → B) (n : ℕ) (p : B → Bool) (l : List A) → T (eqb n (length l)) → T (word? n)
+    section : {A B : Type 0} (f : A → B) (n : ℕ) (p : B → Bool) (l : List A) → T (eqb n (length l)) → T (u16? n)
         → T (all (λ a. p (f a)) l) → T (section? p (map f l))
     section f n p l e w t =
-        both (word? (length (map f l))) _ (rw (length-map l f, ← eqb→eq n (length l) e) w) (rw (all-map f p l) t)
+        both (u16? (length (map f l))) _ (rw (length-map l f, ← eqb→eq n (length l) e) w) (rw (all-map f p l) t)
 
     forward : T (documentMeant? d) → T (agrees? d && view? (documentView d))
     forward t =
         let hs = and-left (headMeant? (headOf d) && sectionsMeant? d) _ t in
         let cs = and-right (headMeant? (headOf d) && sectionsMeant? d) _ t in
         let hd : T (header? h
-        && (word? (d .qdcount) && (word? (d .ancount) && (word? (d .nscount) && word? (d .arcount))))) =
+        && (u16? (d .qdcount) && (u16? (d .ancount) && (u16? (d .nscount) && u16? (d .arcount))))) =
         subst T (head-numbers h (d .qdcount) (d .ancount) (d .nscount) (d .arcount))
         (and-left (headMeant? (headOf d)) _ hs) in
         let w1 = and-right (header? h) _ hd in
-        let w2 = and-right (word? (d .qdcount)) _ w1 in
-        let w3 = and-right (word? (d .ancount)) _ w2 in
+        let w2 = and-right (u16? (d .qdcount)) _ w1 in
+        let w3 = and-right (u16? (d .ancount)) _ w2 in
         let s1 = and-right (headMeant? (headOf d)) _ hs in
         let s2 = and-right (all question? (d .questions)) _ s1 in
         let s3 = and-right (all recordMeant? (d .answers)) _ s2 in
@@ -263,19 +263,19 @@ document-meant d = same-truth _ _ forward backward
           (all-first recordItem? _ (d .authority) ns, (all-first (item? (h .rcode)) _ (d .additional) ar, tt)),
         ))
         (all-hold (header? h) viewed (and-left (header? h) _ hd) (
-          both (word? (length (d .questions))) _
-              (subst (λ n. T (word? n)) (eqb→eq (d .qdcount) (length (d .questions)) (c .0))
-              (and-left (word? (d .qdcount)) _ w1)) (and-left (all question? (d .questions)) _ s1),
+          both (u16? (length (d .questions))) _
+              (subst (λ n. T (u16? n)) (eqb→eq (d .qdcount) (length (d .questions)) (c .0))
+              (and-left (u16? (d .qdcount)) _ w1)) (and-left (all question? (d .questions)) _ s1),
           (
-            section itemRecord (d .ancount) record? (d .answers) (c .1 .0) (and-left (word? (d .ancount)) _ w2)
+            section itemRecord (d .ancount) record? (d .answers) (c .1 .0) (and-left (u16? (d .ancount)) _ w2)
                 (all-second recordItem? _ (d .answers) an),
             (
-              section itemRecord (d .nscount) record? (d .authority) (c .1 .1 .0) (and-left (word? (d .nscount)) _ w3)
+              section itemRecord (d .nscount) record? (d .authority) (c .1 .1 .0) (and-left (u16? (d .nscount)) _ w3)
                   (all-second recordItem? _ (d .authority) ns),
               (
                 both (section? (additional? (h .rcode)) (map itemAdditional (d .additional))) _
                     (section itemAdditional (d .arcount) (additional? (h .rcode)) (d .additional) (c .1 .1 .1 .0)
-                    (and-right (word? (d .nscount)) _ w3) (all-second (item? (h .rcode)) _ (d .additional) ar))
+                    (and-right (u16? (d .nscount)) _ w3) (all-second (item? (h .rcode)) _ (d .additional) ar))
                     (subst T (sym settled-same) (and-right (counts? d) _ cs)),
                 tt,
               ),
@@ -294,14 +294,14 @@ document-meant d = same-truth _ _ forward backward
         (both (headMeant? (headOf d)) _
         (subst T (sym (head-numbers h (d .qdcount) (d .ancount) (d .nscount) (d .arcount)))
         (both (header? h) _ (v .0)
-        (both (word? (d .qdcount)) _
-        (subst (λ n. T (word? n)) (sym (eqb→eq (d .qdcount) (length (d .questions)) (c .0)))
-        (and-left (word? (length (d .questions))) _ (v .1 .0)))
-        (both (word? (d .ancount)) _ (counted itemRecord (d .ancount) record? (d .answers) (c .1 .0) (v .1 .1 .0))
-        (both (word? (d .nscount)) _
+        (both (u16? (d .qdcount)) _
+        (subst (λ n. T (u16? n)) (sym (eqb→eq (d .qdcount) (length (d .questions)) (c .0)))
+        (and-left (u16? (length (d .questions))) _ (v .1 .0)))
+        (both (u16? (d .ancount)) _ (counted itemRecord (d .ancount) record? (d .answers) (c .1 .0) (v .1 .1 .0))
+        (both (u16? (d .nscount)) _
         (counted itemRecord (d .nscount) record? (d .authority) (c .1 .1 .0) (v .1 .1 .1 .0))
         (counted itemAdditional (d .arcount) (additional? (h .rcode)) (d .additional) (c .1 .1 .1 .0) ar))))))
-        (both (all question? (d .questions)) _ (and-right (word? (length (d .questions))) _ (v .1 .0))
+        (both (all question? (d .questions)) _ (and-right (u16? (length (d .questions))) _ (v .1 .0))
         (both (all recordMeant? (d .answers)) _
         (all-and recordItem? _ (d .answers) (a .1 .0) (passed itemRecord record? (d .answers) (v .1 .1 .0)))
         (both (all recordMeant? (d .authority)) _
@@ -314,12 +314,12 @@ document-meant d = same-truth _ _ forward backward
         (and-right (section? (additional? (h .rcode)) (map itemAdditional (d .additional))) _ ad)))
       where
         counted : {A B : Type 0} (f : A → B) (n : ℕ) (p : B → Bool) (l : List A) → T (eqb n (length l))
-            → T (section? p (map f l)) → T (word? n)
-        counted f n p l e t = rw (eqb→eq n (length l) e, ← length-map l f) (and-left (word? (length (map f l))) _ t)
+            → T (section? p (map f l)) → T (u16? n)
+        counted f n p l e t = rw (eqb→eq n (length l) e, ← length-map l f) (and-left (u16? (length (map f l))) _ t)
 
         passed : {A B : Type 0} (f : A → B) (p : B → Bool) (l : List A) → T (section? p (map f l))
             → T (all (λ a. p (f a)) l)
-        passed f p l t = subst T (all-map f p l) (and-right (word? (length (map f l))) _ t)
+        passed f p l t = subst T (all-map f p l) (and-right (u16? (length (map f l))) _ t)
 
 -- the octets, part by part; with counts that are those of the arrays they are the form of the message
 unfoldable pub documentOctets : Document → List ℕ

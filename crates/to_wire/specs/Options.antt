@@ -8,9 +8,9 @@ use native.Mathlib.Omega.{arith}
 use borrow.Author.Tests.{lt-ltb, le-ltb, le-leb, lt-leb}
 use lib.Dec.{T, leb, ltb, ltb→lt}
 use lib.ListN.{length, take, drop}
-use Rattle.octets.specs.Lists.{ascii, all, each, word?, key?, rowText, paired, present?}
+use Rattle.octets.specs.Lists.{ascii, all, each, u16?, key?, rowText, paired, present?}
 use Rattle.octets.specs.Bits.{and-left, and-right}
-use Rattle.octets.specs.Fields.{two}
+use Rattle.octets.specs.Fields.{be16}
 use Rattle.octets.specs.Parsed.{Parsed, stuck, held, strip-sound}
 use Rattle.octets.specs.Codec.{Avoids, Any, Codec, fronts, table, exact, _▷_, _◁_, tried}
 use Rattle.octets.specs.Decimal.{till, number}
@@ -47,17 +47,17 @@ use Rattle.to_wire.specs.Values.{run-octets, ValueStep}
 -- ---- code and length before a value
 -- they were written at `start`, where the value ends at `to`
 pub record Fronted (code start to : ℕ) (b b′ : List ℕ) (r : ℕ) : Type 0 where
-  pub wrote : code < 65536 → start + 4 ≤ to → Wrote b start (two code ++ two (to - (start + 4))) b′ r
+  pub wrote : code < 65536 → start + 4 ≤ to → Wrote b start (be16 code ++ be16 (to - (start + 4))) b′ r
 
 pub fronted-none : {code start to r : ℕ} (b : List ℕ) → to < start + 4 → Fronted code start to b b r
 fronted-none b h = record { wrote = λ k l. absurd (omega arith) }
 
 pub fronted : {code start to n m r : ℕ} {b b₁ b₂ : List ℕ} → n ≡ to - (start + 4) → m ≡ code % 65536 → {s : ℕ}
-    → Wrote b start (two m) b₁ s → Wrote b₁ s (two n) b₂ r → Fronted code start to b b₂ r
+    → Wrote b start (be16 m) b₁ s → Wrote b₁ s (be16 n) b₂ r → Fronted code start to b b₂ r
 fronted {code} {start} {to} {n} {m} {r} {b} {b₁} {b₂} e d p q = record {
   wrote = λ k l. let z : m ≡ code =
-      omega (arith, d) in subst (λ (i : ℕ). Wrote b start (two i ++ two (to - (start + 4))) b₂ r) z
-      (subst (λ (i : ℕ). Wrote b start (two m ++ two i) b₂ r) e (then p q));
+      omega (arith, d) in subst (λ (i : ℕ). Wrote b start (be16 i ++ be16 (to - (start + 4))) b₂ r) z
+      (subst (λ (i : ℕ). Wrote b start (be16 m ++ be16 i) b₂ r) e (then p q));
 }
 
 pub put-option : {A : Type 0} {ok : A → Bool} {value : A → List ℕ} {c h r : Cursor} {b b₁ b₂ : List ℕ} {a : A} {k e : ℕ}
@@ -66,16 +66,16 @@ pub put-option : {A : Type 0} {ok : A → Bool} {value : A → List ℕ} {c h r 
     → Put ok (λ a. optionForm (record { code = code; value = value a })) c b r b₂ a
 unfolding optionForm
 put-option {value = value} {c = c} {h = h} {r = r} {b₁ = b₁} {b₂ = b₂} {a = a} {k = k} {e = e} code x p f m =
-    put-before (λ a. two code ++ two (length (value a))) x refl p go
+    put-before (λ a. be16 code ++ be16 (length (value a))) x refl p go
   where
-    go : T (r .meant) → T (r .small) → Wrote b₁ (c .to) (two code ++ two (length (value a))) b₂ e
+    go : T (r .meant) → T (r .small) → Wrote b₁ (c .to) (be16 code ++ be16 (length (value a))) b₂ e
     go y z =
         let s : T (h .small) = and-left (h .small) _ (subst T (p .small y) z) in
         let u : r .to ≡ c .to + 4 + length (value a) = omega (arith, x .to s, p .wrote y z .place) in
         let v : r .to - (c .to + 4) ≡ length (value a) = omega (arith, u) in
         let w = m y in
-        subst (λ (i : ℕ). Wrote b₁ (c .to) (two i ++ two (length (value a))) b₂ e) (w .0)
-        (subst (λ (i : ℕ). Wrote b₁ (c .to) (two k ++ two i) b₂ e) v
+        subst (λ (i : ℕ). Wrote b₁ (c .to) (be16 i ++ be16 (length (value a))) b₂ e) (w .0)
+        (subst (λ (i : ℕ). Wrote b₁ (c .to) (be16 k ++ be16 i) b₂ e) v
         (f .wrote (omega (arith, w .0, w .1)) (omega (arith, u))))
 
 -- ---- a member of the table
@@ -144,7 +144,7 @@ module _ {t : List ℕ} {c : Cursor} {n : Row} (x : MemberNameRead t c n) (g : n
 -- ---- `OPTn`
 -- its code is a number of 16 bits, and the value does not have the shape of a row of that code
 pub record OtherFits (t : List ℕ) (h : Span) (n : ℕ) (ok : Bool) : Type 0 where
-  pub fits : (k : ℕ) (l : List ℕ) → n ≡ capped k → HexRun t h l → (word? k && not (present? (shape (formOf k) l))) ≡ ok
+  pub fits : (k : ℕ) (l : List ℕ) → n ≡ capped k → HexRun t h l → (u16? k && not (present? (shape (formOf k) l))) ≡ ok
 
 module _ {t : List ℕ} {h : Span} {n : ℕ} where
   pub other-large : 65535 < n → OtherFits t h n false
@@ -168,14 +168,14 @@ code-of-word : (n k : ℕ) → n ≡ capped k → k < 65536 → optionCode n ≡
 code-of-word n k e h = rw (lt-ltb n 65536 (omega (arith, e))) (omega (arith, e))
 
 meant-word : (k : ℕ) (test : List ℕ → Bool) {wire : List ℕ → List ℕ} {c r : Cursor} {b b′ l : List ℕ}
-    → Put (λ l. word? k && test l) wire c b r b′ l → T (r .meant) → k < 65536
+    → Put (λ l. u16? k && test l) wire c b r b′ l → T (r .meant) → k < 65536
 meant-word k test {c = c} {l = l} p g =
-    ltb→lt k 65536 (and-left (word? k) (test l) (and-right (c .meant) (word? k && test l) (subst T (p .meant) g)))
+    ltb→lt k 65536 (and-left (u16? k) (test l) (and-right (c .meant) (u16? k && test l) (subst T (p .meant) g)))
 
 -- the hexadecimal, of any number that was read as n
 abbrev pub OtherHex : ℕ → List ℕ → Cursor → List ℕ → Cursor → List ℕ → Type 0
 OtherHex n t c b r b′ = Found (hex .parse) (λ l. (k : ℕ) → n ≡ capped k
-    → Put (λ l. word? k && not (present? (shape (formOf k) l)))
+    → Put (λ l. u16? k && not (present? (shape (formOf k) l)))
     (λ l. optionForm (record { code = k; value = l })) c b r b′ l) t c r
 
 pub other-hex : {n code : ℕ} {t : List ℕ} {c i v r : Cursor} {b b₁ b₂ : List ℕ} {h : Span} {ok : Bool} {e : ℕ}
@@ -185,7 +185,7 @@ pub other-hex : {n code : ℕ} {t : List ℕ} {c i v r : Cursor} {b b₁ b₂ : 
 other-hex {n} y x d f j z w =
     found-at (y .found) (j .at ∙ d .at ∙ x .at) (j .spelled ∙ d .spelled ∙ x .spelled)
     (omega (arith, j .to, d .room)) λ l u k m.
-    let p = put-judged {ok′ = λ l. word? k && not (present? (shape (formOf k) l))} (d .put l u) j (f .fits k l m u) in
+    let p = put-judged {ok′ = λ l. u16? k && not (present? (shape (formOf k) l))} (d .put l u) j (f .fits k l m u) in
     put-from (y .keeps) (put-option k x p w λ g.
     let s = meant-word k (λ l. not (present? (shape (formOf k) l))) p g in
     (z ∙ code-of-word n k m s, s))

@@ -8,9 +8,9 @@ use native.Mathlib.Omega.{arith}
 use borrow.Author.Tests.{lt-ltb, le-ltb, eq-eqb, ne-eqb, eqb-false}
 use lib.Dec.{T, ltb, eqb, ltb→lt, lt→ltb, nltb→le, eqb→eq}
 use lib.ListN.{length, take, drop}
-use Rattle.octets.specs.Lists.{ascii, all, none?, Octets, octet?, word?, long?, paired, lookup}
+use Rattle.octets.specs.Lists.{ascii, all, none?, Octets, u8?, u16?, u32?, paired, lookup}
 use Rattle.octets.specs.Bits.{is-true, and-left, and-right, octets-test}
-use Rattle.octets.specs.Fields.{two, four}
+use Rattle.octets.specs.Fields.{be16, be32}
 use Rattle.octets.specs.Parsed.{Parsed, took, stuck, and-then, strip}
 use Rattle.octets.specs.Codec.{_▷_, _⊗_, _◁_}
 use Rattle.octets.specs.Decimal.{natural, number, till}
@@ -47,10 +47,10 @@ use Rattle.to_wire.specs.declared.entries.Entry.{Entry}
 
 -- ---- a number of two octets
 abbrev pub WordRead : List ℕ → Cursor → List ℕ → Amount → List ℕ → Type 0
-WordRead t c b r b′ = Found natural (λ n. Put word? two c b (r .cursor) b′ n × (r .value ≡ capped n)) t c (r .cursor)
+WordRead t c b r b′ = Found natural (λ n. Put u16? be16 c b (r .cursor) b′ n × (r .value ≡ capped n)) t c (r .cursor)
 
 pub word-read : {t : List ℕ} {c d : Cursor} {n : Amount} {b b′ : List ℕ} → NumberRead t c n
-    → Done (λ m. n .value ≡ capped m) word? two (n .cursor) b d b′
+    → Done (λ m. n .value ≡ capped m) u16? be16 (n .cursor) b d b′
     → WordRead t c b (record { cursor = d; value = n .value }) b′
 word-read x w = found-at (x .found) (w .at) (w .spelled) (w .room) λ m e. (put-from (x .keeps) (w .put m e), e)
 
@@ -62,10 +62,10 @@ pub question-read : {t b b₁ b₂ b₃ : List ℕ} {c d e f g r : Cursor} {k l 
     → Step question? questionForm (questionCodec .parse) t c b r b₃
 unfolding questionCodec question? questionForm
 question-read p n q k s l z =
-    step-on {ok = λ u. name? (u .0) && (word? (u .1 .0) && word? (u .1 .1))} {wire = λ u. nameForm (u .0)
-    ++ (two (u .1 .0) ++ two (u .1 .1))}
+    step-on {ok = λ u. name? (u .0) && (u16? (u .1 .0) && u16? (u .1 .1))} {wire = λ u. nameForm (u .0)
+    ++ (be16 (u .1 .0) ++ be16 (u .1 .1))}
     (λ (n, (t, c)). record { name = n; type = t; class = c })
-    (λ (n, (t, c)). and-assoc (name? n) (word? t) (word? c)) (λ (n, (t, c)). append-assoc (nameForm n) (two t) (two c))
+    (λ (n, (t, c)). and-assoc (name? n) (u16? t) (u16? c)) (λ (n, (t, c)). append-assoc (nameForm n) (be16 t) (be16 c))
     (step-pair (step-lit p (found-as n λ a h. h .0))
     (step-pair (step-lit q (step-behind (found-as k λ a h. h .0) s)) (step-behind (found-as l λ a h. h .0) z)))
 
@@ -76,7 +76,7 @@ typeOr0 value = cond (ltb 65535 value) 0 value
 
 pub record RdataRead (kind : ℕ) (t : List ℕ) (c : Cursor) (b : List ℕ) (r : Span) (b′ : List ℕ) : Type 0 where
   pub found : Found (hex .parse) (λ l. ((n : ℕ) → kind ≡ capped n
-      → Put (rdataFits? n) (λ l. two (length l) ++ l) c b (r .cursor) b′ l) × HexRun t r l) t c (r .cursor)
+      → Put (rdataFits? n) (λ l. be16 (length l) ++ l) c b (r .cursor) b′ l) × HexRun t r l) t c (r .cursor)
   pub so-far : List ℕ
   pub run : HexRun t r so-far
   pub still : T (r .cursor .meant) → T (c .meant)
@@ -128,7 +128,7 @@ rdata-read {kind} {f} {n} {t} {b} {b₁} {b₂} {h} {c} {d} {e} {r} {s} {ok} x g
 }
   where
     told : (l : List ℕ) → HexRun t s l
-        → ((m : ℕ) → kind ≡ capped m → Put (rdataFits? m) (λ l. two (length l) ++ l) c b r b₂ l)
+        → ((m : ℕ) → kind ≡ capped m → Put (rdataFits? m) (λ l. be16 (length l) ++ l) c b r b₂ l)
         × HexRun t (record { cursor = r; from = s .from; end = s .end }) l
     told l v = (put, run-at r v)
       where
@@ -141,7 +141,7 @@ rdata-read {kind} {f} {n} {t} {b} {b₁} {b₂} {h} {c} {d} {e} {r} {s} {ok} x g
         judged : (m : ℕ) → kind ≡ capped m → ok ≡ rdataFits? m l
         judged m q = o ∙ rw (k, octets, q) (kind-fits m l)
 
-        put : (m : ℕ) → kind ≡ capped m → Put (rdataFits? m) (λ l. two (length l) ++ l) c b r b₂ l
+        put : (m : ℕ) → kind ≡ capped m → Put (rdataFits? m) (λ l. be16 (length l) ++ l) c b r b₂ l
         put m q = put-as (sym (and-true (rdataFits? m l))) (rw (← size))
             (put-then (put-emit {wire = λ l. []}
             (put-judged {wire = λ l. []} {ok = λ l. true} {ok′ = rdataFits? m}
@@ -155,7 +155,8 @@ tailParse = (till ",\"RDATAHEX\":\"" tt signedNumber ⊗ hex ◁ "}") .parse
 pub record Tail (kind : ℕ) (root : Bool) (rcode : ℕ) (c : Cursor) (b : List ℕ) (r : Entry) (b′ : List ℕ)
     (u : Signed × List ℕ) : Type 0 where
   pub put : (n : ℕ) → kind ≡ capped n
-      → Put (λ u. ttl? (u .0) && rdataFits? n (u .1)) (λ u. four (unsigned (u .0)) ++ (two (length (u .1)) ++ u .1)) c b
+      → Put (λ u. ttl? (u .0) && rdataFits? n (u .1)) (λ u. be32 (unsigned (u .0))
+      ++ (be16 (length (u .1)) ++ u .1)) c b
       (r .cursor) b′ u
   pub signed : SignedNumber (u .0)
   pub octets : Octets (u .1)
@@ -180,21 +181,21 @@ pub shows-edns-of : {kind bits rcode : ℕ} {root r : Bool} {t : List ℕ} {s : 
 shows-edns-of {kind} e f = record { shows = f ∙ rw (eq-eqb kind 41 e) }
 
 pub tail-read : {kind rcode : ℕ} {root h : Bool} {t b b₁ b₂ : List ℕ} {c d e r : Cursor} {v : Ttl} {s : Span}
-    → SignedRead t c v → Done (TtlKept (v .fits) (v .bits)) ttl? (λ s. four (unsigned s)) (v .cursor) b d b₁
+    → SignedRead t c v → Done (TtlKept (v .fits) (v .bits)) ttl? (λ s. be32 (unsigned s)) (v .cursor) b d b₁
     → Passed (ascii ",\"RDATAHEX\":\"") t d e → RdataRead kind t e b₁ s b₂
     → Passed (ascii "}") t (s .cursor) r → CouldBeElement kind root (v .bits) rcode t s h
     → TailRead kind root rcode t c b (record { cursor = r; opt = eqb kind 41; shown = false; hidden = h }) b₂
 tail-read {kind} {rcode} {root} {h} {t} {b} {b₁} {b₂} {c} {d} {e} {r} {v} {s} x w q y z g =
     found-as (found-pair (found-behind (found-sound signedNumber ttl) q) (found-behind (y .found) z)) told
   where
-    ttl : Found (signedNumber .parse) (λ a. Put ttl? (λ s. four (unsigned s)) c b d b₁ a
+    ttl : Found (signedNumber .parse) (λ a. Put ttl? (λ s. be32 (unsigned s)) c b d b₁ a
         × TtlKept (v .fits) (v .bits) a) t c d
     ttl = found-at (x .found) (w .at) (w .spelled) (w .room) λ a k. (put-from (x .keeps) (w .put a k), k)
 
     told : (u : Signed × List ℕ)
         → (SignedNumber (u .0)
-        × (Put ttl? (λ s. four (unsigned s)) c b d b₁ (u .0) × TtlKept (v .fits) (v .bits) (u .0)))
-        × (((n : ℕ) → kind ≡ capped n → Put (rdataFits? n) (λ l. two (length l) ++ l) e b₁ (s .cursor) b₂ (u .1))
+        × (Put ttl? (λ s. be32 (unsigned s)) c b d b₁ (u .0) × TtlKept (v .fits) (v .bits) (u .0)))
+        × (((n : ℕ) → kind ≡ capped n → Put (rdataFits? n) (λ l. be16 (length l) ++ l) e b₁ (s .cursor) b₂ (u .1))
         × HexRun t s (u .1))
         → Tail kind root rcode c b (record { cursor = r; opt = eqb kind 41; shown = false; hidden = h }) b₂ u
     told u k = record {
@@ -207,8 +208,8 @@ tail-read {kind} {rcode} {root} {h} {t} {b} {b₁} {b₂} {c} {d} {e} {r} {v} {s
     }
       where
         all : (n : ℕ) → kind ≡ capped n
-            → Put (λ u. ttl? (u .0) && rdataFits? n (u .1)) (λ u. four (unsigned (u .0))
-            ++ (two (length (u .1)) ++ u .1)) c b r b₂ u
+            → Put (λ u. ttl? (u .0) && rdataFits? n (u .1)) (λ u. be32 (unsigned (u .0))
+            ++ (be16 (length (u .1)) ++ u .1)) c b r b₂ u
         all n i = put-then (k .0 .1 .0) (put-to (put-from (q .keeps) (k .1 .0 n i)) (z .keeps))
 
         in-range : T (r .meant) → T (v .fits)
@@ -259,15 +260,15 @@ RecordRead rcode t c b r b′ = Found recordRest (RecordFacts rcode c b r b′) 
 -- a record in the grammar, judged part by part
 record-judged : (u : Fields) → SignedNumber (u .1 .1 .1 .0) → Octets (u .1 .1 .1 .1)
     → recordMeant? (recordFrom u) ≡ (name? (u .0)
-    && (word? (u .1 .0) && (word? (u .1 .1 .0) && (ttl? (u .1 .1 .1 .0) && rdataFits? (u .1 .0) (u .1 .1 .1 .1)))))
+    && (u16? (u .1 .0) && (u16? (u .1 .1 .0) && (ttl? (u .1 .1 .1 .0) && rdataFits? (u .1 .0) (u .1 .1 .1 .1)))))
 unfolding recordMeant? record? itemRecord
 record-judged (n, (t, (c, (s, l)))) i o =
-    rw (is-true (all octet? l) (octets-test l o))
-    (go (name? n) (word? t) (word? c) (ttl? s) (rdataFits? t l)
-    (λ h. is-true (long? (unsigned s)) (lt→ltb (unsigned s) 4294967296 (unsigned-back s i h .1))))
+    rw (is-true (all u8? l) (octets-test l o))
+    (go (name? n) (u16? t) (u16? c) (ttl? s) (rdataFits? t l)
+    (λ h. is-true (u32? (unsigned s)) (lt→ltb (unsigned s) 4294967296 (unsigned-back s i h .1))))
   where
-    go : (a b c d e : Bool) → (T d → long? (unsigned s) ≡ true)
-        → d && (a && b && c && long? (unsigned s) && true && e) ≡ (a && (b && (c && (d && e))))
+    go : (a b c d e : Bool) → (T d → u32? (unsigned s) ≡ true)
+        → d && (a && b && c && u32? (unsigned s) && true && e) ≡ (a && (b && (c && (d && e))))
     go a b c true e h = rw (h tt) (all a b c)
       where
         all : (a b c : Bool) → (a && b && c && true && true && e) ≡ (a && (b && (c && e)))
@@ -298,10 +299,10 @@ record-read {rcode} {root} {t} {b} {b₁} {b₂} {b₃} {b₄} {c} {d} {f} {g} {
     (found-as (found-pair n (found-pair (found-lit p (found-behind x q)) (found-pair (found-behind y s) z))) told)
   where
     wire : (u : Fields) → recordOctets (recordFrom u) ≡ nameForm (u .0)
-        ++ (two (u .1 .0) ++ (two (u .1 .1 .0)
-        ++ (four (unsigned (u .1 .1 .1 .0)) ++ (two (length (u .1 .1 .1 .1)) ++ u .1 .1 .1 .1))))
-    wire u = chain (nameForm (u .0)) (two (u .1 .0)) (two (u .1 .1 .0)) (four (unsigned (u .1 .1 .1 .0)))
-        (two (length (u .1 .1 .1 .1))) (u .1 .1 .1 .1)
+        ++ (be16 (u .1 .0) ++ (be16 (u .1 .1 .0)
+        ++ (be32 (unsigned (u .1 .1 .1 .0)) ++ (be16 (length (u .1 .1 .1 .1)) ++ u .1 .1 .1 .1))))
+    wire u = chain (nameForm (u .0)) (be16 (u .1 .0)) (be16 (u .1 .1 .0)) (be32 (unsigned (u .1 .1 .1 .0)))
+        (be16 (length (u .1 .1 .1 .1))) (u .1 .1 .1 .1)
       where
         chain : (a b c d e f : List ℕ) → a ++ b ++ c ++ d ++ e ++ f ≡ a ++ (b ++ (c ++ (d ++ (e ++ f))))
         chain a b c d e f = simp append-assoc
@@ -313,8 +314,8 @@ record-read {rcode} {root} {t} {b} {b₁} {b₂} {b₃} {b₄} {c} {d} {f} {g} {
         (ap (λ x. eqb (u .1 .0) 41 && x) (shows-edns rcode (itemRecord (recordFrom u))))
 
     told : (u : Fields) → (Put name? nameForm c b d b₁ (u .0) × (none? (u .0) ≡ eqb (d .at) (c .at + 2)))
-        × ((Put word? two f b₁ (k .cursor) b₂ (u .1 .0) × (k .value ≡ capped (u .1 .0)))
-        × ((Put word? two g b₂ (l .cursor) b₃ (u .1 .1 .0) × (l .value ≡ capped (u .1 .1 .0)))
+        × ((Put u16? be16 f b₁ (k .cursor) b₂ (u .1 .0) × (k .value ≡ capped (u .1 .0)))
+        × ((Put u16? be16 g b₂ (l .cursor) b₃ (u .1 .1 .0) × (l .value ≡ capped (u .1 .1 .0)))
         × Tail (k .value) root rcode h b₃ r b₄ (u .1 .1 .1)))
         → RecordFacts rcode c b r b₄ (recordFrom u)
     told u v = record {
@@ -326,11 +327,11 @@ record-read {rcode} {root} {t} {b} {b₁} {b₂} {b₃} {b₄} {c} {d} {f} {g} {
     }
       where
         all : Put {A = Fields} (λ u. name? (u .0)
-            && (word? (u .1 .0) && (word? (u .1 .1 .0)
+            && (u16? (u .1 .0) && (u16? (u .1 .1 .0)
             && (ttl? (u .1 .1 .1 .0) && rdataFits? (u .1 .0) (u .1 .1 .1 .1)))))
             (λ u. nameForm (u .0)
-            ++ (two (u .1 .0) ++ (two (u .1 .1 .0)
-            ++ (four (unsigned (u .1 .1 .1 .0)) ++ (two (length (u .1 .1 .1 .1)) ++ u .1 .1 .1 .1))))) c b
+            ++ (be16 (u .1 .0) ++ (be16 (u .1 .1 .0)
+            ++ (be32 (unsigned (u .1 .1 .1 .0)) ++ (be16 (length (u .1 .1 .1 .1)) ++ u .1 .1 .1 .1))))) c b
             (r .cursor) b₄ u
         all = put-as refl refl
             (put-then (v .0 .0) (put-then (put-to (put-from (p .keeps) (v .1 .0 .0)) (q .keeps))

@@ -10,8 +10,8 @@ use native.Mathlib.Omega.{arith}
 use borrow.Author.Tests.{eq-eqb, ne-eqb, lt-leb}
 use lib.Dec.{leb, ltb, eqb}
 use lib.ListN.{length, take, drop, replicate, length-take, length-replicate, replicate-append-replicate}
-use Rattle.octets.specs.Lists.{ascii, all, each, none?, octet?, word?, long?, paired, Octets}
-use Rattle.octets.specs.Fields.{two, four}
+use Rattle.octets.specs.Lists.{ascii, all, each, none?, u8?, u16?, u32?, paired, Octets}
+use Rattle.octets.specs.Fields.{be16, be32}
 use Rattle.octets.specs.Hexadecimal.{hexText, hex}
 use Rattle.octets.specs.Decimal.{decimal, natural, number, number-avoids}
 use Rattle.octets.specs.Parsed.{Parsed, took, stuck, and-then, strip}
@@ -86,17 +86,17 @@ run-size x = omega (arith, x .long)
 
 -- ---- numbers, of two octets each or of one
 abbrev pub numeral? : Bool → ℕ → Bool
-numeral? wide n = cond wide (word? n) (octet? n)
+numeral? wide n = cond wide (u16? n) (u8? n)
 
 abbrev pub numeralForm : Bool → ℕ → List ℕ
-numeralForm wide n = cond wide (two n) (n ∷ [])
+numeralForm wide n = cond wide (be16 n) (n ∷ [])
 
 module _ {wide : Bool} {t : List ℕ} {c r : Cursor} {n : Amount} {b b′ : List ℕ} (x : NumberRead t c n) where
-  pub numeral-wide : wide ≡ true → Done (λ k. n .value ≡ capped k) word? two (n .cursor) b r b′
+  pub numeral-wide : wide ≡ true → Done (λ k. n .value ≡ capped k) u16? be16 (n .cursor) b r b′
       → Step (numeral? wide) (numeralForm wide) natural t c b r b′
   numeral-wide e d = rw e (found-done (x .found) (x .keeps) d)
 
-  pub numeral-narrow : wide ≡ false → Done (λ k. n .value ≡ capped k) octet? (λ k. k ∷ []) (n .cursor) b r b′
+  pub numeral-narrow : wide ≡ false → Done (λ k. n .value ≡ capped k) u8? (λ k. k ∷ []) (n .cursor) b r b′
       → Step (numeral? wide) (numeralForm wide) natural t c b r b′
   numeral-narrow e d = rw e (found-done (x .found) (x .keeps) d)
 
@@ -158,17 +158,17 @@ abbrev pub ValueStep : Form → List ℕ → Cursor → List ℕ → Cursor → 
 ValueStep form t c b r b′ = Step (value? form) (octetsOf form) (value form .parse) t c b r b′
 
 module _ {t : List ℕ} {c r s : Cursor} {b b′ : List ℕ} where
-  pub octet-list : Passed (ascii "[") t c r → Step (all octet?) (each (λ (n : ℕ). n ∷ [])) numeralsParse t r b s b′
+  pub octet-list : Passed (ascii "[") t c r → Step (all u8?) (each (λ (n : ℕ). n ∷ [])) numeralsParse t r b s b′
       → ValueStep octetList t c b s b′
   unfolding value value? octetsOf
   octet-list q y = step-lit q (found-as y λ l h. put-as refl (sym (octets-each l)) h)
 
-  pub word-list : Passed (ascii "[") t c r → Step (all word?) (each two) numeralsParse t r b s b′
+  pub word-list : Passed (ascii "[") t c r → Step (all u16?) (each be16) numeralsParse t r b s b′
       → ValueStep wordList t c b s b′
   unfolding value value? octetsOf
   word-list q y = step-lit q y
 
-pub word-value : {t : List ℕ} {c r : Cursor} {b b′ : List ℕ} → Step word? two natural t c b r b′
+pub word-value : {t : List ℕ} {c r : Cursor} {b b′ : List ℕ} → Step u16? be16 natural t c b r b′
     → ValueStep word t c b r b′
 unfolding value value? octetsOf
 word-value y = y
@@ -180,7 +180,7 @@ module _ {t : List ℕ} {c r : Cursor} {b : List ℕ} (q : Passed (ascii "\"NONE
   expiry-none g = maybe-none natural q g (put-nothing b (q .keeps) refl refl)
 
   pub expiry-some : {n : Amount} {s z : Cursor} {b′ : List ℕ} → r .spelled ≡ false → NumberRead t c n
-      → Done (λ k. n .value ≡ capped k) long? four (n .cursor) b s b′ → Further (r .at) s z
+      → Done (λ k. n .value ≡ capped k) u32? be32 (n .cursor) b s b′ → Further (r .at) s z
       → ValueStep expiry t c b z b′
   unfolding value value? octetsOf expiryNumber
   expiry-some {b′ = b′} g x d f =
@@ -230,7 +230,7 @@ module _ {t : List ℕ} {c r : Cursor} {b : List ℕ} (q : Passed (ascii "}") t 
   error-some {b′ = b′} g y f = maybe-some errorLast q (λ z. Put text? optional c b z b′) g y f λ l h. put-as refl refl h
 
 pub extended-error : {t : List ℕ} {c r s z : Cursor} {b b₁ b₂ : List ℕ} {n : Amount} → Passed (ascii "{\"CODE\":") t c r
-    → NumberRead t r n → Done (λ k. n .value ≡ capped k) word? two (n .cursor) b s b₁
+    → NumberRead t r n → Done (λ k. n .value ≡ capped k) u16? be16 (n .cursor) b s b₁
     → Step text? optional errorEnd t s b₁ z b₂ → ValueStep extendedError t c b z b₂
 unfolding value value? octetsOf
 extended-error q x d y = step-lit q (step-pair (found-done (x .found) (x .keeps) d) y)

@@ -7,7 +7,7 @@ use native.Mathlib.Omega.{arith}
 use borrow.Author.Tests.{eq-eqb, ne-eqb, eqb-false}
 use lib.Dec.{T, eqb, ltb→lt, eqb→eq}
 use lib.ListN.{length, drop}
-use Rattle.octets.specs.Lists.{ascii, all, count, each, word?}
+use Rattle.octets.specs.Lists.{ascii, all, count, each, u16?}
 use Rattle.octets.specs.Bits.{and-left, and-right}
 use Rattle.octets.specs.Parsed.{Parsed, took, and-then, strip}
 use Rattle.records.specs.Message.{Question, header?, question?, questionForm}
@@ -63,7 +63,7 @@ abbrev pub settledSection : Section → Bool
 settledSection s = settledBy (eqb (s .opts) 1) (s .shown) (s .hidden)
 
 -- a number of 16 bits is a length exactly if what was kept of both is equal
-count-same : (n m : ℕ) → T (word? n) → eqb (capped n) (atMost65536 m) ≡ eqb n m
+count-same : (n m : ℕ) → T (u16? n) → eqb (capped n) (atMost65536 m) ≡ eqb n m
 count-same n m h = go (eqb n m) refl
   where
     go : (b : Bool) → eqb n m ≡ b → eqb (capped n) (atMost65536 m) ≡ b
@@ -174,17 +174,17 @@ module _ {t b b₁ b₂ b₃ b₄ b₅ : List ℕ} {h : Header} {q a n r : Secti
                   by-rest c false d = rw d
                   by-rest c true d = rw d (ap₂ _&&_ counts settled ∙ sym g)
                     where
-                      words : T (word? (u .0 .1 .0)
-                          && (word? (u .0 .1 .1 .0) && (word? (u .0 .1 .1 .1 .0) && word? (u .0 .1 .1 .1 .1))))
+                      words : T (u16? (u .0 .1 .0)
+                          && (u16? (u .0 .1 .1 .0) && (u16? (u .0 .1 .1 .1 .0) && u16? (u .0 .1 .1 .1 .1))))
                       words = and-right (header? (u .0 .0)) _
                           (subst T (sym (sym (head-numbers (u .0 .0) (u .0 .1 .0) (u .0 .1 .1 .0) (u .0 .1 .1 .1 .0)
                           (u .0 .1 .1 .1 .1)) ∙ e)) tt)
 
-                      w2 : T (word? (u .0 .1 .1 .0) && (word? (u .0 .1 .1 .1 .0) && word? (u .0 .1 .1 .1 .1)))
-                      w2 = and-right (word? (u .0 .1 .0)) _ words
+                      w2 : T (u16? (u .0 .1 .1 .0) && (u16? (u .0 .1 .1 .1 .0) && u16? (u .0 .1 .1 .1 .1)))
+                      w2 = and-right (u16? (u .0 .1 .0)) _ words
 
-                      w3 : T (word? (u .0 .1 .1 .1 .0) && word? (u .0 .1 .1 .1 .1))
-                      w3 = and-right (word? (u .0 .1 .1 .0)) _ w2
+                      w3 : T (u16? (u .0 .1 .1 .1 .0) && u16? (u .0 .1 .1 .1 .1))
+                      w3 = and-right (u16? (u .0 .1 .1 .0)) _ w2
 
                       counts : counts? (documentFrom u) ≡ agreement (h .counts) (q .count) (a .count) (n .count)
                           (r .count)
@@ -198,12 +198,12 @@ module _ {t b b₁ b₂ b₃ b₄ b₅ : List ℕ} {h : Header} {q a n r : Secti
                             k .1 .1 .0 .counted,
                             k .1 .1 .1 .0 .counted,
                             k .1 .1 .1 .1 .counted,
-                            count-same (u .0 .1 .0) (length (u .1 .0)) (and-left (word? (u .0 .1 .0)) _ words),
-                            count-same (u .0 .1 .1 .0) (length (u .1 .1 .0)) (and-left (word? (u .0 .1 .1 .0)) _ w2),
+                            count-same (u .0 .1 .0) (length (u .1 .0)) (and-left (u16? (u .0 .1 .0)) _ words),
+                            count-same (u .0 .1 .1 .0) (length (u .1 .1 .0)) (and-left (u16? (u .0 .1 .1 .0)) _ w2),
                             count-same (u .0 .1 .1 .1 .0) (length (u .1 .1 .1 .0))
-                                (and-left (word? (u .0 .1 .1 .1 .0)) _ w3),
+                                (and-left (u16? (u .0 .1 .1 .1 .0)) _ w3),
                             count-same (u .0 .1 .1 .1 .1) (length (u .1 .1 .1 .1))
-                                (and-right (word? (u .0 .1 .1 .1 .0)) _ w3),
+                                (and-right (u16? (u .0 .1 .1 .1 .0)) _ w3),
                           )
                           (nested (eqb (u .0 .1 .0) (length (u .1 .0))) (eqb (u .0 .1 .1 .0) (length (u .1 .1 .0)))
                           (eqb (u .0 .1 .1 .1 .0) (length (u .1 .1 .1 .0)))

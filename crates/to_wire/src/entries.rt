@@ -20,18 +20,18 @@ use parse_rdata::fits_layout;
 use parse_tokens::Amount;
 use parse_tokens::Cursor;
 use parse_tokens::Span;
-use parse_tokens::came;
+use parse_tokens::advance;
 use parse_tokens::comma;
+use parse_tokens::demand;
 use parse_tokens::either;
 use parse_tokens::emit;
-use parse_tokens::further;
+use parse_tokens::furthest_failure;
 use parse_tokens::hex;
-use parse_tokens::judge;
 use parse_tokens::literal;
 use parse_tokens::number;
 use parse_tokens::octet_at;
 use parse_tokens::put_ttl;
-use parse_tokens::put_word;
+use parse_tokens::put_u16;
 use parse_tokens::signed;
 
 // What was read of an entry: whether it is of TYPE 41, whether it is an EDNS element, whether it is an ordinary record
@@ -50,7 +50,7 @@ fn word(text: &[u8], c: Cursor, out: &mut [u8]) -> Amount
 {
     let n = number(text, c);
     Amount {
-        cursor: put_word(n.cursor, n.value, out),
+        cursor: put_u16(n.cursor, n.value, out),
         value: n.value,
     }
 }
@@ -89,7 +89,7 @@ fn rdata(text: &[u8], c: Cursor, kind: u64, out: &mut [u8]) -> Span
     let from = span.from;
     let end = span.end;
     let size = size_of(span);
-    let d = judge(span.cursor, fits_layout(kind_of(kind), &text[from..end]));
+    let d = demand(span.cursor, fits_layout(kind_of(kind), &text[from..end]));
     let e = emit(d, &[(size / 256 % 256) as u8, (size % 256) as u8], out);
     Span {
         cursor: put_hex(text, span, e, out),
@@ -154,7 +154,7 @@ fn item(text: &[u8], c: Cursor, rcode: u32, out: &mut [u8]) -> Entry
     if element.spelled {
         let end = edns(text, element, rcode, out);
         return Entry {
-            cursor: further(end, ordinary.at),
+            cursor: furthest_failure(end, ordinary.at),
             opt: true,
             shown: true,
             hidden: false,
@@ -162,7 +162,7 @@ fn item(text: &[u8], c: Cursor, rcode: u32, out: &mut [u8]) -> Entry
     }
     let entry = record(text, ordinary, rcode, out);
     Entry {
-        cursor: further(entry.cursor, element.at),
+        cursor: furthest_failure(entry.cursor, element.at),
         opt: entry.opt,
         shown: entry.shown,
         hidden: entry.hidden,
@@ -187,7 +187,7 @@ pub struct Section {
 }
 
 // A question as an entry.
-fn asked(text: &[u8], c: Cursor, out: &mut [u8]) -> Entry
+fn question_entry(text: &[u8], c: Cursor, out: &mut [u8]) -> Entry
     requires { ⌜ Safe (now text) c ⌝ }
     ensures { λ r. ⌜ AskedRead (now (text .entry)) c (now (out .entry)) r (now (out .exit)) ⌝ }
 {
@@ -200,7 +200,7 @@ fn asked(text: &[u8], c: Cursor, out: &mut [u8]) -> Entry
 }
 
 // A record with its first title.
-fn titled(text: &[u8], c: Cursor, rcode: u32, out: &mut [u8]) -> Entry
+fn record_element(text: &[u8], c: Cursor, rcode: u32, out: &mut [u8]) -> Entry
     requires { ⌜ Safe (now text) c × (rcode < 16) ⌝ }
     ensures { λ r. ⌜ TitledRead rcode (now (text .entry)) c (now (out .entry)) r (now (out .exit)) ⌝ }
 {
@@ -214,14 +214,14 @@ fn one(text: &[u8], c: Cursor, element: Element, rcode: u32, out: &mut [u8]) -> 
     ensures { λ r. ⌜ OneRead element rcode (now (text .entry)) c (now (out .entry)) r (now (out .exit)) ⌝ }
 {
     match element {
-        Element::Question => asked(text, c, out),
-        Element::Record => titled(text, c, rcode, out),
+        Element::Question => question_entry(text, c, out),
+        Element::Record => record_element(text, c, rcode, out),
         Element::Additional => item(text, c, rcode, out),
     }
 }
 
 // One more, or not.
-fn tally(n: u64, more: bool) -> u64
+fn count_up(n: u64, more: bool) -> u64
     requires { ⌜ n ≤ 65536 ⌝ }
     ensures { λ r. ⌜ r ≡ atMost65536 (n + bit more) ⌝ }
 {
@@ -243,7 +243,7 @@ fn next(text: &[u8], c: Cursor, first: bool, element: Element, rcode: u32, out: 
 }
 
 // The entries of an array, and the bracket after them.
-fn inside(text: &[u8], c: Cursor, element: Element, rcode: u32, out: &mut [u8]) -> Section
+fn elements(text: &[u8], c: Cursor, element: Element, rcode: u32, out: &mut [u8]) -> Section
     requires { ⌜ Safe (now text) c × (rcode < 16) ⌝ }
     ensures { λ r. ⌜ InsideRead element rcode (now (text .entry)) c (now (out .entry)) r (now (out .exit)) ⌝ }
 {
@@ -266,7 +266,7 @@ fn inside(text: &[u8], c: Cursor, element: Element, rcode: u32, out: &mut [u8]) 
         let at = d.at;
         if octet_at(text, at) == b']' {
             return Section {
-                cursor: came(d, at + 1),
+                cursor: advance(d, at + 1),
                 count: count,
                 opts: opts,
                 shown: shown,
@@ -275,8 +275,8 @@ fn inside(text: &[u8], c: Cursor, element: Element, rcode: u32, out: &mut [u8]) 
         }
         let entry = next(text, d, first, element, rcode, out);
         d = entry.cursor;
-        count = tally(count, true);
-        opts = tally(opts, entry.opt);
+        count = count_up(count, true);
+        opts = count_up(opts, entry.opt);
         shown = either(shown, entry.shown);
         hidden = either(hidden, entry.hidden);
         if !d.spelled {
@@ -298,5 +298,5 @@ pub fn read_section(text: &[u8], c: Cursor, element: Element, rcode: u32, out: &
     ensures { λ r. ⌜ SectionRead element rcode (now (text .entry)) c (now (out .entry)) r (now (out .exit)) ⌝ }
 {
     let open = literal(text, c, b"[");
-    inside(text, open, element, rcode, out)
+    elements(text, open, element, rcode, out)
 }

@@ -5,12 +5,12 @@ ghost use Rattle.to_wire.specs.Head.{HighBits, LowBits, HighRead, LowRea
 ghost use Rattle.to_wire.specs.Head.{HeadRead};
 use parse_tokens::Cursor;
 use parse_tokens::both;
+use parse_tokens::demand;
 use parse_tokens::emit;
-use parse_tokens::judge;
 use parse_tokens::literal;
 use parse_tokens::number;
-use parse_tokens::put_word;
-use parse_tokens::till;
+use parse_tokens::number_then;
+use parse_tokens::put_u16;
 
 // The flags of an octet of the header: the octet, and whether each is in range.
 pub struct Flags {
@@ -64,11 +64,11 @@ fn high_flags(text: &[u8], c: Cursor) -> Flags
     requires { ⌜ Safe (now text) c ⌝ }
     ensures { λ r. ⌜ HighRead (now (text .entry)) c r ⌝ }
 {
-    let qr = till(text, c, b",\"Opcode\":");
-    let opcode = till(text, qr.cursor, b",\"AA\":");
-    let aa = till(text, opcode.cursor, b",\"TC\":");
-    let tc = till(text, aa.cursor, b",\"RD\":");
-    let rd = till(text, tc.cursor, b",\"RA\":");
+    let qr = number_then(text, c, b",\"Opcode\":");
+    let opcode = number_then(text, qr.cursor, b",\"AA\":");
+    let aa = number_then(text, opcode.cursor, b",\"TC\":");
+    let tc = number_then(text, aa.cursor, b",\"RD\":");
+    let rd = number_then(text, tc.cursor, b",\"RA\":");
     high_bits(
         rd.cursor,
         qr.value,
@@ -84,10 +84,10 @@ fn low_flags(text: &[u8], c: Cursor) -> Flags
     requires { ⌜ Safe (now text) c ⌝ }
     ensures { λ r. ⌜ LowRead (now (text .entry)) c r ⌝ }
 {
-    let ra = till(text, c, b",\"AD\":");
-    let ad = till(text, ra.cursor, b",\"CD\":");
-    let cd = till(text, ad.cursor, b",\"RCODE\":");
-    let rcode = till(text, cd.cursor, b",\"QDCOUNT\":");
+    let ra = number_then(text, c, b",\"AD\":");
+    let ad = number_then(text, ra.cursor, b",\"CD\":");
+    let cd = number_then(text, ad.cursor, b",\"RCODE\":");
+    let rcode = number_then(text, cd.cursor, b",\"QDCOUNT\":");
     low_bits(rcode.cursor, ra.value, ad.value, cd.value, rcode.value)
 }
 
@@ -96,9 +96,9 @@ fn read_counts(text: &[u8], c: Cursor) -> Counts
     requires { ⌜ Safe (now text) c ⌝ }
     ensures { λ r. ⌜ CountsRead (now (text .entry)) c r ⌝ }
 {
-    let questions = till(text, c, b",\"ANCOUNT\":");
-    let answers = till(text, questions.cursor, b",\"NSCOUNT\":");
-    let authority = till(text, answers.cursor, b",\"ARCOUNT\":");
+    let questions = number_then(text, c, b",\"ANCOUNT\":");
+    let answers = number_then(text, questions.cursor, b",\"NSCOUNT\":");
+    let authority = number_then(text, answers.cursor, b",\"ARCOUNT\":");
     let additional = number(text, authority.cursor);
     let end = additional.cursor;
     Counts {
@@ -115,7 +115,7 @@ fn put_flags(c: Cursor, high: Flags, low: Flags, out: &mut [u8]) -> Cursor
     requires { ⌜ c .to ≤ 65535 ⌝ }
     ensures { λ r. ⌜ PutFlags high low c (now (out .entry)) r (now (out .exit)) ⌝ }
 {
-    let d = judge(c, both(high.fits, low.fits));
+    let d = demand(c, both(high.fits, low.fits));
     emit(d, &[high.octet, low.octet], out)
 }
 
@@ -124,10 +124,10 @@ fn put_counts(c: Cursor, counts: Counts, out: &mut [u8]) -> Cursor
     requires { ⌜ c .to ≤ 65535 ⌝ }
     ensures { λ r. ⌜ PutCounts counts c (now (out .entry)) r (now (out .exit)) ⌝ }
 {
-    let q = put_word(c, counts.questions, out);
-    let a = put_word(q, counts.answers, out);
-    let n = put_word(a, counts.authority, out);
-    put_word(n, counts.additional, out)
+    let q = put_u16(c, counts.questions, out);
+    let a = put_u16(q, counts.answers, out);
+    let n = put_u16(a, counts.authority, out);
+    put_u16(n, counts.additional, out)
 }
 
 // Reads the head and writes the header.
@@ -137,11 +137,11 @@ pub fn head(text: &[u8], c: Cursor, out: &mut [u8]) -> Header
     ensures { λ r. ⌜ r .rcode < 16 ⌝ }
 {
     let start = literal(text, c, b"{\"ID\":");
-    let id = till(text, start, b",\"QR\":");
+    let id = number_then(text, start, b",\"QR\":");
     let high = high_flags(text, id.cursor);
     let low = low_flags(text, high.cursor);
     let counts = read_counts(text, low.cursor);
-    let a = put_word(counts.cursor, id.value, out);
+    let a = put_u16(counts.cursor, id.value, out);
     let b = put_flags(a, high, low, out);
     let d = put_counts(b, counts, out);
     Header {

@@ -12,13 +12,13 @@ use octets::put;
 use parse_octets::char_at;
 use parse_octets::octet;
 use parse_tokens::Cursor;
-use parse_tokens::came;
+use parse_tokens::advance;
+use parse_tokens::demand;
 use parse_tokens::emit;
-use parse_tokens::hold;
-use parse_tokens::judge;
+use parse_tokens::fail_at;
 use parse_tokens::literal;
 use parse_tokens::octet_at;
-use parse_tokens::stop;
+use parse_tokens::reserve;
 
 // What was read, the place after it, and its size; or the place at which nothing goes on.
 struct Part {
@@ -85,7 +85,7 @@ fn label_at(text: &[u8], start: usize, out: &mut [u8], to: usize) -> Part
 }
 
 // The size of labels with one of `label` octets more; 255 if no name has them.
-fn grow(size: usize, label: usize) -> usize
+fn name_length(size: usize, label: usize) -> usize
     requires { ⌜ size ≤ 255 ⌝ }
     ensures { λ r. ⌜ Grown size label r ⌝ }
 {
@@ -133,7 +133,7 @@ fn labels_at(text: &[u8], start: usize, out: &mut [u8], to: usize) -> Part
                 size: 0,
             };
         }
-        size = grow(size, l.size);
+        size = name_length(size, l.size);
         at = l.at;
     }
 }
@@ -166,11 +166,11 @@ pub fn name(text: &[u8], c: Cursor, out: &mut [u8]) -> Cursor
     let to = c.to;
     let n = labels_at(text, start, out, to);
     if !n.found {
-        return stop(c, n.at);
+        return fail_at(c, n.at);
     }
     let size = n.size;
-    let r = hold(came(c, n.at), size);
-    judge(r, size <= 255)
+    let r = reserve(advance(c, n.at), size);
+    demand(r, size <= 255)
 }
 
 // Goes on to `at`, and writes the octet.
@@ -178,7 +178,7 @@ fn add(c: Cursor, at: usize, v: u8, out: &mut [u8]) -> Cursor
     requires { ⌜ c .to ≤ 65535 ⌝ }
     ensures { λ r. ⌜ Added c at v (now (out .entry)) r (now (out .exit)) ⌝ }
 {
-    emit(came(c, at), &[v], out)
+    emit(advance(c, at), &[v], out)
 }
 
 // A string and the quote after it. Its octets are written as they are read.
@@ -194,11 +194,11 @@ pub fn string(text: &[u8], c: Cursor, out: &mut [u8]) -> Cursor
         let at = d.at;
         let y = octet_at(text, at);
         if y == b'"' {
-            return came(d, at + 1);
+            return advance(d, at + 1);
         }
         let o = char_at(text, at);
         if !o.found {
-            return stop(d, o.at);
+            return fail_at(d, o.at);
         }
         d = add(d, o.at, o.value, out);
     }

@@ -16,8 +16,8 @@ use head::head;
 use octets::Outcome;
 use parse_tokens::Cursor;
 use parse_tokens::both;
+use parse_tokens::demand;
 use parse_tokens::either;
-use parse_tokens::judge;
 use parse_tokens::literal;
 
 mod entries;
@@ -115,7 +115,7 @@ fn document(text: &[u8], out: &mut [u8]) -> Cursor
     );
     let end = literal(text, r.cursor, b"}");
     let counted = agree(h.counts, q.count, a.count, n.count, r.count);
-    judge(end, both(counted, settled(r)))
+    demand(end, both(counted, settled(r)))
 }
 
 // Writes the message that a text says. A first run over no octets finds every refusal.

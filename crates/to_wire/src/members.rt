@@ -22,31 +22,31 @@ ghost use Rattle.to_wire.specs.Options.{OtherRead, MemberRead, RisingRea
 ghost use Rattle.to_wire.specs.Element.{RcodeRead, ednsFits?, OptFronted, EdnsStep};
 use crate::labels::string;
 use octets::put;
-use octets::put_four;
-use octets::put_two;
+use octets::put_be16;
+use octets::put_be32;
 use options::all_zero;
 use options::has_shape;
 use parse_rdata::put_octets;
 use parse_tokens::Cursor;
 use parse_tokens::Row;
 use parse_tokens::Span;
-use parse_tokens::came;
+use parse_tokens::advance;
 use parse_tokens::comma;
+use parse_tokens::demand;
+use parse_tokens::fail_at;
 use parse_tokens::flags;
-use parse_tokens::further;
+use parse_tokens::furthest_failure;
 use parse_tokens::hex;
-use parse_tokens::hold;
-use parse_tokens::judge;
 use parse_tokens::literal;
 use parse_tokens::number;
+use parse_tokens::number_then;
 use parse_tokens::octet_at;
 use parse_tokens::option_name;
-use parse_tokens::put_long;
-use parse_tokens::put_octet;
-use parse_tokens::put_word;
+use parse_tokens::put_u8;
+use parse_tokens::put_u16;
+use parse_tokens::put_u32;
 use parse_tokens::rcode;
-use parse_tokens::stop;
-use parse_tokens::till;
+use parse_tokens::reserve;
 
 // ---- octets in hexadecimal
 // How many octets the digits between two places are.
@@ -66,7 +66,7 @@ pub fn put_hex(text: &[u8], h: Span, c: Cursor, out: &mut [u8]) -> Cursor
     requires { ⌜ HexSpan (now text) h × (c .to ≤ 65535) ⌝ }
     ensures { λ r. ⌜ Done (HexRun (now (text .entry)) h) (λ l. true) (λ l. l) c (now (out .entry)) r (now (out .exit)) ⌝ }
 {
-    let r = hold(c, size_of(h));
+    let r = reserve(c, size_of(h));
     if !r.small {
         return r;
     }
@@ -88,9 +88,9 @@ fn numeral(text: &[u8], c: Cursor, wide: bool, out: &mut [u8]) -> Cursor
     let d = n.cursor;
     let value = n.value;
     if wide {
-        return put_word(d, value, out);
+        return put_u16(d, value, out);
     }
-    put_octet(d, value, out)
+    put_u8(d, value, out)
 }
 
 // Numbers with commas between, and the bracket after them.
@@ -107,7 +107,7 @@ fn numerals(text: &[u8], c: Cursor, wide: bool, out: &mut [u8]) -> Cursor
     loop {
         let at = d.at;
         if octet_at(text, at) == b']' {
-            return came(d, at + 1);
+            return advance(d, at + 1);
         }
         let next = comma(text, d, first);
         d = numeral(text, next, wide, out);
@@ -157,7 +157,7 @@ fn expiry(text: &[u8], c: Cursor, out: &mut [u8]) -> Cursor
         return none;
     }
     let n = number(text, c);
-    further(put_long(n.cursor, n.value, out), none.at)
+    furthest_failure(put_u32(n.cursor, n.value, out), none.at)
 }
 
 // ---- COOKIE
@@ -194,7 +194,7 @@ fn cookie_string(text: &[u8], c: Cursor, i: usize, out: &mut [u8]) -> Cursor
     let open = literal(text, c, b"\"");
     let h = hex(text, open);
     let d = put_hex(text, h, h.cursor, out);
-    judge(d, cookie_part(i, size_of(h)))
+    demand(d, cookie_part(i, size_of(h)))
 }
 
 // Strings with commas between, and the bracket after them.
@@ -212,7 +212,7 @@ fn cookie_strings(text: &[u8], c: Cursor, out: &mut [u8]) -> Cursor
     loop {
         let at = d.at;
         if octet_at(text, at) == b']' {
-            return judge(came(d, at + 1), i > 0);
+            return demand(advance(d, at + 1), i > 0);
         }
         let next = comma(text, d, first);
         d = cookie_string(text, next, i, out);
@@ -252,7 +252,7 @@ fn zeros(c: Cursor, n: u64, out: &mut [u8]) -> Cursor
     requires { ⌜ c .to ≤ 65535 ⌝ }
     ensures { λ r. ⌜ Zeros n c (now (out .entry)) r (now (out .exit)) ⌝ }
 {
-    let r = hold(c, n as usize);
+    let r = reserve(c, n as usize);
     if !r.small {
         return r;
     }
@@ -281,7 +281,7 @@ fn padding_hex(text: &[u8], c: Cursor, n: u64, out: &mut [u8]) -> Cursor
     let open = literal(text, c, b",\"HEX\":\"");
     let h = hex(text, open);
     let d = put_hex(text, h, h.cursor, out);
-    literal(text, judge(d, padding_fits(text, h, n)), b"}")
+    literal(text, demand(d, padding_fits(text, h, n)), b"}")
 }
 
 // The end of the object: n zero octets where there is no HEX.
@@ -293,7 +293,7 @@ fn padding_end(text: &[u8], c: Cursor, n: u64, out: &mut [u8]) -> Cursor
     if none.spelled {
         return zeros(none, n, out);
     }
-    further(padding_hex(text, c, n, out), none.at)
+    furthest_failure(padding_hex(text, c, n, out), none.at)
 }
 
 fn padding(text: &[u8], c: Cursor, out: &mut [u8]) -> Cursor
@@ -314,7 +314,7 @@ fn error_text(text: &[u8], c: Cursor, out: &mut [u8]) -> Cursor
     let open = literal(text, c, b",\"TEXT\":\"");
     let d = string(text, open, out);
     let empty = d.at == open.at + 1;
-    literal(text, judge(d, !empty), b"}")
+    literal(text, demand(d, !empty), b"}")
 }
 
 fn error_end(text: &[u8], c: Cursor, out: &mut [u8]) -> Cursor
@@ -325,7 +325,7 @@ fn error_end(text: &[u8], c: Cursor, out: &mut [u8]) -> Cursor
     if none.spelled {
         return none;
     }
-    further(error_text(text, c, out), none.at)
+    furthest_failure(error_text(text, c, out), none.at)
 }
 
 fn extended_error(text: &[u8], c: Cursor, out: &mut [u8]) -> Cursor
@@ -334,7 +334,7 @@ fn extended_error(text: &[u8], c: Cursor, out: &mut [u8]) -> Cursor
 {
     let open = literal(text, c, b"{\"CODE\":");
     let n = number(text, open);
-    let d = put_word(n.cursor, n.value, out);
+    let d = put_u16(n.cursor, n.value, out);
     error_end(text, d, out)
 }
 
@@ -354,7 +354,7 @@ fn value(text: &[u8], c: Cursor, code: u32, out: &mut [u8]) -> Cursor
         12 => padding(text, c, out),
         14 => word_list(text, c, out),
         15 => extended_error(text, c, out),
-        _ => stop(c, c.at),
+        _ => fail_at(c, c.at),
     }
 }
 
@@ -380,7 +380,7 @@ fn member_name(text: &[u8], c: Cursor) -> Row
 }
 
 // Writes an option's code and the length of its value before the value, which ends at `to`.
-fn put_front(out: &mut [u8], start: usize, to: usize, code: u32) -> usize
+fn put_option_head(out: &mut [u8], start: usize, to: usize, code: u32) -> usize
     requires { ⌜ (start ≤ 65535) × (to ≤ 65535) ⌝ }
     ensures { λ r. ⌜ Fronted code start to (now (out .entry)) (now (out .exit)) r ⌝ }
 {
@@ -388,18 +388,18 @@ fn put_front(out: &mut [u8], start: usize, to: usize, code: u32) -> usize
         return start;
     }
     let size = to - (start + 4);
-    let next = put_two(out, start, code % 65536);
-    put_two(out, next, size as u32)
+    let next = put_be16(out, start, code % 65536);
+    put_be16(out, next, size as u32)
 }
 
 // The value of a member of the table.
-fn known(text: &[u8], c: Cursor, code: u32, out: &mut [u8]) -> Cursor
+fn listed_option(text: &[u8], c: Cursor, code: u32, out: &mut [u8]) -> Cursor
     requires { ⌜ Safe (now text) c × (code < 65536) ⌝ }
     ensures { λ r. ⌜ KnownStep code (now (text .entry)) c (now (out .entry)) r (now (out .exit)) ⌝ }
 {
-    let held = hold(c, 4);
+    let held = reserve(c, 4);
     let v = value(text, held, code, out);
-    let _end = put_front(out, c.to, v.to, code);
+    let _end = put_option_head(out, c.to, v.to, code);
     v
 }
 
@@ -433,10 +433,10 @@ fn other_hex(text: &[u8], c: Cursor, n: u64, out: &mut [u8]) -> Cursor
 {
     let h = hex(text, c);
     let d = h.cursor;
-    let held = hold(d, 4);
+    let held = reserve(d, 4);
     let v = put_hex(text, h, held, out);
-    let r = judge(v, other_fits(text, h, n));
-    let _end = put_front(out, d.to, r.to, code_of(n));
+    let r = demand(v, other_fits(text, h, n));
+    let _end = put_option_head(out, d.to, r.to, code_of(n));
     r
 }
 
@@ -463,16 +463,16 @@ fn member(text: &[u8], c: Cursor, out: &mut [u8]) -> Coded
     let n = member_name(text, c);
     let d = n.cursor;
     if d.spelled {
-        let v = known(text, d, n.key, out);
+        let v = listed_option(text, d, n.key, out);
         let o = literal(text, c, b"\"OPT");
         return Coded {
-            cursor: further(v, o.at),
+            cursor: furthest_failure(v, o.at),
             code: n.key,
         };
     }
     let o = other(text, c, out);
     Coded {
-        cursor: further(o.cursor, d.at),
+        cursor: furthest_failure(o.cursor, d.at),
         code: o.code,
     }
 }
@@ -486,7 +486,7 @@ fn rising_member(text: &[u8], c: Cursor, least: u64, out: &mut [u8]) -> Coded
     let m = member(text, next, out);
     let code = m.code;
     Coded {
-        cursor: judge(m.cursor, code as u64 >= least),
+        cursor: demand(m.cursor, code as u64 >= least),
         code: code,
     }
 }
@@ -504,7 +504,7 @@ fn option_members(text: &[u8], c: Cursor, out: &mut [u8]) -> Cursor
     loop {
         let at = d.at;
         if octet_at(text, at) == b'}' {
-            return came(d, at + 1);
+            return advance(d, at + 1);
         }
         let m = rising_member(text, d, least, out);
         d = m.cursor;
@@ -553,7 +553,7 @@ fn edns_fits(version: u64, full: u32, rcode: u32, size: u64) -> bool
 }
 
 // Writes what comes before the options, which end at `to`: the root, TYPE 41, CLASS, TTL and RDLENGTH.
-fn put_opt(out: &mut [u8], start: usize, to: usize, size: u64, full: u32, flags: u32) -> usize
+fn put_edns_head(out: &mut [u8], start: usize, to: usize, size: u64, full: u32, flags: u32) -> usize
     requires { ⌜ (start ≤ 65535) × (to ≤ 65535) ⌝ }
     ensures { λ r. ⌜ OptFronted size full flags start to (now (out .entry)) (now (out .exit)) r ⌝ }
 {
@@ -564,10 +564,10 @@ fn put_opt(out: &mut [u8], start: usize, to: usize, size: u64, full: u32, flags:
     let class = (size % 65536) as u32;
     let ttl = full / 16 % 256 * 16777216 + flags % 2 * 32768;
     let mut next = put(out, start, 0);
-    next = put_two(out, next, 41);
-    next = put_two(out, next, class);
-    next = put_four(out, next, ttl);
-    put_two(out, next, length as u32)
+    next = put_be16(out, next, 41);
+    next = put_be16(out, next, class);
+    next = put_be32(out, next, ttl);
+    put_be16(out, next, length as u32)
 }
 
 // The element after the title of its first member, Version. `rcode` is the header's.
@@ -575,15 +575,15 @@ pub fn edns(text: &[u8], c: Cursor, rcode: u32, out: &mut [u8]) -> Cursor
     requires { ⌜ Safe (now text) c ⌝ }
     ensures { λ r. ⌜ EdnsStep rcode (now (text .entry)) c (now (out .entry)) r (now (out .exit)) ⌝ }
 {
-    let v = till(text, c, b",\"FLAGS\":");
+    let v = number_then(text, c, b",\"FLAGS\":");
     let f = flags(text, v.cursor);
     let x = full_rcode(text, f.cursor);
     let s = number(text, x.cursor);
     let d = s.cursor;
-    let held = hold(d, 11);
+    let held = reserve(d, 11);
     let o = options(text, held, out);
     let ok = edns_fits(v.value, x.key, rcode, s.value);
-    let r = judge(o, ok);
-    let _end = put_opt(out, d.to, r.to, s.value, x.key, f.key);
+    let r = demand(o, ok);
+    let _end = put_edns_head(out, d.to, r.to, s.value, x.key, f.key);
     r
 }

@@ -26,14 +26,14 @@ sub-left c = search needs
 returns : tie.Need-returns Inv-loop μ-loop
 returns c = search (rises-cut, needs)
 
-two-at-requires : tie.Need-two-at-requires Inv-loop μ-loop
-two-at-requires c κs = search needs
+be16-at-requires : tie.Need-be16-at-requires Inv-loop μ-loop
+be16-at-requires c κs = search needs
 
-add-two-at : tie.Need-add-two-at Inv-loop μ-loop
-add-two-at c = search needs
+add-be16-at : tie.Need-add-be16-at Inv-loop μ-loop
+add-be16-at c = search needs
 
-two-at-requires-2 : tie.Need-two-at-requires-2 Inv-loop μ-loop
-two-at-requires-2 c κs = search needs
+be16-at-requires-2 : tie.Need-be16-at-requires-2 Inv-loop μ-loop
+be16-at-requires-2 c κs = search needs
 
 cast-length : tie.Need-cast-length Inv-loop μ-loop
 cast-length c = search needs
@@ -72,9 +72,9 @@ options-rise-spec =
     loop-holds
     sub-left
     returns
-    two-at-requires
-    add-two-at
-    two-at-requires-2
+    be16-at-requires
+    add-be16-at
+    be16-at-requires-2
     cast-length
     add-length
     returns-2

@@ -19,8 +19,8 @@ part-put-all-end c = search needs
 put-all-requires : tie.Need-put-all-requires
 put-all-requires c κs = search needs
 
-two-at-requires : tie.Need-two-at-requires
-two-at-requires c κs = search needs
+be16-at-requires : tie.Need-be16-at-requires
+be16-at-requires c κs = search needs
 
 put-section-requires : tie.Need-put-section-requires
 put-section-requires c κs =
@@ -43,10 +43,10 @@ returns : tie.Need-returns
 returns c =
     let m = c .before .before .before .before in
     message-first _ (m .before .before .before .before .before .put-all .ensures)
-    (m .before .before .two-at .ensures .0) (m .put-section .ensures .0) (c .enum-told .given .1)
+    (m .before .before .be16-at .ensures .0) (m .put-section .ensures .0) (c .enum-told .given .1)
 
-two-at-requires-2 : tie.Need-two-at-requires-2
-two-at-requires-2 c κs =
+be16-at-requires-2 : tie.Need-be16-at-requires-2
+be16-at-requires-2 c κs =
     omega (
       arith,
       c .before .before .before .before .before .before .before .before .before .before .before .before
@@ -76,11 +76,11 @@ returns-2 c =
     let k = c .before .before .before .before .before .before in
     let m = k .before .before .before .before .before .before in
     message-second _ (m .before .before .before .before .before .put-all .ensures)
-    (m .before .before .two-at .ensures .0) (m .put-section .ensures .0) (k .before .before .questions .given .1)
-    (k .two-at2 .ensures .0) (c .before .before .before .before .put-section2 .ensures .0) (c .enum-told2 .given .1)
+    (m .before .before .be16-at .ensures .0) (m .put-section .ensures .0) (k .before .before .questions .given .1)
+    (k .be16-at2 .ensures .0) (c .before .before .before .before .put-section2 .ensures .0) (c .enum-told2 .given .1)
 
-two-at-requires-3 : tie.Need-two-at-requires-3
-two-at-requires-3 c κs =
+be16-at-requires-3 : tie.Need-be16-at-requires-3
+be16-at-requires-3 c κs =
     omega (
       arith,
       c .before .before .before .before .before .before .before .before .before .before .before .before
@@ -116,14 +116,14 @@ returns-3 c =
     let m = j .before .before .before .before .before .before in
     let k = m .before .before .before .before .before .before .before .before in
     message-third _ (k .before .before .before .before .before .put-all .ensures)
-    (k .before .before .two-at .ensures .0) (k .put-section .ensures .0)
-    (m .before .before .before .before .questions .given .1) (m .before .before .two-at2 .ensures .0)
+    (k .before .before .be16-at .ensures .0) (k .put-section .ensures .0)
+    (m .before .before .before .before .questions .given .1) (m .before .before .be16-at2 .ensures .0)
     (m .put-section2 .ensures .0)
-    (j .before .before .answers .given .1) (j .two-at3 .ensures .0)
+    (j .before .before .answers .given .1) (j .be16-at3 .ensures .0)
     (c .before .before .before .before .put-section3 .ensures .0) (c .enum-told3 .given .1)
 
-two-at-requires-4 : tie.Need-two-at-requires-4
-two-at-requires-4 c κs =
+be16-at-requires-4 : tie.Need-be16-at-requires-4
+be16-at-requires-4 c κs =
     omega (
       arith,
       c .before .before .before .before .before .before .before .before .before .before .before .before
@@ -159,12 +159,12 @@ returns-4 c =
     let m = j .before .before .before .before .before .before .before .before in
     let k = m .before .before .before .before .before .before .before .before in
     message-fourth _ (k .before .before .before .before .before .put-all .ensures)
-    (k .before .before .two-at .ensures .0) (k .put-section .ensures .0)
-    (m .before .before .before .before .questions .given .1) (m .before .before .two-at2 .ensures .0)
+    (k .before .before .be16-at .ensures .0) (k .put-section .ensures .0)
+    (m .before .before .before .before .questions .given .1) (m .before .before .be16-at2 .ensures .0)
     (m .put-section2 .ensures .0)
-    (j .before .before .before .before .answers .given .1) (j .before .before .two-at3 .ensures .0)
+    (j .before .before .before .before .answers .given .1) (j .before .before .be16-at3 .ensures .0)
     (j .put-section3 .ensures .0) (c .before .before .before .before .before .before .authority .given .1)
-    (c .before .before .before .before .two-at4 .ensures .0) (c .before .before .put-section4 .ensures .0)
+    (c .before .before .before .before .be16-at4 .ensures .0) (c .before .before .put-section4 .ensures .0)
 
 pub put-message-spec : {M : Type 1} → statement M
 put-message-spec =
@@ -174,25 +174,25 @@ put-message-spec =
     part-put-all-start
     part-put-all-end
     put-all-requires
-    two-at-requires
+    be16-at-requires
     put-section-requires
     enum-known-questions
     enum-told
     same-length
     returns
-    two-at-requires-2
+    be16-at-requires-2
     put-section-requires-2
     enum-known-answers
     enum-told-2
     same-length-2
     returns-2
-    two-at-requires-3
+    be16-at-requires-3
     put-section-requires-3
     enum-known-authority
     enum-told-3
     same-length-3
     returns-3
-    two-at-requires-4
+    be16-at-requires-4
     put-section-requires-4
     same-length-4
     returns-4)

@@ -23,14 +23,14 @@ count-requires c κs = search needs
 loop-holds : tie.Need-loop-holds Inv-loop μ-loop
 loop-holds c = (search needs, fits-start _ _ (search needs))
 
-piece-of-requires : tie.Need-piece-of-requires Inv-loop μ-loop
-piece-of-requires c κs = search needs
+layout-piece-requires : tie.Need-layout-piece-requires Inv-loop μ-loop
+layout-piece-requires c κs = search needs
 
 enum-told : tie.Need-enum-told Inv-loop μ-loop
 enum-told c = search needs
 
 returns : tie.Need-returns Inv-loop μ-loop
-returns c = fits-end (c .before .before .before .loop .inv .1) (c .before .before .piece-of .ensures)
+returns c = fits-end (c .before .before .before .loop .inv .1) (c .before .before .layout-piece .ensures)
     (c .enum-told .given .1)
 
 enum-known-n : tie.Need-enum-known-n Inv-loop μ-loop
@@ -42,7 +42,7 @@ sub-if1 c = search needs
 returns-2 : tie.Need-returns-2 Inv-loop μ-loop
 returns-2 c =
     let d = c .before .before .before .before in
-    fits-short (d .before .loop .inv .1) (d .piece-of .ensures) (c .before .before .n .given .1) (search needs)
+    fits-short (d .before .loop .inv .1) (d .layout-piece .ensures) (c .before .before .n .given .1) (search needs)
     (c .if1 .taken)
 
 add-at : tie.Need-add-at Inv-loop μ-loop
@@ -51,20 +51,20 @@ add-at c = search needs
 add-i : tie.Need-add-i Inv-loop μ-loop
 add-i c =
     let d = c .before .before .before .before in
-    let k = fits-some (d .before .loop .inv .1) (d .piece-of .ensures) (c .before .before .n .given .1) in
+    let k = fits-some (d .before .loop .inv .1) (d .layout-piece .ensures) (c .before .before .n .given .1) in
     search needs
 
 loop-less : tie.Need-loop-less Inv-loop μ-loop
 loop-less c =
     let d = c .before .before .before .before in
-    let k = fits-some (d .before .loop .inv .1) (d .piece-of .ensures) (c .before .before .n .given .1) in
+    let k = fits-some (d .before .loop .inv .1) (d .layout-piece .ensures) (c .before .before .n .given .1) in
     search needs
 
 loop-again : tie.Need-loop-again Inv-loop μ-loop
 loop-again c =
     let d = c .before .before .before .before in (
       search needs,
-      fits-part (d .before .loop .inv .1) (d .piece-of .ensures) (c .before .before .n .given .1)
+      fits-part (d .before .loop .inv .1) (d .layout-piece .ensures) (c .before .before .n .given .1)
           (search needs) (c .if1 .left),
     )
 
@@ -81,7 +81,7 @@ returns-3 : tie.Need-returns-3 Inv-loop μ-loop
 returns-3 c =
     let d = c .before .before .before in
     let e = d .before .before in
-    fits-unfit (e .before .loop .inv .1) (e .piece-of .ensures) (d .enum-told2 .given .1)
+    fits-unfit (e .before .loop .inv .1) (e .layout-piece .ensures) (d .enum-told2 .given .1)
     (c .before .before .skip-name .ensures) (c .enum-told3 .given .1)
 
 enum-known-next : tie.Need-enum-known-next Inv-loop μ-loop
@@ -91,14 +91,14 @@ add-i-2 : tie.Need-add-i-2 Inv-loop μ-loop
 add-i-2 c =
     let d = c .before .before .before .before in
     let e = d .before .before in
-    let k = fits-named (e .before .loop .inv .1) (e .piece-of .ensures) (d .enum-told2 .given .1) in
+    let k = fits-named (e .before .loop .inv .1) (e .layout-piece .ensures) (d .enum-told2 .given .1) in
     search needs
 
 loop-less-2 : tie.Need-loop-less-2 Inv-loop μ-loop
 loop-less-2 c =
     let d = c .before .before .before .before in
     let e = d .before .before in
-    let k = fits-named (e .before .loop .inv .1) (e .piece-of .ensures) (d .enum-told2 .given .1) in
+    let k = fits-named (e .before .loop .inv .1) (e .layout-piece .ensures) (d .enum-told2 .given .1) in
     search needs
 
 loop-again-2 : tie.Need-loop-again-2 Inv-loop μ-loop
@@ -109,7 +109,7 @@ loop-again-2 c =
     let n = c .before .next .given .1 in
     let k = name-ends _ _ r n in (
       omega (arith, k, e .before .before .count .ensures .0),
-      fits-name (e .before .loop .inv .1) (e .piece-of .ensures) (d .enum-told2 .given .1) r n,
+      fits-name (e .before .loop .inv .1) (e .layout-piece .ensures) (d .enum-told2 .given .1) r n,
     )
 
 pub fits-layout-spec : {M : Type 1} → statement M
@@ -120,7 +120,7 @@ fits-layout-spec =
     μ-loop
     count-requires
     loop-holds
-    piece-of-requires
+    layout-piece-requires
     enum-told
     returns
     enum-known-n

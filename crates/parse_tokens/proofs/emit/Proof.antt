@@ -4,14 +4,14 @@ use Rattle.parse_tokens.specs.Step.{emits, emits-none, held-room}
 use Rattle.parse_tokens.proofs.emit.Statement.{statement}
 use Rattle.parse_tokens.proofs.emit.Tie as tie
 
-hold-requires : tie.Need-hold-requires
-hold-requires c κs = search needs
+reserve-requires : tie.Need-reserve-requires
+reserve-requires c κs = search needs
 
 returns : tie.Need-returns
 returns c = search (emits-none, needs)
 
 put-all-requires : tie.Need-put-all-requires
-put-all-requires c κs = omega (arith, held-room (c .before .before .before .hold .ensures) (c .before .if1 .left))
+put-all-requires c κs = omega (arith, held-room (c .before .before .before .reserve .ensures) (c .before .if1 .left))
 
 same-length : tie.Need-same-length
 same-length c = search needs
@@ -20,4 +20,4 @@ returns-2 : tie.Need-returns-2
 returns-2 c = search (emits, needs)
 
 pub emit-spec : {M : Type 1} → statement M
-emit-spec = tie.close (tie.spec hold-requires returns put-all-requires same-length returns-2)
+emit-spec = tie.close (tie.spec reserve-requires returns put-all-requires same-length returns-2)

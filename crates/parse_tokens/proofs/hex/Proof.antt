@@ -35,11 +35,11 @@ add-hex-at c = search needs
 hex-at-requires-2 : tie.Need-hex-at-requires-2 Inv-loop μ-loop
 hex-at-requires-2 c κs = search needs
 
-add-stop : tie.Need-add-stop Inv-loop μ-loop
-add-stop c = search needs
+add-fail-at : tie.Need-add-fail-at Inv-loop μ-loop
+add-fail-at c = search needs
 
-stop-requires : tie.Need-stop-requires Inv-loop μ-loop
-stop-requires c κs = search needs
+fail-at-requires : tie.Need-fail-at-requires Inv-loop μ-loop
+fail-at-requires c κs = search needs
 
 returns-3 : tie.Need-returns-3 Inv-loop μ-loop
 returns-3 c = search (pairs-half, needs)
@@ -70,8 +70,8 @@ hex-spec =
     returns-2
     add-hex-at
     hex-at-requires-2
-    add-stop
-    stop-requires
+    add-fail-at
+    fail-at-requires
     returns-3
     add-at
     loop-less

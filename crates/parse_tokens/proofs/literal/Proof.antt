@@ -18,8 +18,8 @@ returns c = search (passed-stuck, needs)
 loop-holds : tie.Need-loop-holds Inv-loop μ-loop
 loop-holds c = search (matching-start, needs)
 
-stop-requires : tie.Need-stop-requires Inv-loop μ-loop
-stop-requires c κs = search needs
+fail-at-requires : tie.Need-fail-at-requires Inv-loop μ-loop
+fail-at-requires c κs = search needs
 
 returns-2 : tie.Need-returns-2 Inv-loop μ-loop
 returns-2 c = search (matching-short, needs)
@@ -30,8 +30,8 @@ shared-slice-read-if3 c = search needs
 shared-slice-read-if3-2 : tie.Need-shared-slice-read-if3-2 Inv-loop μ-loop
 shared-slice-read-if3-2 c = search needs
 
-stop-requires-2 : tie.Need-stop-requires-2 Inv-loop μ-loop
-stop-requires-2 c κs = search needs
+fail-at-requires-2 : tie.Need-fail-at-requires-2 Inv-loop μ-loop
+fail-at-requires-2 c κs = search needs
 
 returns-3 : tie.Need-returns-3 Inv-loop μ-loop
 returns-3 c = search (matching-other, needs)
@@ -48,8 +48,8 @@ loop-less c = search needs
 loop-again : tie.Need-loop-again Inv-loop μ-loop
 loop-again c = search (matching-more, needs)
 
-came-requires : tie.Need-came-requires Inv-loop μ-loop
-came-requires c κs = search needs
+advance-requires : tie.Need-advance-requires Inv-loop μ-loop
+advance-requires c κs = search needs
 
 returns-4 : tie.Need-returns-4 Inv-loop μ-loop
 returns-4 c = search (matching-end, needs)
@@ -62,15 +62,15 @@ literal-spec =
     μ-loop
     returns
     loop-holds
-    stop-requires
+    fail-at-requires
     returns-2
     shared-slice-read-if3
     shared-slice-read-if3-2
-    stop-requires-2
+    fail-at-requires-2
     returns-3
     add-at
     add-i
     loop-less
     loop-again
-    came-requires
+    advance-requires
     returns-4)

@@ -48,8 +48,8 @@ add-at c = search needs
 loop-holds : tie.Need-loop-holds Inv-loop μ-loop
 loop-holds c = digits-start (search needs) (c .before .before .digit .ensures) (search needs) (omega arith)
 
-came-requires : tie.Need-came-requires Inv-loop μ-loop
-came-requires c κs = search needs
+advance-requires : tie.Need-advance-requires Inv-loop μ-loop
+advance-requires c κs = search needs
 
 returns-5 : tie.Need-returns-5 Inv-loop μ-loop
 returns-5 c = search (digits-short, needs)
@@ -60,8 +60,8 @@ shared-slice-read-digit-2 c = search needs
 digit-requires-2 : tie.Need-digit-requires-2 Inv-loop μ-loop
 digit-requires-2 c κs = search needs
 
-came-requires-2 : tie.Need-came-requires-2 Inv-loop μ-loop
-came-requires-2 c κs = search needs
+advance-requires-2 : tie.Need-advance-requires-2 Inv-loop μ-loop
+advance-requires-2 c κs = search needs
 
 returns-6 : tie.Need-returns-6 Inv-loop μ-loop
 returns-6 c = search (digits-end, needs)
@@ -96,11 +96,11 @@ positive-spec =
     returns-4
     add-at
     loop-holds
-    came-requires
+    advance-requires
     returns-5
     shared-slice-read-digit-2
     digit-requires-2
-    came-requires-2
+    advance-requires-2
     returns-6
     push-requires
     add-at-2

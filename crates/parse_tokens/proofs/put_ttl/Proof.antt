@@ -4,8 +4,8 @@ use Rattle.parse_tokens.specs.Fields.{ttl-out, ttl-in}
 use Rattle.parse_tokens.proofs.put_ttl.Statement.{statement}
 use Rattle.parse_tokens.proofs.put_ttl.Tie as tie
 
-judge-requires : tie.Need-judge-requires
-judge-requires c κs = search needs
+demand-requires : tie.Need-demand-requires
+demand-requires c κs = search needs
 
 returns : tie.Need-returns
 returns c = search (ttl-out, needs)
@@ -20,4 +20,4 @@ returns-2 : tie.Need-returns-2
 returns-2 c = search (ttl-in, needs)
 
 pub put-ttl-spec : {M : Type 1} → statement M
-put-ttl-spec = tie.close (tie.spec judge-requires returns emit-four-requires same-length returns-2)
+put-ttl-spec = tie.close (tie.spec demand-requires returns emit-four-requires same-length returns-2)

@@ -4,8 +4,8 @@ use Rattle.parse_tokens.specs.Hex.{quoted, came-safe}
 use Rattle.parse_tokens.proofs.quote.Statement.{statement}
 use Rattle.parse_tokens.proofs.quote.Tie as tie
 
-came-requires : tie.Need-came-requires
-came-requires c κs = search needs
+advance-requires : tie.Need-advance-requires
+advance-requires c κs = search needs
 
 slice-aggregate-literal : tie.Need-slice-aggregate-literal
 slice-aggregate-literal c = search needs
@@ -17,4 +17,4 @@ returns : tie.Need-returns
 returns c = search (quoted, needs)
 
 pub quote-spec : {M : Type 1} → statement M
-quote-spec = tie.close (tie.spec came-requires slice-aggregate-literal literal-requires returns)
+quote-spec = tie.close (tie.spec advance-requires slice-aggregate-literal literal-requires returns)

@@ -12,8 +12,8 @@ Inv-loop text c table start far₀ from₀ far from = Trying table text c from f
 abbrev μ-loop : tie.MeasureT-loop
 μ-loop text c table start far₀ from₀ far from = length table - from
 
-stop-requires : tie.Need-stop-requires Inv-loop μ-loop
-stop-requires c κs = search needs
+fail-at-requires : tie.Need-fail-at-requires Inv-loop μ-loop
+fail-at-requires c κs = search needs
 
 loop-holds : tie.Need-loop-holds Inv-loop μ-loop
 loop-holds c = search (trying-start, needs)
@@ -69,8 +69,8 @@ cast-t22 c = search needs
 returns-3 : tie.Need-returns-3 Inv-loop μ-loop
 returns-3 c = search (trying-here, needs)
 
-further-requires : tie.Need-further-requires Inv-loop μ-loop
-further-requires c κs = search needs
+furthest-failure-requires : tie.Need-furthest-failure-requires Inv-loop μ-loop
+furthest-failure-requires c κs = search needs
 
 loop-less : tie.Need-loop-less Inv-loop μ-loop
 loop-less c = search needs
@@ -84,7 +84,7 @@ row-of-spec =
     (tie.spec
     Inv-loop
     μ-loop
-    stop-requires
+    fail-at-requires
     loop-holds
     sub-if1
     returns
@@ -103,6 +103,6 @@ row-of-spec =
     wide-requires-2
     cast-t22
     returns-3
-    further-requires
+    furthest-failure-requires
     loop-less
     loop-again)

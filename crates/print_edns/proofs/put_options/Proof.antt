@@ -18,14 +18,14 @@ abbrev μ-loop : tie.MeasureT-loop
 loop-holds : tie.Need-loop-holds Inv-loop μ-loop
 loop-holds c = (search needs, search needs, left-start _ _ _ (search needs))
 
-two-at-requires : tie.Need-two-at-requires Inv-loop μ-loop
-two-at-requires c κs = omega (arith, left-room (c .before .loop .inv .2) (c .loop-test .taken))
+be16-at-requires : tie.Need-be16-at-requires Inv-loop μ-loop
+be16-at-requires c κs = omega (arith, left-room (c .before .loop .inv .2) (c .loop-test .taken))
 
-add-two-at : tie.Need-add-two-at Inv-loop μ-loop
-add-two-at c = search needs
+add-be16-at : tie.Need-add-be16-at Inv-loop μ-loop
+add-be16-at c = search needs
 
-two-at-requires-2 : tie.Need-two-at-requires-2 Inv-loop μ-loop
-two-at-requires-2 c κs = omega (arith, left-room (c .before .before .loop .inv .2) (c .before .loop-test .taken))
+be16-at-requires-2 : tie.Need-be16-at-requires-2 Inv-loop μ-loop
+be16-at-requires-2 c κs = omega (arith, left-room (c .before .before .loop .inv .2) (c .before .loop-test .taken))
 
 cast-size : tie.Need-cast-size Inv-loop μ-loop
 cast-size c = search needs
@@ -82,9 +82,9 @@ put-options-spec =
     Inv-loop
     μ-loop
     loop-holds
-    two-at-requires
-    add-two-at
-    two-at-requires-2
+    be16-at-requires
+    add-be16-at
+    be16-at-requires-2
     cast-size
     add-start
     add-end

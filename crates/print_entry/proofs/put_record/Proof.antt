@@ -8,8 +8,8 @@ use Rattle.print_entry.proofs.Writing.{part-short}
 use Rattle.print_entry.proofs.put_record.Statement.{statement}
 use Rattle.print_entry.proofs.put_record.Tie as tie
 
-head-at-requires : tie.Need-head-at-requires
-head-at-requires c κs = search needs
+record-at-requires : tie.Need-record-at-requires
+record-at-requires c κs = search needs
 
 enum-known-answer : tie.Need-enum-known-answer
 enum-known-answer c = search needs
@@ -20,7 +20,7 @@ enum-told c = search needs
 returns : tie.Need-returns
 returns c =
     let m = c .before .before .before in
-    absurd (record-faultless _ _ _ (m .head-at .ensures .0) (m .before .before .before .pre .3)
+    absurd (record-faultless _ _ _ (m .record-at .ensures .0) (m .before .before .before .pre .3)
     (c .enum-told .given .1))
 
 sub-put-shown : tie.Need-sub-put-shown
@@ -32,20 +32,20 @@ part-put-shown-start c = search needs
 part-put-shown-end : tie.Need-part-put-shown-end
 part-put-shown-end c =
     let m = c .before .before in
-    record-room _ _ (m .before .before .before .head-at .ensures .0) (m .answer .given .1)
+    record-room _ _ (m .before .before .before .record-at .ensures .0) (m .answer .given .1)
 
 put-shown-requires : tie.Need-put-shown-requires
 put-shown-requires c κs =
     let m = c .before .before .before .before in
     let q = m .before .before .before in
     let a = q .before .before .before in
-    let k = heads-within _ (a .args .at) (q .head-at .ensures .1) (m .answer .given .1) in (
+    let k = heads-within _ (a .args .at) (q .record-at .ensures .1) (m .answer .given .1) in (
       search needs,
       search needs,
-      part-short (m .answer .given .0 .0 .size - 0) (q .head-at .result .name) 255 (omega arith),
+      part-short (m .answer .given .0 .0 .size - 0) (q .record-at .result .name) 255 (omega arith),
       k .4,
       search needs,
-      record-readable _ _ _ (q .head-at .ensures .0) (m .answer .given .1) (a .pre .3),
+      record-readable _ _ _ (q .record-at .ensures .0) (m .answer .given .1) (a .pre .3),
     )
 
 add-t14 : tie.Need-add-t14
@@ -53,7 +53,7 @@ add-t14 c =
     let p = c .before .before .before in
     let m = p .before .before .before .before .before in
     let q = m .before .before .before in
-    let k = heads-within _ (q .before .before .before .args .at) (q .head-at .ensures .1) (m .answer .given .1) in
+    let k = heads-within _ (q .before .before .before .args .at) (q .record-at .ensures .1) (m .answer .given .1) in
     search needs
 
 same-length : tie.Need-same-length
@@ -64,8 +64,8 @@ returns-2 c =
     let p = c .before .before .before in
     let m = p .before .before .before .before .before in
     let q = m .before .before .before in
-    let k = heads-within _ (q .before .before .before .args .at) (q .head-at .ensures .1) (m .answer .given .1) in (
-      record-prints _ _ _ (q .head-at .ensures .0) (m .answer .given .1) (p .put-shown .ensures .0),
+    let k = heads-within _ (q .before .before .before .args .at) (q .record-at .ensures .1) (m .answer .given .1) in (
+      record-prints _ _ _ (q .record-at .ensures .0) (m .answer .given .1) (p .put-shown .ensures .0),
       (omega arith, omega arith, omega (arith, p .put-shown .ensures .1)),
     )
 
@@ -73,7 +73,7 @@ pub put-record-spec : {M : Type 1} → statement M
 put-record-spec =
     tie.close
     (tie.spec
-    head-at-requires
+    record-at-requires
     enum-known-answer
     enum-told
     returns

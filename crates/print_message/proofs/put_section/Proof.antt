@@ -4,8 +4,8 @@ use Rattle.print_message.specs.Arrays.{section-readable, section-prints}
 use Rattle.print_message.proofs.put_section.Statement.{statement}
 use Rattle.print_message.proofs.put_section.Tie as tie
 
-two-at-requires : tie.Need-two-at-requires
-two-at-requires c κs = search needs
+be16-at-requires : tie.Need-be16-at-requires
+be16-at-requires c κs = search needs
 
 put-all-requires : tie.Need-put-all-requires
 put-all-requires c κs = search needs
@@ -21,4 +21,4 @@ returns c = (search (section-prints, needs), search needs)
 
 pub put-section-spec : {M : Type 1} → statement M
 put-section-spec =
-    tie.close (tie.spec two-at-requires put-all-requires put-array-requires same-length returns)
+    tie.close (tie.spec be16-at-requires put-all-requires put-array-requires same-length returns)

@@ -10,8 +10,8 @@ slice-aggregate-put-all c = search needs
 put-all-requires : tie.Need-put-all-requires
 put-all-requires c κs = search needs
 
-two-at-requires : tie.Need-two-at-requires
-two-at-requires c κs = search (error-room, needs)
+be16-at-requires : tie.Need-be16-at-requires
+be16-at-requires c κs = search (error-room, needs)
 
 put-decimal-requires : tie.Need-put-decimal-requires
 put-decimal-requires c κs = search needs
@@ -40,7 +40,7 @@ put-error-spec =
     (tie.spec
     slice-aggregate-put-all
     put-all-requires
-    two-at-requires
+    be16-at-requires
     put-decimal-requires
     sub-put-error-tail
     part-put-error-tail-start

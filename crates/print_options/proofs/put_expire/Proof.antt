@@ -22,8 +22,8 @@ slice-aggregate-put-all-2 c = search needs
 put-all-requires-2 : tie.Need-put-all-requires-2
 put-all-requires-2 c κs = search needs
 
-four-at-requires : tie.Need-four-at-requires
-four-at-requires c κs = search (expire-room, needs)
+be32-at-requires : tie.Need-be32-at-requires
+be32-at-requires c κs = search (expire-room, needs)
 
 put-decimal-requires : tie.Need-put-decimal-requires
 put-decimal-requires c κs = search needs
@@ -44,7 +44,7 @@ put-expire-spec =
     returns
     slice-aggregate-put-all-2
     put-all-requires-2
-    four-at-requires
+    be32-at-requires
     put-decimal-requires
     same-length-2
     returns-2)

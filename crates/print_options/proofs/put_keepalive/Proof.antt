@@ -10,8 +10,8 @@ slice-aggregate-put-all c = search needs
 put-all-requires : tie.Need-put-all-requires
 put-all-requires c κs = search needs
 
-two-at-requires : tie.Need-two-at-requires
-two-at-requires c κs = search (keepalive-room, needs)
+be16-at-requires : tie.Need-be16-at-requires
+be16-at-requires c κs = search (keepalive-room, needs)
 
 put-decimal-requires : tie.Need-put-decimal-requires
 put-decimal-requires c κs = search needs
@@ -28,7 +28,7 @@ put-keepalive-spec =
     (tie.spec
     slice-aggregate-put-all
     put-all-requires
-    two-at-requires
+    be16-at-requires
     put-decimal-requires
     same-length
     returns)

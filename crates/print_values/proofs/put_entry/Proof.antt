@@ -7,8 +7,8 @@ use Rattle.print_values.proofs.put_entry.Tie as tie
 put-requires : tie.Need-put-requires
 put-requires c κs = search needs
 
-two-at-requires : tie.Need-two-at-requires
-two-at-requires c κs = search needs
+be16-at-requires : tie.Need-be16-at-requires
+be16-at-requires c κs = search needs
 
 put-decimal-requires : tie.Need-put-decimal-requires
 put-decimal-requires c κs = search needs
@@ -42,7 +42,7 @@ put-entry-spec =
     tie.close
     (tie.spec
     put-requires
-    two-at-requires
+    be16-at-requires
     put-decimal-requires
     same-length
     returns

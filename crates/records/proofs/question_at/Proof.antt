@@ -6,11 +6,11 @@ use Rattle.records.proofs.Reading.{begins, question-faulty, question-wh
 use Rattle.records.proofs.question_at.Statement.{statement}
 use Rattle.records.proofs.question_at.Tie as tie
 
-slice-aggregate-begun-at : tie.Need-slice-aggregate-begun-at
-slice-aggregate-begun-at c = search needs
+slice-aggregate-owner-at : tie.Need-slice-aggregate-owner-at
+slice-aggregate-owner-at c = search needs
 
-begun-at-requires : tie.Need-begun-at-requires
-begun-at-requires c κs = search needs
+owner-at-requires : tie.Need-owner-at-requires
+owner-at-requires c κs = search needs
 
 enum-known-answer : tie.Need-enum-known-answer
 enum-known-answer c = search needs
@@ -18,39 +18,39 @@ enum-known-answer c = search needs
 enum-known-answer-2 : tie.Need-enum-known-answer-2
 enum-known-answer-2 c = search needs
 
-two-at-requires : tie.Need-two-at-requires
-two-at-requires c κs =
+be16-at-requires : tie.Need-be16-at-requires
+be16-at-requires c κs =
     omega (
       arith,
-      begins _ (2 ∷ 2 ∷ []) (c .before .before .before .before .begun-at .ensures .1)
+      begins _ (2 ∷ 2 ∷ []) (c .before .before .before .before .owner-at .ensures .1)
           (c .before .answer2 .given .1),
     )
 
-add-two-at : tie.Need-add-two-at
-add-two-at c = omega (
+add-be16-at : tie.Need-add-be16-at
+add-be16-at c = omega (
   arith,
-  begins _ (2 ∷ 2 ∷ []) (c .before .before .before .before .before .begun-at .ensures .1)
+  begins _ (2 ∷ 2 ∷ []) (c .before .before .before .before .before .owner-at .ensures .1)
       (c .before .before .answer2 .given .1),
 )
 
-two-at-requires-2 : tie.Need-two-at-requires-2
-two-at-requires-2 c κs =
+be16-at-requires-2 : tie.Need-be16-at-requires-2
+be16-at-requires-2 c κs =
     omega (
       arith,
-      begins _ (2 ∷ 2 ∷ []) (c .before .before .before .before .before .begun-at .ensures .1)
+      begins _ (2 ∷ 2 ∷ []) (c .before .before .before .before .before .owner-at .ensures .1)
           (c .before .before .answer2 .given .1),
     )
 
 add-t16 : tie.Need-add-t16
 add-t16 c = omega (
   arith,
-  begins _ (2 ∷ 2 ∷ []) (c .before .before .before .before .before .before .begun-at .ensures .1)
+  begins _ (2 ∷ 2 ∷ []) (c .before .before .before .before .before .before .owner-at .ensures .1)
       (c .before .before .before .answer2 .given .1),
 )
 
 returns : tie.Need-returns
 returns c = (
-  question-faulty _ _ (c .before .before .before .before .begun-at .ensures .0)
+  question-faulty _ _ (c .before .before .before .before .owner-at .ensures .0)
       (c .before .answer .given .1),
   tt,
 )
@@ -58,9 +58,9 @@ returns c = (
 returns-2 : tie.Need-returns-2
 returns-2 c =
     let m = c .before .before .before in
-    let p = begins _ (2 ∷ 2 ∷ []) (m .before .before .before .begun-at .ensures .1) (m .answer2 .given .1) in (
-      question-whole _ _ (m .before .before .before .begun-at .ensures .0) (m .answer2 .given .1)
-          (c .before .two-at .ensures .0) (c .two-at2 .ensures .0),
+    let p = begins _ (2 ∷ 2 ∷ []) (m .before .before .before .owner-at .ensures .1) (m .answer2 .given .1) in (
+      question-whole _ _ (m .before .before .before .owner-at .ensures .0) (m .answer2 .given .1)
+          (c .before .be16-at .ensures .0) (c .be16-at2 .ensures .0),
       omega arith,
     )
 
@@ -68,13 +68,13 @@ pub question-at-spec : {M : Type 1} → statement M
 question-at-spec =
     tie.close
     (tie.spec
-    slice-aggregate-begun-at
-    begun-at-requires
+    slice-aggregate-owner-at
+    owner-at-requires
     enum-known-answer
     enum-known-answer-2
-    two-at-requires
-    add-two-at
-    two-at-requires-2
+    be16-at-requires
+    add-be16-at
+    be16-at-requires-2
     add-t16
     returns
     returns-2)

@@ -9,8 +9,8 @@ use Rattle.records.proofs.rdata_step.Tie as tie
 add-end : tie.Need-add-end
 add-end c = search needs
 
-piece-of-requires : tie.Need-piece-of-requires
-piece-of-requires c κs = search needs
+layout-piece-requires : tie.Need-layout-piece-requires
+layout-piece-requires c κs = search needs
 
 enum-told : tie.Need-enum-told
 enum-told c = search needs
@@ -109,7 +109,7 @@ rdata-step-spec =
     tie.close
     (tie.spec
     add-end
-    piece-of-requires
+    layout-piece-requires
     enum-told
     plain-step-requires
     returns

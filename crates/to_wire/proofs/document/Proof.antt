@@ -51,8 +51,8 @@ settled-requires c κs = search needs
 both-requires : tie.Need-both-requires
 both-requires c κs = search needs
 
-judge-requires : tie.Need-judge-requires
-judge-requires c κs = search needs
+demand-requires : tie.Need-demand-requires
+demand-requires c κs = search needs
 
 same-length : tie.Need-same-length
 same-length c =
@@ -74,7 +74,7 @@ returns c =
     document-read (k .before .before .before .before .before .head .ensures .0) (k .array .ensures)
     (m .before .before .before .before .before .array2 .ensures) (m .array3 .ensures)
     (c .before .before .before .before .before .before .before .before .array4 .ensures)
-    (c .before .before .before .before .literal .ensures) (c .judge .ensures) (c .before .both .ensures
+    (c .before .before .before .before .literal .ensures) (c .demand .ensures) (c .before .both .ensures
     ∙ rw (c .before .before .before .agree .ensures, c .before .before .settled .ensures))
 
 pub document-spec : {M : Type 1} → statement M
@@ -95,6 +95,6 @@ document-spec =
     agree-requires
     settled-requires
     both-requires
-    judge-requires
+    demand-requires
     same-length
     returns)

@@ -9,8 +9,8 @@ use Rattle.print_message.proofs.head.put_counts.Tie as tie
 slice-aggregate-put-number : tie.Need-slice-aggregate-put-number
 slice-aggregate-put-number c = search needs
 
-two-at-requires : tie.Need-two-at-requires
-two-at-requires c κs = search needs
+be16-at-requires : tie.Need-be16-at-requires
+be16-at-requires c κs = search needs
 
 put-number-requires : tie.Need-put-number-requires
 put-number-requires c κs = search needs
@@ -18,8 +18,8 @@ put-number-requires c κs = search needs
 slice-aggregate-put-number-2 : tie.Need-slice-aggregate-put-number-2
 slice-aggregate-put-number-2 c = search needs
 
-two-at-requires-2 : tie.Need-two-at-requires-2
-two-at-requires-2 c κs = search needs
+be16-at-requires-2 : tie.Need-be16-at-requires-2
+be16-at-requires-2 c κs = search needs
 
 put-number-requires-2 : tie.Need-put-number-requires-2
 put-number-requires-2 c κs = search needs
@@ -27,8 +27,8 @@ put-number-requires-2 c κs = search needs
 slice-aggregate-put-number-3 : tie.Need-slice-aggregate-put-number-3
 slice-aggregate-put-number-3 c = search needs
 
-two-at-requires-3 : tie.Need-two-at-requires-3
-two-at-requires-3 c κs = search needs
+be16-at-requires-3 : tie.Need-be16-at-requires-3
+be16-at-requires-3 c κs = search needs
 
 put-number-requires-3 : tie.Need-put-number-requires-3
 put-number-requires-3 c κs = search needs
@@ -36,8 +36,8 @@ put-number-requires-3 c κs = search needs
 slice-aggregate-put-number-4 : tie.Need-slice-aggregate-put-number-4
 slice-aggregate-put-number-4 c = search needs
 
-two-at-requires-4 : tie.Need-two-at-requires-4
-two-at-requires-4 c κs = search needs
+be16-at-requires-4 : tie.Need-be16-at-requires-4
+be16-at-requires-4 c κs = search needs
 
 put-number-requires-4 : tie.Need-put-number-requires-4
 put-number-requires-4 c κs = search needs
@@ -52,10 +52,10 @@ returns c =
     let authority = additional .before .before .before .before .before .before in
     let answers = authority .before .before .before .before .before .before in
     let questions = answers .before .before .before .before .before .before in (
-      number-after _ (additional .before .two-at4 .ensures .0)
-          (number-after _ (authority .before .two-at3 .ensures .0)
-          (number-after _ (answers .before .two-at2 .ensures .0)
-          (number-after _ (questions .before .two-at .ensures .0)
+      number-after _ (additional .before .be16-at4 .ensures .0)
+          (number-after _ (authority .before .be16-at3 .ensures .0)
+          (number-after _ (answers .before .be16-at2 .ensures .0)
+          (number-after _ (questions .before .be16-at .ensures .0)
           (nothing _ _)
           (questions .put-number .ensures .0))
           (answers .put-number2 .ensures .0))
@@ -69,16 +69,16 @@ put-counts-spec =
     tie.close
     (tie.spec
     slice-aggregate-put-number
-    two-at-requires
+    be16-at-requires
     put-number-requires
     slice-aggregate-put-number-2
-    two-at-requires-2
+    be16-at-requires-2
     put-number-requires-2
     slice-aggregate-put-number-3
-    two-at-requires-3
+    be16-at-requires-3
     put-number-requires-3
     slice-aggregate-put-number-4
-    two-at-requires-4
+    be16-at-requires-4
     put-number-requires-4
     same-length
     returns)

@@ -7,8 +7,8 @@ use Rattle.print_message.proofs.head.put_head.Tie as tie
 slice-aggregate-put-number : tie.Need-slice-aggregate-put-number
 slice-aggregate-put-number c = search needs
 
-two-at-requires : tie.Need-two-at-requires
-two-at-requires c κs = search needs
+be16-at-requires : tie.Need-be16-at-requires
+be16-at-requires c κs = search needs
 
 put-number-requires : tie.Need-put-number-requires
 put-number-requires c κs = search needs
@@ -37,7 +37,7 @@ returns c =
     let low = counts .before .before .before .before in
     let high = low .before .before .before .before .before in
     let id = high .before .before .before .before .before in (
-      wrote-head _ (id .before .two-at .ensures .0) (id .put-number .ensures .0) (high .put-high .ensures .0)
+      wrote-head _ (id .before .be16-at .ensures .0) (id .put-number .ensures .0) (high .put-high .ensures .0)
           (low .put-low .ensures .0) (counts .put-counts .ensures .0),
       search needs,
     )
@@ -47,7 +47,7 @@ put-head-spec =
     tie.close
     (tie.spec
     slice-aggregate-put-number
-    two-at-requires
+    be16-at-requires
     put-number-requires
     shared-slice-read-put-high
     put-high-requires

@@ -18,8 +18,8 @@ literal-requires-2 c κs = search needs
 edns-requires : tie.Need-edns-requires
 edns-requires c κs = search needs
 
-further-requires : tie.Need-further-requires
-further-requires c κs = search needs
+furthest-failure-requires : tie.Need-furthest-failure-requires
+furthest-failure-requires c κs = search needs
 
 same-length : tie.Need-same-length
 same-length c = search needs
@@ -30,8 +30,8 @@ returns c = search (item-edns, needs)
 record-requires : tie.Need-record-requires
 record-requires c κs = search needs
 
-further-requires-2 : tie.Need-further-requires-2
-further-requires-2 c κs = search needs
+furthest-failure-requires-2 : tie.Need-furthest-failure-requires-2
+furthest-failure-requires-2 c κs = search needs
 
 same-length-2 : tie.Need-same-length-2
 same-length-2 c = search needs
@@ -48,10 +48,10 @@ item-spec =
     slice-aggregate-literal-2
     literal-requires-2
     edns-requires
-    further-requires
+    furthest-failure-requires
     same-length
     returns
     record-requires
-    further-requires-2
+    furthest-failure-requires-2
     same-length-2
     returns-2)

@@ -6,14 +6,14 @@ use Rattle.to_wire.proofs.entries.one.Tie as tie
 enum-told : tie.Need-enum-told
 enum-told c = search needs
 
-asked-requires : tie.Need-asked-requires
-asked-requires c κs = search needs
+question-entry-requires : tie.Need-question-entry-requires
+question-entry-requires c κs = search needs
 
 enum-told-2 : tie.Need-enum-told-2
 enum-told-2 c = search needs
 
-titled-requires : tie.Need-titled-requires
-titled-requires c κs = search needs
+record-element-requires : tie.Need-record-element-requires
+record-element-requires c κs = search needs
 
 enum-told-3 : tie.Need-enum-told-3
 enum-told-3 c = search needs
@@ -44,9 +44,9 @@ one-spec =
     tie.close
     (tie.spec
     enum-told
-    asked-requires
+    question-entry-requires
     enum-told-2
-    titled-requires
+    record-element-requires
     enum-told-3
     item-requires
     same-length

@@ -25,8 +25,8 @@ part-fits-layout-end c = search needs
 fits-layout-requires : tie.Need-fits-layout-requires
 fits-layout-requires c κs = hex-digits (c .before .before .before .hex .ensures) .digits
 
-judge-requires : tie.Need-judge-requires
-judge-requires c κs = search needs
+demand-requires : tie.Need-demand-requires
+demand-requires c κs = search needs
 
 cast-t19 : tie.Need-cast-t19
 cast-t19 c = search needs
@@ -64,7 +64,7 @@ rdata-spec =
     part-fits-layout-start
     part-fits-layout-end
     fits-layout-requires
-    judge-requires
+    demand-requires
     cast-t19
     cast-t21
     slice-aggregate-emit

@@ -9,8 +9,8 @@ slice-aggregate-literal c = search needs
 literal-requires : tie.Need-literal-requires
 literal-requires c κs = search needs
 
-inside-requires : tie.Need-inside-requires
-inside-requires c κs = search needs
+elements-requires : tie.Need-elements-requires
+elements-requires c κs = search needs
 
 same-length : tie.Need-same-length
 same-length c = search needs
@@ -21,4 +21,4 @@ returns c = search (section-read, needs)
 pub read-section-spec : {M : Type 1} → statement M
 read-section-spec =
     tie.close
-    (tie.spec slice-aggregate-literal literal-requires inside-requires same-length returns)
+    (tie.spec slice-aggregate-literal literal-requires elements-requires same-length returns)

@@ -6,8 +6,8 @@ use Rattle.to_wire.proofs.entries.word.Tie as tie
 number-requires : tie.Need-number-requires
 number-requires c κs = search needs
 
-put-word-requires : tie.Need-put-word-requires
-put-word-requires c κs = search needs
+put-u16-requires : tie.Need-put-u16-requires
+put-u16-requires c κs = search needs
 
 same-length : tie.Need-same-length
 same-length c = search needs
@@ -16,4 +16,4 @@ returns : tie.Need-returns
 returns c = search (word-read, needs)
 
 pub word-spec : {M : Type 1} → statement M
-word-spec = tie.close (tie.spec number-requires put-word-requires same-length returns)
+word-spec = tie.close (tie.spec number-requires put-u16-requires same-length returns)

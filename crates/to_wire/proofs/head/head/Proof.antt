@@ -9,11 +9,11 @@ slice-aggregate-literal c = search needs
 literal-requires : tie.Need-literal-requires
 literal-requires c κs = search needs
 
-slice-aggregate-till : tie.Need-slice-aggregate-till
-slice-aggregate-till c = search needs
+slice-aggregate-number-then : tie.Need-slice-aggregate-number-then
+slice-aggregate-number-then c = search needs
 
-till-requires : tie.Need-till-requires
-till-requires c κs = search needs
+number-then-requires : tie.Need-number-then-requires
+number-then-requires c κs = search needs
 
 high-flags-requires : tie.Need-high-flags-requires
 high-flags-requires c κs = search needs
@@ -24,8 +24,8 @@ low-flags-requires c κs = search needs
 read-counts-requires : tie.Need-read-counts-requires
 read-counts-requires c κs = search needs
 
-put-word-requires : tie.Need-put-word-requires
-put-word-requires c κs = search needs
+put-u16-requires : tie.Need-put-u16-requires
+put-u16-requires c κs = search needs
 
 put-flags-requires : tie.Need-put-flags-requires
 put-flags-requires c κs = search needs
@@ -44,13 +44,13 @@ returns c = (
   head-read (c .before .before .before .before .before .before .before .before .before .before .before .before .before
       .before .before .before .before .before .literal .ensures)
       (c .before .before .before .before .before .before .before .before .before .before .before .before .before .before
-      .before .before .till .ensures)
+      .before .before .number-then .ensures)
       (c .before .before .before .before .before .before .before .before .before .before .before .before .before .before
       .before .high-flags .ensures)
       (c .before .before .before .before .before .before .before .before .before .before .before .before .before .before
       .low-flags .ensures) (c .before .before .before .before .before .before .before .before .before .before .before
       .before .before .read-counts .ensures)
-      (c .before .before .before .before .before .before .before .before .before .before .before .put-word .ensures
+      (c .before .before .before .before .before .before .before .before .before .before .before .put-u16 .ensures
       .done) (c .before .before .before .before .before .before .before .put-flags .ensures)
       (c .before .before .before .put-counts .ensures) (search needs),
   search needs,
@@ -62,12 +62,12 @@ head-spec =
     (tie.spec
     slice-aggregate-literal
     literal-requires
-    slice-aggregate-till
-    till-requires
+    slice-aggregate-number-then
+    number-then-requires
     high-flags-requires
     low-flags-requires
     read-counts-requires
-    put-word-requires
+    put-u16-requires
     put-flags-requires
     put-counts-requires
     cast-t25

@@ -3,61 +3,61 @@ use Rattle.to_wire.specs.Head.{high-read}
 use Rattle.to_wire.proofs.head.high_flags.Statement.{statement}
 use Rattle.to_wire.proofs.head.high_flags.Tie as tie
 
-slice-aggregate-till : tie.Need-slice-aggregate-till
-slice-aggregate-till c = search needs
+slice-aggregate-number-then : tie.Need-slice-aggregate-number-then
+slice-aggregate-number-then c = search needs
 
-till-requires : tie.Need-till-requires
-till-requires c κs = search needs
+number-then-requires : tie.Need-number-then-requires
+number-then-requires c κs = search needs
 
-slice-aggregate-till-2 : tie.Need-slice-aggregate-till-2
-slice-aggregate-till-2 c = search needs
+slice-aggregate-number-then-2 : tie.Need-slice-aggregate-number-then-2
+slice-aggregate-number-then-2 c = search needs
 
-till-requires-2 : tie.Need-till-requires-2
-till-requires-2 c κs = search needs
+number-then-requires-2 : tie.Need-number-then-requires-2
+number-then-requires-2 c κs = search needs
 
-slice-aggregate-till-3 : tie.Need-slice-aggregate-till-3
-slice-aggregate-till-3 c = search needs
+slice-aggregate-number-then-3 : tie.Need-slice-aggregate-number-then-3
+slice-aggregate-number-then-3 c = search needs
 
-till-requires-3 : tie.Need-till-requires-3
-till-requires-3 c κs = search needs
+number-then-requires-3 : tie.Need-number-then-requires-3
+number-then-requires-3 c κs = search needs
 
-slice-aggregate-till-4 : tie.Need-slice-aggregate-till-4
-slice-aggregate-till-4 c = search needs
+slice-aggregate-number-then-4 : tie.Need-slice-aggregate-number-then-4
+slice-aggregate-number-then-4 c = search needs
 
-till-requires-4 : tie.Need-till-requires-4
-till-requires-4 c κs = search needs
+number-then-requires-4 : tie.Need-number-then-requires-4
+number-then-requires-4 c κs = search needs
 
-slice-aggregate-till-5 : tie.Need-slice-aggregate-till-5
-slice-aggregate-till-5 c = search needs
+slice-aggregate-number-then-5 : tie.Need-slice-aggregate-number-then-5
+slice-aggregate-number-then-5 c = search needs
 
-till-requires-5 : tie.Need-till-requires-5
-till-requires-5 c κs = search needs
+number-then-requires-5 : tie.Need-number-then-requires-5
+number-then-requires-5 c κs = search needs
 
 high-bits-requires : tie.Need-high-bits-requires
 high-bits-requires c κs = search needs
 
 returns : tie.Need-returns
 returns c = high-read
-    (c .before .before .before .before .before .before .before .before .before .till .ensures)
-    (c .before .before .before .before .before .before .before .till2 .ensures)
-    (c .before .before .before .before .before .till3 .ensures)
-    (c .before .before .before .till4 .ensures)
-    (c .before .till5 .ensures)
+    (c .before .before .before .before .before .before .before .before .before .number-then .ensures)
+    (c .before .before .before .before .before .before .before .number-then2 .ensures)
+    (c .before .before .before .before .before .number-then3 .ensures)
+    (c .before .before .before .number-then4 .ensures)
+    (c .before .number-then5 .ensures)
     (c .high-bits .ensures)
 
 pub high-flags-spec : {M : Type 1} → statement M
 high-flags-spec =
     tie.close
     (tie.spec
-    slice-aggregate-till
-    till-requires
-    slice-aggregate-till-2
-    till-requires-2
-    slice-aggregate-till-3
-    till-requires-3
-    slice-aggregate-till-4
-    till-requires-4
-    slice-aggregate-till-5
-    till-requires-5
+    slice-aggregate-number-then
+    number-then-requires
+    slice-aggregate-number-then-2
+    number-then-requires-2
+    slice-aggregate-number-then-3
+    number-then-requires-3
+    slice-aggregate-number-then-4
+    number-then-requires-4
+    slice-aggregate-number-then-5
+    number-then-requires-5
     high-bits-requires
     returns)

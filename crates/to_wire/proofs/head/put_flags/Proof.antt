@@ -6,8 +6,8 @@ use Rattle.to_wire.proofs.head.put_flags.Tie as tie
 both-requires : tie.Need-both-requires
 both-requires c κs = search needs
 
-judge-requires : tie.Need-judge-requires
-judge-requires c κs = search needs
+demand-requires : tie.Need-demand-requires
+demand-requires c κs = search needs
 
 slice-aggregate-emit : tie.Need-slice-aggregate-emit
 slice-aggregate-emit c = search needs
@@ -24,4 +24,4 @@ returns c = search (put-flags, needs)
 pub put-flags-spec : {M : Type 1} → statement M
 put-flags-spec =
     tie.close
-    (tie.spec both-requires judge-requires slice-aggregate-emit emit-requires same-length returns)
+    (tie.spec both-requires demand-requires slice-aggregate-emit emit-requires same-length returns)

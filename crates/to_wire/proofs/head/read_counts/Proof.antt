@@ -3,23 +3,23 @@ use Rattle.to_wire.specs.Head.{counts-read}
 use Rattle.to_wire.proofs.head.read_counts.Statement.{statement}
 use Rattle.to_wire.proofs.head.read_counts.Tie as tie
 
-slice-aggregate-till : tie.Need-slice-aggregate-till
-slice-aggregate-till c = search needs
+slice-aggregate-number-then : tie.Need-slice-aggregate-number-then
+slice-aggregate-number-then c = search needs
 
-till-requires : tie.Need-till-requires
-till-requires c κs = search needs
+number-then-requires : tie.Need-number-then-requires
+number-then-requires c κs = search needs
 
-slice-aggregate-till-2 : tie.Need-slice-aggregate-till-2
-slice-aggregate-till-2 c = search needs
+slice-aggregate-number-then-2 : tie.Need-slice-aggregate-number-then-2
+slice-aggregate-number-then-2 c = search needs
 
-till-requires-2 : tie.Need-till-requires-2
-till-requires-2 c κs = search needs
+number-then-requires-2 : tie.Need-number-then-requires-2
+number-then-requires-2 c κs = search needs
 
-slice-aggregate-till-3 : tie.Need-slice-aggregate-till-3
-slice-aggregate-till-3 c = search needs
+slice-aggregate-number-then-3 : tie.Need-slice-aggregate-number-then-3
+slice-aggregate-number-then-3 c = search needs
 
-till-requires-3 : tie.Need-till-requires-3
-till-requires-3 c κs = search needs
+number-then-requires-3 : tie.Need-number-then-requires-3
+number-then-requires-3 c κs = search needs
 
 number-requires : tie.Need-number-requires
 number-requires c κs = search needs
@@ -31,11 +31,11 @@ pub read-counts-spec : {M : Type 1} → statement M
 read-counts-spec =
     tie.close
     (tie.spec
-    slice-aggregate-till
-    till-requires
-    slice-aggregate-till-2
-    till-requires-2
-    slice-aggregate-till-3
-    till-requires-3
+    slice-aggregate-number-then
+    number-then-requires
+    slice-aggregate-number-then-2
+    number-then-requires-2
+    slice-aggregate-number-then-3
+    number-then-requires-3
     number-requires
     returns)

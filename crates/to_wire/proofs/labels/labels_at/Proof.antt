@@ -55,8 +55,8 @@ same-length-2 c = search needs
 returns-3 : tie.Need-returns-3 Inv-loop μ-loop
 returns-3 c = search (labels-bad, needs)
 
-grow-requires : tie.Need-grow-requires Inv-loop μ-loop
-grow-requires c κs = search needs
+name-length-requires : tie.Need-name-length-requires Inv-loop μ-loop
+name-length-requires c κs = search needs
 
 loop-less : tie.Need-loop-less Inv-loop μ-loop
 loop-less c =
@@ -91,6 +91,6 @@ labels-at-spec =
     label-at-requires
     same-length-2
     returns-3
-    grow-requires
+    name-length-requires
     loop-less
     loop-again)

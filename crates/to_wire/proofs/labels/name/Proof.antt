@@ -29,8 +29,8 @@ returns-2 c = search needs
 labels-at-requires : tie.Need-labels-at-requires
 labels-at-requires c κs = search needs
 
-stop-requires : tie.Need-stop-requires
-stop-requires c κs = search needs
+fail-at-requires : tie.Need-fail-at-requires
+fail-at-requires c κs = search needs
 
 same-length-2 : tie.Need-same-length-2
 same-length-2 c = search needs
@@ -38,14 +38,14 @@ same-length-2 c = search needs
 returns-3 : tie.Need-returns-3
 returns-3 c = search (name-bad, needs)
 
-came-requires : tie.Need-came-requires
-came-requires c κs = search needs
+advance-requires : tie.Need-advance-requires
+advance-requires c κs = search needs
 
-hold-requires : tie.Need-hold-requires
-hold-requires c κs = search needs
+reserve-requires : tie.Need-reserve-requires
+reserve-requires c κs = search needs
 
-judge-requires : tie.Need-judge-requires
-judge-requires c κs = search needs
+demand-requires : tie.Need-demand-requires
+demand-requires c κs = search needs
 
 same-length-3 : tie.Need-same-length-3
 same-length-3 c = search needs
@@ -63,11 +63,11 @@ name-spec =
     same-length
     returns-2
     labels-at-requires
-    stop-requires
+    fail-at-requires
     same-length-2
     returns-3
-    came-requires
-    hold-requires
-    judge-requires
+    advance-requires
+    reserve-requires
+    demand-requires
     same-length-3
     returns-4)

@@ -21,11 +21,11 @@ loop-holds c = search (chars-start, needs)
 octet-at-requires : tie.Need-octet-at-requires Inv-loop μ-loop
 octet-at-requires c κs = search needs
 
-add-came : tie.Need-add-came Inv-loop μ-loop
-add-came c = search needs
+add-advance : tie.Need-add-advance Inv-loop μ-loop
+add-advance c = search needs
 
-came-requires : tie.Need-came-requires Inv-loop μ-loop
-came-requires c κs = search needs
+advance-requires : tie.Need-advance-requires Inv-loop μ-loop
+advance-requires c κs = search needs
 
 same-length : tie.Need-same-length Inv-loop μ-loop
 same-length c = search needs
@@ -36,8 +36,8 @@ returns-2 c = search (chars-end, needs)
 char-at-requires : tie.Need-char-at-requires Inv-loop μ-loop
 char-at-requires c κs = search needs
 
-stop-requires : tie.Need-stop-requires Inv-loop μ-loop
-stop-requires c κs = search needs
+fail-at-requires : tie.Need-fail-at-requires Inv-loop μ-loop
+fail-at-requires c κs = search needs
 
 same-length-2 : tie.Need-same-length-2 Inv-loop μ-loop
 same-length-2 c = search needs
@@ -56,7 +56,7 @@ loop-less c =
       chars-far (m .before .before .before .before .before .loop .inv) (m .before .before .char-at .ensures)
           (m .if3 .left),
       c .before .before .add .ensures .emits .at,
-      c .before .before .add .ensures .came .at,
+      c .before .before .add .ensures .advance .at,
     )
 
 loop-again : tie.Need-loop-again Inv-loop μ-loop
@@ -74,12 +74,12 @@ string-spec =
     returns
     loop-holds
     octet-at-requires
-    add-came
-    came-requires
+    add-advance
+    advance-requires
     same-length
     returns-2
     char-at-requires
-    stop-requires
+    fail-at-requires
     same-length-2
     returns-3
     add-requires

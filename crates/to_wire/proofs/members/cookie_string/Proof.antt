@@ -22,8 +22,8 @@ size-of-requires c κs = search needs
 cookie-part-requires : tie.Need-cookie-part-requires
 cookie-part-requires c κs = search needs
 
-judge-requires : tie.Need-judge-requires
-judge-requires c κs = search needs
+demand-requires : tie.Need-demand-requires
+demand-requires c κs = search needs
 
 same-length : tie.Need-same-length
 same-length c = search needs
@@ -41,6 +41,6 @@ cookie-string-spec =
     put-hex-requires
     size-of-requires
     cookie-part-requires
-    judge-requires
+    demand-requires
     same-length
     returns)

@@ -15,8 +15,8 @@ returns c = error-none (c .before .literal .ensures) (c .if1 .taken)
 error-text-requires : tie.Need-error-text-requires
 error-text-requires c κs = search needs
 
-further-requires : tie.Need-further-requires
-further-requires c κs = search needs
+furthest-failure-requires : tie.Need-furthest-failure-requires
+furthest-failure-requires c κs = search needs
 
 same-length : tie.Need-same-length
 same-length c = search needs
@@ -32,6 +32,6 @@ error-end-spec =
     literal-requires
     returns
     error-text-requires
-    further-requires
+    furthest-failure-requires
     same-length
     returns-2)

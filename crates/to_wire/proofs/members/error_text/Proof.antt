@@ -16,8 +16,8 @@ string-requires c κs = search needs
 add-empty : tie.Need-add-empty
 add-empty c = search needs
 
-judge-requires : tie.Need-judge-requires
-judge-requires c κs = search needs
+demand-requires : tie.Need-demand-requires
+demand-requires c κs = search needs
 
 slice-aggregate-literal-2 : tie.Need-slice-aggregate-literal-2
 slice-aggregate-literal-2 c = search needs
@@ -39,7 +39,7 @@ error-text-spec =
     literal-requires
     string-requires
     add-empty
-    judge-requires
+    demand-requires
     slice-aggregate-literal-2
     literal-requires-2
     same-length

@@ -15,11 +15,11 @@ returns c = expiry-none (c .before .literal .ensures) (c .if1 .taken)
 number-requires : tie.Need-number-requires
 number-requires c κs = search needs
 
-put-long-requires : tie.Need-put-long-requires
-put-long-requires c κs = search needs
+put-u32-requires : tie.Need-put-u32-requires
+put-u32-requires c κs = search needs
 
-further-requires : tie.Need-further-requires
-further-requires c κs = search needs
+furthest-failure-requires : tie.Need-furthest-failure-requires
+furthest-failure-requires c κs = search needs
 
 same-length : tie.Need-same-length
 same-length c = search needs
@@ -35,7 +35,7 @@ expiry-spec =
     literal-requires
     returns
     number-requires
-    put-long-requires
-    further-requires
+    put-u32-requires
+    furthest-failure-requires
     same-length
     returns-2)

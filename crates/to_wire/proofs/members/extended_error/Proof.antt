@@ -13,8 +13,8 @@ literal-requires c κs = search needs
 number-requires : tie.Need-number-requires
 number-requires c κs = search needs
 
-put-word-requires : tie.Need-put-word-requires
-put-word-requires c κs = search needs
+put-u16-requires : tie.Need-put-u16-requires
+put-u16-requires c κs = search needs
 
 error-end-requires : tie.Need-error-end-requires
 error-end-requires c κs = search needs
@@ -32,7 +32,7 @@ extended-error-spec =
     slice-aggregate-literal
     literal-requires
     number-requires
-    put-word-requires
+    put-u16-requires
     error-end-requires
     same-length
     returns)

@@ -6,8 +6,8 @@ use Rattle.to_wire.proofs.members.member.Tie as tie
 member-name-requires : tie.Need-member-name-requires
 member-name-requires c κs = search needs
 
-known-requires : tie.Need-known-requires
-known-requires c κs =
+listed-option-requires : tie.Need-listed-option-requires
+listed-option-requires c κs =
     (search needs, name-word (c .before .before .before .member-name .ensures) (c .before .if1 .taken))
 
 slice-aggregate-literal : tie.Need-slice-aggregate-literal
@@ -16,8 +16,8 @@ slice-aggregate-literal c = search needs
 literal-requires : tie.Need-literal-requires
 literal-requires c κs = search needs
 
-further-requires : tie.Need-further-requires
-further-requires c κs = search needs
+furthest-failure-requires : tie.Need-furthest-failure-requires
+furthest-failure-requires c κs = search needs
 
 same-length : tie.Need-same-length
 same-length c = search needs
@@ -28,8 +28,8 @@ returns c = search (member-known, needs)
 other-requires : tie.Need-other-requires
 other-requires c κs = search needs
 
-further-requires-2 : tie.Need-further-requires-2
-further-requires-2 c κs = search needs
+furthest-failure-requires-2 : tie.Need-furthest-failure-requires-2
+furthest-failure-requires-2 c κs = search needs
 
 same-length-2 : tie.Need-same-length-2
 same-length-2 c = search needs
@@ -42,13 +42,13 @@ member-spec =
     tie.close
     (tie.spec
     member-name-requires
-    known-requires
+    listed-option-requires
     slice-aggregate-literal
     literal-requires
-    further-requires
+    furthest-failure-requires
     same-length
     returns
     other-requires
-    further-requires-2
+    furthest-failure-requires-2
     same-length-2
     returns-2)

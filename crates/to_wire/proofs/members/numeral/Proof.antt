@@ -7,8 +7,8 @@ use Rattle.to_wire.proofs.members.numeral.Tie as tie
 number-requires : tie.Need-number-requires
 number-requires c κs = search needs
 
-put-word-requires : tie.Need-put-word-requires
-put-word-requires c κs = search needs
+put-u16-requires : tie.Need-put-u16-requires
+put-u16-requires c κs = search needs
 
 same-length : tie.Need-same-length
 same-length c = search needs
@@ -16,8 +16,8 @@ same-length c = search needs
 returns : tie.Need-returns
 returns c = search (numeral-wide, needs)
 
-put-octet-requires : tie.Need-put-octet-requires
-put-octet-requires c κs = search needs
+put-u8-requires : tie.Need-put-u8-requires
+put-u8-requires c κs = search needs
 
 same-length-2 : tie.Need-same-length-2
 same-length-2 c = search needs
@@ -30,9 +30,9 @@ numeral-spec =
     tie.close
     (tie.spec
     number-requires
-    put-word-requires
+    put-u16-requires
     same-length
     returns
-    put-octet-requires
+    put-u8-requires
     same-length-2
     returns-2)

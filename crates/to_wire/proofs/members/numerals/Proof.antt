@@ -25,11 +25,11 @@ loop-holds c = search (numerals-start, needs)
 octet-at-requires : tie.Need-octet-at-requires Inv-loop μ-loop
 octet-at-requires c κs = search needs
 
-add-came : tie.Need-add-came Inv-loop μ-loop
-add-came c = search needs
+add-advance : tie.Need-add-advance Inv-loop μ-loop
+add-advance c = search needs
 
-came-requires : tie.Need-came-requires Inv-loop μ-loop
-came-requires c κs = search needs
+advance-requires : tie.Need-advance-requires Inv-loop μ-loop
+advance-requires c κs = search needs
 
 same-length : tie.Need-same-length Inv-loop μ-loop
 same-length c = search needs
@@ -70,8 +70,8 @@ numerals-spec =
     returns
     loop-holds
     octet-at-requires
-    add-came
-    came-requires
+    add-advance
+    advance-requires
     same-length
     returns-2
     comma-requires

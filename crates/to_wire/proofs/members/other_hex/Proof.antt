@@ -8,8 +8,8 @@ use Rattle.to_wire.proofs.members.other_hex.Tie as tie
 hex-requires : tie.Need-hex-requires
 hex-requires c κs = search needs
 
-hold-requires : tie.Need-hold-requires
-hold-requires c κs = search needs
+reserve-requires : tie.Need-reserve-requires
+reserve-requires c κs = search needs
 
 put-hex-requires : tie.Need-put-hex-requires
 put-hex-requires c κs = (hex-digits (c .before .before .before .hex .ensures), search needs)
@@ -17,14 +17,14 @@ put-hex-requires c κs = (hex-digits (c .before .before .before .hex .ensures), 
 other-fits-requires : tie.Need-other-fits-requires
 other-fits-requires c κs = search (hex-digits, needs)
 
-judge-requires : tie.Need-judge-requires
-judge-requires c κs = search needs
+demand-requires : tie.Need-demand-requires
+demand-requires c κs = search needs
 
 code-of-requires : tie.Need-code-of-requires
 code-of-requires c κs = search needs
 
-put-front-requires : tie.Need-put-front-requires
-put-front-requires c κs = search needs
+put-option-head-requires : tie.Need-put-option-head-requires
+put-option-head-requires c κs = search needs
 
 same-length : tie.Need-same-length
 same-length c = search needs
@@ -37,11 +37,11 @@ other-hex-spec =
     tie.close
     (tie.spec
     hex-requires
-    hold-requires
+    reserve-requires
     put-hex-requires
     other-fits-requires
-    judge-requires
+    demand-requires
     code-of-requires
-    put-front-requires
+    put-option-head-requires
     same-length
     returns)

@@ -21,8 +21,8 @@ returns c = search (padding-zeros, needs)
 padding-hex-requires : tie.Need-padding-hex-requires
 padding-hex-requires c κs = search needs
 
-further-requires : tie.Need-further-requires
-further-requires c κs = search needs
+furthest-failure-requires : tie.Need-furthest-failure-requires
+furthest-failure-requires c κs = search needs
 
 same-length-2 : tie.Need-same-length-2
 same-length-2 c = search needs
@@ -40,6 +40,6 @@ padding-end-spec =
     same-length
     returns
     padding-hex-requires
-    further-requires
+    furthest-failure-requires
     same-length-2
     returns-2)

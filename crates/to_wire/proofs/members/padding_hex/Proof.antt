@@ -19,8 +19,8 @@ put-hex-requires c κs = (hex-digits (c .before .hex .ensures), search needs)
 padding-fits-requires : tie.Need-padding-fits-requires
 padding-fits-requires c κs = search (hex-digits, needs)
 
-judge-requires : tie.Need-judge-requires
-judge-requires c κs = search needs
+demand-requires : tie.Need-demand-requires
+demand-requires c κs = search needs
 
 slice-aggregate-literal-2 : tie.Need-slice-aggregate-literal-2
 slice-aggregate-literal-2 c = search needs
@@ -43,7 +43,7 @@ padding-hex-spec =
     hex-requires
     put-hex-requires
     padding-fits-requires
-    judge-requires
+    demand-requires
     slice-aggregate-literal-2
     literal-requires-2
     same-length

@@ -6,8 +6,8 @@ use Rattle.to_wire.proofs.members.put_hex.Tie as tie
 size-of-requires : tie.Need-size-of-requires
 size-of-requires c κs = search needs
 
-hold-requires : tie.Need-hold-requires
-hold-requires c κs = search needs
+reserve-requires : tie.Need-reserve-requires
+reserve-requires c κs = search needs
 
 returns : tie.Need-returns
 returns c = search (hex-past, needs)
@@ -25,7 +25,7 @@ put-octets-requires : tie.Need-put-octets-requires
 put-octets-requires c κs =
     let m = c .before .before .before .before in (
       m .before .before .before .before .pre .0 .digits,
-      hex-room (m .before .size-of .ensures) (m .hold .ensures) (m .before .before .before .before .pre .0)
+      hex-room (m .before .size-of .ensures) (m .reserve .ensures) (m .before .before .before .before .pre .0)
           (c .before .before .if1 .left),
     )
 
@@ -40,7 +40,7 @@ put-hex-spec =
     tie.close
     (tie.spec
     size-of-requires
-    hold-requires
+    reserve-requires
     returns
     sub-put-octets
     part-put-octets-start

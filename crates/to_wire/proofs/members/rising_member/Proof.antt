@@ -13,11 +13,11 @@ literal-requires c κs = search needs
 member-requires : tie.Need-member-requires
 member-requires c κs = search needs
 
-cast-judge : tie.Need-cast-judge
-cast-judge c = search needs
+cast-demand : tie.Need-cast-demand
+cast-demand c = search needs
 
-judge-requires : tie.Need-judge-requires
-judge-requires c κs = search needs
+demand-requires : tie.Need-demand-requires
+demand-requires c κs = search needs
 
 same-length : tie.Need-same-length
 same-length c = search needs
@@ -32,7 +32,7 @@ rising-member-spec =
     slice-aggregate-literal
     literal-requires
     member-requires
-    cast-judge
-    judge-requires
+    cast-demand
+    demand-requires
     same-length
     returns)

@@ -38,8 +38,8 @@ word-list-requires c κs = search needs
 extended-error-requires : tie.Need-extended-error-requires
 extended-error-requires c κs = search needs
 
-stop-requires : tie.Need-stop-requires
-stop-requires c κs = search needs
+fail-at-requires : tie.Need-fail-at-requires
+fail-at-requires c κs = search needs
 
 same-length : tie.Need-same-length
 same-length c = search needs
@@ -115,7 +115,7 @@ returns-10 c = search (at-form, needs)
 returns-11 : tie.Need-returns-11
 unfolding rows
 returns-11 c = no-form (c .before .before .before .before .args .code) (no-row _ (c .before .match .rest))
-    (search needs) (c .stop .ensures)
+    (search needs) (c .fail-at .ensures)
 
 pub value-spec : {M : Type 1} → statement M
 value-spec =
@@ -131,7 +131,7 @@ value-spec =
     padding-requires
     word-list-requires
     extended-error-requires
-    stop-requires
+    fail-at-requires
     same-length
     returns
     same-length-2

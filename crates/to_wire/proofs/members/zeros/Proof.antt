@@ -5,14 +5,14 @@ use Rattle.to_wire.specs.Values.{zeros-past, zeros-put}
 use Rattle.to_wire.proofs.members.zeros.Statement.{statement}
 use Rattle.to_wire.proofs.members.zeros.Tie as tie
 
-hold-requires : tie.Need-hold-requires
-hold-requires c κs = search needs
+reserve-requires : tie.Need-reserve-requires
+reserve-requires c κs = search needs
 
 returns : tie.Need-returns
-returns c = zeros-past (c .before .before .hold .ensures) (c .if1 .taken)
+returns c = zeros-past (c .before .before .reserve .ensures) (c .if1 .taken)
 
 put-zeros-requires : tie.Need-put-zeros-requires
-put-zeros-requires c κs = omega (arith, held-room (c .before .before .before .hold .ensures) (c .before .if1 .left))
+put-zeros-requires c κs = omega (arith, held-room (c .before .before .before .reserve .ensures) (c .before .if1 .left))
 
 same-length : tie.Need-same-length
 same-length c = search needs
@@ -21,4 +21,4 @@ returns-2 : tie.Need-returns-2
 returns-2 c = search (zeros-put, needs)
 
 pub zeros-spec : {M : Type 1} → statement M
-zeros-spec = tie.close (tie.spec hold-requires returns put-zeros-requires same-length returns-2)
+zeros-spec = tie.close (tie.spec reserve-requires returns put-zeros-requires same-length returns-2)
