@@ -4,7 +4,7 @@ use native.Mathlib.Omega.{arith}
 use lib.ListN.{length}
 use borrow.Author.Needs.{needs}
 use Rattle.to_wire.specs.Sections.{Gathered, gathered-start, gathered-far, gathered-more, inside-stopped}
-use Rattle.to_wire.specs.Sections.{elements-end, inside-no}
+use Rattle.to_wire.specs.Sections.{inside-end, inside-no}
 use Rattle.to_wire.proofs.entries.elements.Statement.{statement}
 use Rattle.to_wire.proofs.entries.elements.Tie as tie
 
@@ -35,7 +35,7 @@ same-length : tie.Need-same-length Inv-loop μ-loop
 same-length c = search (c, needs)
 
 returns-2 : tie.Need-returns-2 Inv-loop μ-loop
-returns-2 c = search (elements-end, needs)
+returns-2 c = search (inside-end, needs)
 
 next-requires : tie.Need-next-requires Inv-loop μ-loop
 next-requires c κs = search needs

@@ -56,7 +56,7 @@ loop-less c =
       chars-far (m .before .before .before .before .before .loop .inv) (m .before .before .char-at .ensures)
           (m .if3 .left),
       c .before .before .add .ensures .emits .at,
-      c .before .before .add .ensures .advance .at,
+      c .before .before .add .ensures .came .at,
     )
 
 loop-again : tie.Need-loop-again Inv-loop μ-loop
