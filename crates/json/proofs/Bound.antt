@@ -122,7 +122,7 @@ below-power (suc n) = omega (arith, pow-suc 10 (suc n), below-power n)
 decimal-any : (n : ℕ) → Short (decimal n) (n + 1)
 decimal-any n = record { short = omega (arith, decimal-short n n (below-power n)) }
 
-hex-short : (l : List ℕ) → Short (hexText l) (2 * length l + 1)
+hex-short : (l : List ℕ) → Short (hexText l) (2 * length l + 2)
 unfolding hexText
 hex-short l = rw (each-ended hexOctet 34 l)
     (record { short = omega (arith, length-append (each hexOctet l) (34 ∷ []), each-hex-length l) })
@@ -156,14 +156,14 @@ labels-short (l ∷ n) =
       );
     }
 
-name-short : (n : Name) → Short (nameText n) (10 * length (nameForm n))
+name-short : (n : Name) → Short (nameText n) (10 * length (nameForm n) + 1)
 unfolding nameText nameForm
 name-short [] = record { short = omega arith }
-name-short (l ∷ n) = labels-short (l ∷ n)
+name-short (l ∷ n) = record { short = omega (arith, labels-short (l ∷ n) .short) }
 
-string-short : (l : List ℕ) → Short (stringText l) (10 * length l + 1)
+string-short : (l : List ℕ) → Short (stringText l) (10 * length l + 2)
 unfolding stringText stringOctet
-string-short l = octets-short stringOctet 34 octet l
+string-short l = record { short = omega (arith, octets-short stringOctet 34 octet l .short) }
   where
     octet : (x : ℕ) → length (stringOctet x) ≤ 5
     octet x = go (eqb x 34) (eqb x 92)
@@ -201,7 +201,7 @@ words-short l h =
 
 error-short : (l : List ℕ) → Short (errorTail (present l)) (10 * length l + 11)
 error-short [] = record { short = omega arith }
-error-short (x ∷ l) = record { short = omega (arith, (quote ",\"TEXT\":\"" ⊕ string-short (x ∷ l) ⊕ quote "}") .short) }
+error-short (x ∷ l) = record { short = omega (arith, (quote ",\"TEXT\":" ⊕ string-short (x ∷ l) ⊕ quote "}") .short) }
 
 -- the text of a value that has its form's shape
 abbrev Holds : (form : Form) → Option (Value form) → ℕ → Type 0
@@ -213,7 +213,7 @@ within b h k = record { short = omega (arith, h, k .short) }
 
 shape-short : (form : Form) (l : List ℕ) → Octets l → Holds form (shape form l) (10 * length l + 27)
 unfolding shape valueText
-shape-short hexObject l h = within _ (omega arith) (quote "{\"HEX\":\"" ⊕ hex-short l ⊕ quote "}")
+shape-short hexObject l h = within _ (omega arith) (quote "{\"HEX\":" ⊕ hex-short l ⊕ quote "}")
 shape-short octetList l h = within _ (omega arith) (numbers-short l h)
 shape-short expiry l h = go (eqb (length l) 0) (eqb (length l) 4)
   where
@@ -234,7 +234,7 @@ shape-short hexList l h = go (eqb (length l) 8) (leb 16 (length l) && leb (lengt
             hex-short (drop 8 l) .short,
             length-take 8 l,
             length-drop 8 l,
-            length-append (hexText (take 8 l)) (44 ∷ 34 ∷ (hexText (drop 8 l) ++ (93 ∷ []))),
+            length-append (hexText (take 8 l)) (44 ∷ (hexText (drop 8 l) ++ (93 ∷ []))),
             length-append (hexText (drop 8 l)) (93 ∷ []),
           );
         }
@@ -249,7 +249,7 @@ shape-short padding l h = go (all zero? l)
     go : (a : Bool) → Holds padding (some (length l, cond a none (some l))) (10 * length l + 27)
     go true = within _ (omega arith) (quote "{\"LENGTH\":" ⊕ decimal-any (length l) ⊕ quote "}")
     go false = within _ (omega arith)
-        (quote "{\"LENGTH\":" ⊕ decimal-any (length l) ⊕ (quote ",\"HEX\":\"" ⊕ hex-short l ⊕ quote "}"))
+        (quote "{\"LENGTH\":" ⊕ decimal-any (length l) ⊕ (quote ",\"HEX\":" ⊕ hex-short l ⊕ quote "}"))
 shape-short wordList l h = go (eqb (length l % 2) 0)
   where
     go : (a : Bool) → Holds wordList (cond a (some (words l)) none) (10 * length l + 27)
@@ -273,7 +273,7 @@ chosen-short : (code : ℕ) (l : List ℕ) → code < 65536 → (x : Option (Val
     → Holds (formOf code) x (10 * length l + 27) → Short (memberText (chosen code l x)) (10 * length l + 39)
 unfolding memberText
 chosen-short code l h none k =
-    within _ (omega arith) (quote "\"OPT" ⊕ decimal-five code h ⊕ quote "\":\"" ⊕ hex-short l)
+    within _ (omega arith) (quote "\"OPT" ⊕ decimal-five code h ⊕ quote "\":" ⊕ hex-short l)
 chosen-short code l h (some v) k = within _ (omega arith) (quote "\"" ⊕ members-short code ⊕ quote "\":" ⊕ k)
 
 member-short : (o : EdnsOption) → T (option? o) → length (44 ∷ memberText (memberOf o)) ≤ 10 * length (optionForm o)
@@ -305,7 +305,7 @@ question-short : (q : Question) → T (question? q) → length (questionText q) 
 unfolding questionText questionForm
 question-short q h =
     let (n, t, c) = question-parts q h in
-    let k = quote "{\"NAME\":\"" ⊕ name-short (q .name)
+    let k = quote "{\"NAME\":" ⊕ name-short (q .name)
     ⊕ quote ",\"TYPE\":" ⊕ decimal-five (q .type) t
     ⊕ quote ",\"CLASS\":" ⊕ decimal-five (q .class) c
     ⊕ quote "}" in
@@ -320,11 +320,11 @@ record-short : (r : Record) → T (record? r) → length (recordText (recordItem
 unfolding recordText recordItem
 record-short r h =
     let (n, t, c, l, o, z) = record-parts r h in
-    let k = quote "{\"NAME\":\"" ⊕ name-short (r .name)
+    let k = quote "{\"NAME\":" ⊕ name-short (r .name)
     ⊕ quote ",\"TYPE\":" ⊕ decimal-five (r .type) t
     ⊕ quote ",\"CLASS\":" ⊕ decimal-five (r .class) c
     ⊕ quote ",\"TTL\":" ⊕ signed-short (r .ttl) l
-    ⊕ quote ",\"RDATAHEX\":\"" ⊕ hex-short (r .rdata)
+    ⊕ quote ",\"RDATAHEX\":" ⊕ hex-short (r .rdata)
     ⊕ quote "}" in
     omega (arith, k .short, record-long r)
 

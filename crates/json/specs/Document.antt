@@ -38,18 +38,18 @@ pub record Document : Type 0 where
 -- ---- texts
 unfoldable pub questionText : Question → List ℕ
 questionText q =
-    ascii "{\"NAME\":\"" ++ nameText (q .name)
+    ascii "{\"NAME\":" ++ nameText (q .name)
     ++ ascii ",\"TYPE\":" ++ decimal (q .type)
     ++ ascii ",\"CLASS\":" ++ decimal (q .class)
     ++ ascii "}"
 
 unfoldable pub recordText : RecordItem → List ℕ
 recordText r =
-    ascii "{\"NAME\":\"" ++ nameText (r .name)
+    ascii "{\"NAME\":" ++ nameText (r .name)
     ++ ascii ",\"TYPE\":" ++ decimal (r .type)
     ++ ascii ",\"CLASS\":" ++ decimal (r .class)
     ++ ascii ",\"TTL\":" ++ signedText (r .ttl)
-    ++ ascii ",\"RDATAHEX\":\"" ++ hexText (r .rdata)
+    ++ ascii ",\"RDATAHEX\":" ++ hexText (r .rdata)
     ++ ascii "}"
 
 unfoldable pub itemText : Item → List ℕ

@@ -4,7 +4,7 @@ use mathlib.Core.List.{List, [], _∷_, _++_, map}
 use Prim.Native.Nat.{ℕ}
 use lib.ListN.{replicate}
 use Rattle.octets.specs.Decimal.{natural, positive, decimal}
-use Rattle.octets.specs.Hexadecimal.{hex, unhex, hexText}
+use Rattle.octets.specs.Hexadecimal.{hex, hexPairs, unhex, hexText}
 use Rattle.octets.specs.Codec.{tried}
 use Rattle.octets.specs.Lists.{ascii, lookup, rowText, key?, each}
 use Rattle.names.specs.Name.{name?, label?, nameForm}
@@ -22,8 +22,9 @@ use Rattle.strict.specs.Members.{value?, member?, optionOf, octetsOf}
 use Rattle.strict.specs.Parser.{parse, document, head, questionCodec, recordCodec, itemCodec, ednsElement}
 use Rattle.strict.specs.Parser.{optionMembers, member}
 use Rattle.strict.specs.Parser.{knownMember, otherMember, value, expiryNumber}
-use Rattle.strict.specs.Spelt.{name, label, spelledOctet, spelledAt, escape, ddd, leads?, coded-from?, coded?}
-use Rattle.strict.specs.Spelt.{signedNumber, string, stringChar, stringAt, bare?, quoted}
+use Rattle.strict.specs.Spelt.{name, rootOrLabels, label, spelledOctet, spelledAt, escape, ddd, leads?}
+use Rattle.strict.specs.Spelt.{coded-from?, coded?, signedNumber, string, stringChars, stringChar, stringAt}
+use Rattle.strict.specs.Spelt.{bare?, quoted}
 use Rattle.strict.specs.Reading.{reading}
 use Rattle.strict.specs.Meaning.{meaning, documentView, itemRecord, itemEdns, itemAdditional, unsigned, agrees?}
 use Rattle.strict.specs.Meaning.{counts?, ttl?, ednsItem?, item?}
@@ -60,5 +61,5 @@ samples =
 
 -- every row, computed
 pub samples-hold : map (λ (s : Sample). wireLine (s .line)) samples ≡ map (λ (s : Sample). s .answer) samples
-unfolding samples withinLine wireLine answerText refusalLine parse document head natural positive questionCodec recordCodec name label spelledOctet spelledAt escape ddd leads? coded-from? coded? plain? signedNumber hex unhex string stringChar stringAt bare? printable? quoted itemCodec ednsElement optionMembers member knownMember otherMember value expiryNumber tried members rows flags rcodes formOf lookup rowText decimal spelled stringOctet hexText reading meaning documentView itemRecord itemEdns itemAdditional unsigned agrees? counts? ttl? ednsItem? item? view? additionals? additional? settled? opt-entry? edns? option? header? question? record? name? label? nameForm rdataFits? walk nameFrom layouts layoutOf pieces rdataAt rising? divided optionsOf ednsOf key? shape words value? member? optionOf octetsOf within? small-rdata? small-option? small-options? messageOf recordOf ednsRecord optionForm each form headerForm questionForm recordForm
+unfolding samples withinLine wireLine answerText refusalLine parse document head natural positive questionCodec recordCodec name rootOrLabels label spelledOctet spelledAt escape ddd leads? coded-from? coded? plain? signedNumber hex hexPairs unhex string stringChars stringChar stringAt bare? printable? quoted itemCodec ednsElement optionMembers member knownMember otherMember value expiryNumber tried members rows flags rcodes formOf lookup rowText decimal spelled stringOctet hexText reading meaning documentView itemRecord itemEdns itemAdditional unsigned agrees? counts? ttl? ednsItem? item? view? additionals? additional? settled? opt-entry? edns? option? header? question? record? name? label? nameForm rdataFits? walk nameFrom layouts layoutOf pieces rdataAt rising? divided optionsOf ednsOf key? shape words value? member? optionOf octetsOf within? small-rdata? small-option? small-options? messageOf recordOf ednsRecord optionForm each form headerForm questionForm recordForm
 samples-hold = refl

@@ -1,16 +1,16 @@
 -- Octets in hexadecimal, in capitals.
 use mathlib.Core.Path.{_≡_, refl, sym, ap, subst}
-use mathlib.Core.Bool.{Bool, true, false, _&&_}
+use mathlib.Core.Bool.{Bool, true, false, not, _&&_}
 use mathlib.Core.List.{List, [], _∷_, _++_, head-eq-of-cons-eq}
 use Prim.Native.Nat.{ℕ, _+_, _-_, _*_, _/_, _%_, _<_, _≤_}
 use native.Mathlib.Omega.{arith}
 use borrow.Author.Tests.{ltb-false}
-use lib.Dec.{T, not-T, leb, ltb, leb→le, le→leb, lt→ltb, ltb→lt}
+use lib.Dec.{T, not-T, leb, ltb, eqb, leb→le, le→leb, lt→ltb, ltb→lt}
 use lib.Arith.{le→nltb}
 use Rattle.octets.specs.Lists.{All, Octets, ended}
 use Rattle.octets.specs.Bits.{is-true, is-false, both, and-left, and-right}
 use Rattle.octets.specs.Parsed.{Parsed, took, stuck, Holds, missed, found}
-use Rattle.octets.specs.Codec.{Avoids, Any, Codec, on, many, _⊗_}
+use Rattle.octets.specs.Codec.{Avoids, Any, Codec, fronts, on, many, _▷_, _⊗_}
 use Rattle.octets.specs.Decimal.{digit?, digit-in, digit-test}
 
 -- the digit of a number below 16
@@ -25,9 +25,9 @@ hexDigit n = hexOf (ltb n 10) n
 abbrev pub hexOctet : ℕ → List ℕ
 hexOctet x = hexDigit (x / 16) ∷ hexDigit (x % 16) ∷ []
 
--- octets, and the quote after them
+-- octets in hexadecimal, in quotes
 unfoldable pub hexText : List ℕ → List ℕ
-hexText = ended hexOctet 34
+hexText l = 34 ∷ ended hexOctet 34 l
 
 -- a digit from A to F
 abbrev pub capital? : ℕ → Bool
@@ -117,16 +117,28 @@ hexOctet-avoids y k x r s h e =
     let u = hexDigit-in (x / 16) (omega arith) .0 in
     let v = head-eq-of-cons-eq e in omega arith
 
--- octets in hexadecimal, and the quote
+-- digits in pairs, and the quote after them
+unfoldable pub hexPairs : Codec Octets (ended hexOctet 34) Any
+hexPairs = many (hexOctet-avoids 34 (omega arith)) (λ r. tt) (λ b r h. tt) octetCodec
+
+-- the same with the quote before them
 unfoldable pub hex : Codec Octets hexText Any
 unfolding hexText
-hex = many (hexOctet-avoids 34 (omega arith)) (λ r. tt) (λ b r h. tt) octetCodec
+hex = "\"" ▷ hexPairs
+
+-- it begins with its quote
+pub hexText-avoids : (y : ℕ) → T (not (eqb 34 y)) → Avoids Octets hexText y
+unfolding hexText
+hexText-avoids y k l r s h e = fronts k e
 
 -- every octet of the text is a visible ASCII character
 pub hexText-visible : (l : List ℕ) → Octets l → All (λ c. (32 ≤ c) × (c ≤ 126)) (hexText l)
 unfolding hexText
-hexText-visible [] h = ((omega arith, omega arith), tt)
-hexText-visible (x ∷ l) h = (digit (x / 16) (omega arith), (digit (x % 16) (omega arith), hexText-visible l (h .1)))
+hexText-visible l h = ((omega arith, omega arith), pairs l h)
   where
     digit : (n : ℕ) → n < 16 → (32 ≤ hexDigit n) × (hexDigit n ≤ 126)
     digit n h = let z = hexDigit-in n h in (omega arith, omega arith)
+
+    pairs : (l : List ℕ) → Octets l → All (λ c. (32 ≤ c) × (c ≤ 126)) (ended hexOctet 34 l)
+    pairs [] h = ((omega arith, omega arith), tt)
+    pairs (x ∷ l) h = (digit (x / 16) (omega arith), (digit (x % 16) (omega arith), pairs l (h .1)))

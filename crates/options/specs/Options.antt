@@ -79,25 +79,21 @@ Value unlisted = Unit {0}
 -- the rest of an object: its end, or one more member
 abbrev pub paddingTail : Option (List ℕ) → List ℕ
 paddingTail none = ascii "}"
-paddingTail (some hex) = ascii ",\"HEX\":\"" ++ hexText hex ++ ascii "}"
+paddingTail (some hex) = ascii ",\"HEX\":" ++ hexText hex ++ ascii "}"
 
 abbrev pub errorTail : Option (List ℕ) → List ℕ
 errorTail none = ascii "}"
-errorTail (some text) = ascii ",\"TEXT\":\"" ++ stringText text ++ ascii "}"
+errorTail (some text) = ascii ",\"TEXT\":" ++ stringText text ++ ascii "}"
 
 abbrev pub expiryText : Option ℕ → List ℕ
 expiryText none = ascii "\"NONE\""
 expiryText (some n) = decimal n
 
--- a hex string
-abbrev pub hexString : List ℕ → List ℕ
-hexString hex = 34 ∷ hexText hex
-
 unfoldable pub valueText : (form : Form) → Value form → List ℕ
-valueText hexObject hex = ascii "{\"HEX\":\"" ++ hexText hex ++ ascii "}"
+valueText hexObject hex = ascii "{\"HEX\":" ++ hexText hex ++ ascii "}"
 valueText octetList l = listed decimal l
 valueText expiry n = expiryText n
-valueText hexList l = listed hexString l
+valueText hexList l = listed hexText l
 valueText word n = decimal n
 valueText padding p = ascii "{\"LENGTH\":" ++ decimal (p .0) ++ paddingTail (p .1)
 valueText wordList l = listed decimal l
@@ -154,4 +150,4 @@ memberOf o = chosen (o .code) (o .value) (shape (formOf (o .code)) (o .value))
 -- the text of a member
 unfoldable pub memberText : Member → List ℕ
 memberText (known code v) = ascii "\"" ++ rowText code members ++ ascii "\":" ++ valueText (formOf code) v
-memberText (other code hex) = ascii "\"OPT" ++ decimal code ++ ascii "\":\"" ++ hexText hex
+memberText (other code hex) = ascii "\"OPT" ++ decimal code ++ ascii "\":" ++ hexText hex

@@ -194,8 +194,9 @@ module _ {t : List ℕ} {c : Cursor} where
   pub hex-determined : {r s : Span} → HexRead t c r → HexRead t c s → r ≡ s
   hex-determined {r} {s} x y =
       let e = one-cursor (x .found) (y .found) (x .keeps) (y .keeps) in
-      let b : r .from ≡ s .from = both-are (x .from) (y .from) in
-      let d : r .end ≡ s .end = omega (arith, x .end, y .end, ap (λ (z : Cursor). z .at) e) in
+      let o = ap (λ (z : Cursor). z .at) (literal-determined (x .opened) (y .opened)) in
+      let b : r .from ≡ s .from = x .from ∙ o ∙ sym (y .from) in
+      let d : r .end ≡ s .end = omega (arith, x .end, y .end, o, ap (λ (z : Cursor). z .at) e) in
       λ i. record { cursor = e i; from = b i; end = d i }
 
   pub row-determined : {p : List ℕ → Parsed ℕ} {r s : Row} → RowRead p t c r → RowRead p t c s → r ≡ s

@@ -1,4 +1,4 @@
--- Hexadecimal digits two by two, up to the quote: how a reader goes through them.
+-- Hexadecimal digits two by two, in quotes: how a reader goes through them.
 use mathlib.Core.Path.{_≡_, refl, sym, _∙_, ap, subst}
 use mathlib.Core.Bool.{Bool, true, false, not}
 use mathlib.Core.List.{List, [], _∷_, _++_, append-nil}
@@ -15,13 +15,13 @@ use Rattle.octets.specs.Codec.{Avoids}
 use Rattle.octets.specs.Overlay.{each-append, each-single}
 use Rattle.octets.specs.Decimal.{digit?, digit-in}
 use Rattle.octets.specs.Hexadecimal.{hexDigit, hexDigit-in, hexOctet, capital?, unhex, unhex-back, octetCodec}
-use Rattle.octets.specs.Hexadecimal.{hexOctet-avoids, hex}
+use Rattle.octets.specs.Hexadecimal.{hexOctet-avoids, hexPairs, hex}
 use Rattle.octets.specs.Fields.{drop-one}
 use Rattle.parse_tokens.specs.declared.Cursor.{Cursor}
 use Rattle.parse_tokens.specs.declared.Span.{Span}
 use Rattle.parse_tokens.specs.Cursor.{left-of, rest, Safe, Keeps, keeps-same, keeps-then, Passed, Came, Stopped}
 use Rattle.parse_tokens.specs.Cursor.{went-keeps, Finds, stopped, taken, clash}
-use Rattle.parse_tokens.specs.Step.{Found, found-stuck, moves}
+use Rattle.parse_tokens.specs.Step.{Found, found-stuck, found-lit, moves}
 use Rattle.parse_tokens.specs.Many.{run-of, Going, going-start, going-more, going-stop, many-once}
 use Rattle.parse_tokens.specs.Leaf.{found-stop, stays-at, strip-at-once, strip-first}
 
@@ -33,15 +33,39 @@ pub record HexRun (t : List ℕ) (r : Span) (l : List ℕ) : Type 0 where
   pub within : r .end ≤ length t
   pub long : r .end ≡ r .from + 2 * length l
 
--- octets were read; where the reader stopped, those before that. Between `from` and `end` are the whole pairs of digits
--- from c's place to the reader's.
-pub record HexRead (t : List ℕ) (c : Cursor) (r : Span) : Type 0 where
-  pub found : Found (hex .parse) (HexRun t r) t c (r .cursor)
+-- octets and the quote after them were read; where the reader stopped, those before that. Between `from` and `end` are
+-- the whole pairs of digits from c's place to the reader's.
+pub record PairsRead (t : List ℕ) (c : Cursor) (r : Span) : Type 0 where
+  pub found : Found (hexPairs .parse) (HexRun t r) t c (r .cursor)
   pub keeps : Keeps t c (r .cursor)
   pub from : r .from ≡ c .at
   pub end : r .end ≡ c .at + (r .cursor .at - c .at) / 2 * 2
   pub so-far : List ℕ
   pub run : HexRun t r so-far
+
+-- the same with the quote before them, which leads to `start`
+pub record HexRead (t : List ℕ) (c : Cursor) (r : Span) : Type 0 where
+  pub start : Cursor
+  pub opened : Passed (34 ∷ []) t c start
+  pub found : Found (hex .parse) (HexRun t r) t c (r .cursor)
+  pub keeps : Keeps t c (r .cursor)
+  pub from : r .from ≡ start .at
+  pub end : r .end ≡ start .at + (r .cursor .at - start .at) / 2 * 2
+  pub so-far : List ℕ
+  pub run : HexRun t r so-far
+
+pub hex-opened : {t : List ℕ} {c o : Cursor} {r : Span} → Passed (34 ∷ []) t c o → PairsRead t o r → HexRead t c r
+unfolding hex
+hex-opened {o = o} q x = record {
+  start = o;
+  opened = q;
+  found = found-lit q (x .found);
+  keeps = keeps-then (q .keeps) (x .keeps);
+  from = x .from;
+  end = x .end;
+  so-far = x .so-far;
+  run = x .run;
+}
 
 -- ---- one digit
 -- x is the digit of n
@@ -214,8 +238,8 @@ module _ {t : List ℕ} {c : Cursor} {at : ℕ} (w : Pairs t c at) where
   module _ {b : Bool} (p : HexAt t at b) where
     -- no digit: the quote, or the reader stops there
     pub pairs-close : {r : Cursor} → Safe t c → not (c .spelled) ≡ false → not b ≡ true → Quoted t c at r
-        → HexRead t c (record { cursor = r; from = c .at; end = at })
-    unfolding hex
+        → PairsRead t c (record { cursor = r; from = c .at; end = at })
+    unfolding hexPairs
     pairs-close {r} f g k q = record {
       found = record {
         reads = rw (
@@ -251,8 +275,8 @@ module _ {t : List ℕ} {c : Cursor} {at : ℕ} (w : Pairs t c at) where
       module _ {e : Bool} (q : HexAt t (at + 1) e) where
         -- a digit, and no second one
         pub pairs-half : {r : Cursor} → Safe t c → not (c .spelled) ≡ false → not e ≡ true → Stopped c (at + 1) r
-            → HexRead t c (record { cursor = r; from = c .at; end = at })
-        unfolding hex
+            → PairsRead t c (record { cursor = r; from = c .at; end = at })
+        unfolding hexPairs
         pairs-half f g h s = record {
           found = found-stop f (not-false (c .spelled) g)
               (going-stop octetCodec 34 no-quote no-octet (w .goes)
@@ -296,10 +320,10 @@ module _ {t : List ℕ} {c : Cursor} {at : ℕ} (w : Pairs t c at) where
             }
 
 -- a reader that has stopped
-pub hex-stuck : {t : List ℕ} {c : Cursor} → Safe t c → not (c .spelled) ≡ true
-    → HexRead t c (record { cursor = c; from = c .at; end = c .at })
-hex-stuck {t} {c} h g = record {
-  found = found-stuck (hex .parse) t c h (not-true (c .spelled) g);
+pub pairs-stuck : {t : List ℕ} {c : Cursor} → Safe t c → not (c .spelled) ≡ true
+    → PairsRead t c (record { cursor = c; from = c .at; end = c .at })
+pairs-stuck {t} {c} h g = record {
+  found = found-stuck (hexPairs .parse) t c h (not-true (c .spelled) g);
   keeps = keeps-same h;
   from = refl;
   end = omega arith;

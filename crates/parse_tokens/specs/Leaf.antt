@@ -2,15 +2,15 @@
 use mathlib.Core.Path.{_≡_, refl, sym, _∙_, ap, subst}
 use mathlib.Core.Bool.{Bool, true, false, cond}
 use mathlib.Core.List.{List, [], _∷_, _++_}
-use Prim.Native.Nat.{ℕ, _≤_}
+use Prim.Native.Nat.{ℕ, _+_, _≤_}
 use native.Mathlib.Omega.{arith}
 use lib.Dec.{eqb}
-use lib.ListN.{length, drop}
+use lib.ListN.{length, drop, length-append, length-drop}
 use Rattle.octets.specs.Parsed.{Parsed, took, stuck, and-then, strip, strip-sound, strip-back, held, took≢stuck}
 use Rattle.parse_tokens.specs.declared.Cursor.{Cursor}
 use Rattle.parse_tokens.specs.Cursor.{left-of, Safe, Passed, Came, Stopped, went-keeps, Finds, stopped, taken}
-use Rattle.parse_tokens.specs.Cursor.{reads-took, reads-stop}
-use Rattle.parse_tokens.specs.Step.{then-then, Found, moves, found-lit}
+use Rattle.parse_tokens.specs.Cursor.{reads-took, reads-stop, reads-as}
+use Rattle.parse_tokens.specs.Step.{then-then, Found, moves, found-lit, Put, put-from}
 
 module _ {A : Type 0} {P : A → Type 0} {p : List ℕ → Parsed A} {t : List ℕ} {c r : Cursor} where
   -- it took a value, and came to place n
@@ -61,8 +61,44 @@ module _ {l t : List ℕ} {c r : Cursor} (q : Passed l t c r) where
       go true e = sym e
       go false e = absurd (took≢stuck e)
 
+  -- how far it went on
+  pub passed-place : r .spelled ≡ true → r .at ≡ c .at + length l
+  passed-place g =
+      let e = ap length (held (strip-sound l (drop (c .at) t)) (passed-took g)) in
+      omega (
+        arith,
+        e,
+        length-append l (drop (r .at) t),
+        length-drop (c .at) t,
+        length-drop (r .at) t,
+        q .keeps .safe .inside,
+        q .keeps .onward,
+      )
+
   pub passed-stop : r .spelled ≡ false → c .spelled ≡ true → strip l (drop (c .at) t) ≡ stuck (drop (r .at) t)
   passed-stop g h = sym (rw (g, h) at (q .left))
+
+-- the quote, and a value after it; the place where that ends tells whether it is empty
+pub found-quoted : {A : Type 0} {ok empty : A → Bool} {wire : A → List ℕ} {p : List ℕ → Parsed A} {t b b′ : List ℕ}
+    {c o r : Cursor} (k : ℕ) → Passed (34 ∷ []) t c o
+    → Found p (λ a. Put ok wire o b r b′ a × (empty a ≡ eqb (r .at) (o .at + k))) t o r
+    → Found (λ w. and-then (strip (34 ∷ []) w) (λ u r. p r))
+    (λ a. Put ok wire c b r b′ a × (empty a ≡ eqb (r .at) (c .at + (k + 1)))) t c r
+found-quoted {A} {ok} {empty} {wire} {p} {t} {b} {b′} {c} {o} {r} k q x =
+    found-lit q record { reads = go (o .spelled) refl (x .reads); moves = x .moves }
+  where
+    Told : Cursor → ℕ → A → Type 0
+    Told c k a = Put ok wire c b r b′ a × (empty a ≡ eqb (r .at) (c .at + k))
+
+    same : {w : List ℕ} → Finds t (Told o k) r (stuck w) → Finds t (Told c (k + 1)) r (stuck w)
+    same (stopped g) = stopped g
+
+    go : (d : Bool) → o .spelled ≡ d → Finds t (Told o k) r (and-then (left-of d (drop (o .at) t)) (λ u w. p w))
+        → Finds t (Told c (k + 1)) r (and-then (left-of d (drop (o .at) t)) (λ u w. p w))
+    go true e y =
+        let f : o .at + k ≡ c .at + (k + 1) = omega (arith, passed-place q e) in
+        reads-as y λ a h. (put-from (q .keeps) (h .0), h .1 ∙ ap (eqb (r .at)) f)
+    go false e y = same y
 
 -- fixed octets in two parts, taken at once
 strip-append : (l m w : List ℕ) → strip (l ++ m) w ≡ and-then (strip l w) (λ u r. strip m r)

@@ -17,7 +17,7 @@ ghost use Rattle.parse_tokens.specs.Items.{comma-of};
 ghost use Rattle.parse_tokens.specs.Choice.{Further};
 ghost use Rattle.parse_tokens.specs.Number.{capped, NumberRead, TillRead, PositiveRead, NoNumber, DigitOf};
 ghost use Rattle.parse_tokens.specs.Signed.{SignedRead, Plus, Minus};
-ghost use Rattle.parse_tokens.specs.Hex.{HexTest, HexAt, Quoted, HexRead};
+ghost use Rattle.parse_tokens.specs.Hex.{HexTest, HexAt, Quoted, PairsRead, HexRead};
 ghost use Rattle.parse_tokens.specs.Table.{triedIn};
 ghost use Rattle.parse_tokens.specs.Rows.{RowRead};
 ghost use Rattle.parse_tokens.specs.Fields.{NumberPut, TtlPut};
@@ -415,9 +415,9 @@ fn quote(text: &[u8], c: Cursor, at: usize) -> Cursor
 }
 
 // Digits in pairs, and the quote after them. On a stop, the pairs before it.
-pub fn hex(text: &[u8], c: Cursor) -> Span
+fn pairs(text: &[u8], c: Cursor) -> Span
     requires { ⌜ Safe (now text) c ⌝ }
-    ensures { λ r. ⌜ HexRead (now (text .entry)) c r ⌝ }
+    ensures { λ r. ⌜ PairsRead (now (text .entry)) c r ⌝ }
 {
     let from = c.at;
     if !c.spelled {
@@ -447,6 +447,15 @@ pub fn hex(text: &[u8], c: Cursor) -> Span
         }
         at += 2;
     }
+}
+
+// Digits in pairs, in quotes. On a stop, the pairs before it.
+pub fn hex(text: &[u8], c: Cursor) -> Span
+    requires { ⌜ Safe (now text) c ⌝ }
+    ensures { λ r. ⌜ HexRead (now (text .entry)) c r ⌝ }
+{
+    let open = literal(text, c, b"\"");
+    pairs(text, open)
 }
 
 // A title of a table that was read, and its key. On a stop the key is 0.

@@ -45,7 +45,7 @@ use Rattle.print_entry.specs.declared.Element.the-variants as element
 
 -- ---- a record as it is
 -- the quote after RDATA and the brace after it are one text
-quote-brace : (t d : List ℕ) → t ++ hexText d ++ ascii "}" ≡ t ++ each hexOctet d ++ ascii "\"}"
+quote-brace : (t d : List ℕ) → t ++ hexText d ++ ascii "}" ≡ t ++ ascii "\"" ++ each hexOctet d ++ ascii "\"}"
 unfolding hexText
 quote-brace t d = rw (each-ended hexOctet 34 d) (simp append-assoc)
 
@@ -60,18 +60,18 @@ module _ (s form : List ℕ) (h : Head) {b₁ b₂ : List ℕ} {n₁ : ℕ} {r :
       (rdataText s (h .kind) (h .rdata) (h .rdlength)) k)
       (ap (hexOfRdata (h .rdata + h .rdlength)) u)
 
-  pub ordinary-prints : {b b₃ : List ℕ} {to n₂ n₃ : ℕ}
-      → Wrote b to (fieldsText form (h .kind) (h .class) (h .ttl)) b₁ n₁ → r ≡ To n₂
+  pub ordinary-prints : {b b₀ b₃ : List ℕ} {to n₀ n₂ n₃ : ℕ}
+      → Wrote b to (fieldsText form (h .kind) (h .class) (h .ttl)) b₀ n₀ → Wrote b₀ n₀ (34 ∷ []) b₁ n₁ → r ≡ To n₂
       → Wrote b₂ n₂ (34 ∷ 125 ∷ []) b₃ n₃ → Prints (ordinaryText s form h) b to b₃ (h .rdata + h .rdlength) n₃
   unfolding ordinaryText rdataText digitsIf
-  ordinary-prints p e v =
+  ordinary-prints p o e v =
       let fields = fieldsText form (h .kind) (h .class) (h .ttl) in
       let (d, u, w) = puts-laid s (h .kind) (h .rdata) (h .rdlength) q e in
       record {
         text = fields ++ hexText d ++ ascii "}";
         reads = ap (λ (x : layout.Laid). texts (λ t. fields ++ t ++ ascii "}") (hexOfRdata (h .rdata + h .rdlength) x))
             u;
-        wrote = rw (quote-brace fields d) (then (then p w) v);
+        wrote = rw (quote-brace fields d) (then (then (then p o) w) v);
       }
 
 -- the texts of a record's parts
@@ -80,7 +80,7 @@ record-parts : (r : Record) → Sized (r .name)
     ++ ascii "}"
 unfolding recordText recordItem fieldsText
 record-parts r h =
-    ap (λ (t : List ℕ). t ++ ascii ",\"TTL\":" ++ signedText (signed (r .ttl)) ++ ascii ",\"RDATAHEX\":\""
+    ap (λ (t : List ℕ). t ++ ascii ",\"TTL\":" ++ signedText (signed (r .ttl)) ++ ascii ",\"RDATAHEX\":"
     ++ hexText (r .rdata) ++ ascii "}") (front-text (r .name) (r .type) (r .class) h)
 
 ordinary-text : (s : List ℕ) (k : HeadOf) → Sized (k .name)

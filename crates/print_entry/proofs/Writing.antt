@@ -35,7 +35,7 @@ use Rattle.print_entry.specs.Elements.{startText, fieldsText, questionTe
 
 -- ---- the first members
 pub wrote-start : (form : List ℕ) (type class : ℕ) {b b₁ b₂ b₃ b₄ : List ℕ} {at r₁ r₂ r₃ r₄ : ℕ}
-    → Wrote b at (ascii "{\"NAME\":\"") b₁ r₁ → Wrote b₁ r₁ (formText form) b₂ r₂
+    → Wrote b at (ascii "{\"NAME\":") b₁ r₁ → Wrote b₁ r₁ (formText form) b₂ r₂
     → Wrote b₂ r₂ (numberText (ascii ",\"TYPE\":") type) b₃ r₃
     → Wrote b₃ r₃ (numberText (ascii ",\"CLASS\":") class) b₄ r₄ → Wrote b at (startText form type class) b₄ r₄
 unfolding startText
@@ -43,7 +43,7 @@ wrote-start form type class p q u v = then (then (then p q) u) v
 
 pub wrote-fields : (form : List ℕ) (type class ttl : ℕ) {b b₁ b₂ b₃ b₄ : List ℕ} {at r₁ r₂ r₃ r₄ : ℕ}
     → Wrote b at (startText form type class) b₁ r₁ → Wrote b₁ r₁ (ascii ",\"TTL\":") b₂ r₂
-    → Wrote b₂ r₂ (signedText (signed ttl)) b₃ r₃ → Wrote b₃ r₃ (ascii ",\"RDATAHEX\":\"") b₄ r₄
+    → Wrote b₂ r₂ (signedText (signed ttl)) b₃ r₃ → Wrote b₃ r₃ (ascii ",\"RDATAHEX\":") b₄ r₄
     → Wrote b at (fieldsText form type class ttl) b₄ r₄
 unfolding fieldsText
 wrote-fields form type class ttl p q u v = then (then (then p q) u) v
@@ -63,7 +63,7 @@ sized-text [] h = refl
 sized-text (l ∷ n) h =
     let some = h .0 in
     let e = ne-eqb (length l) 0 (omega arith) in
-    rw e (rw e at (name-labels (l ∷ n) h))
+    rw e (ap (λ t. 34 ∷ t) (rw e at (name-labels (l ∷ n) h)))
 
 -- a name that is read has the sizes of one
 begun-sized : (s widths : List ℕ) (at : ℕ) (n : Name) (next : ℕ) → begunAt s at widths ≡ named n next → Sized n
@@ -117,17 +117,17 @@ head-sized s at h next e = begun-entry (λ (h : HeadOf). h .name) s (2 ∷ 2 ∷
 -- ---- questions
 -- the texts that a question and a record begin with
 front : (t u v : List ℕ)
-    → ascii "{\"NAME\":\"" ++ t ++ ascii ",\"TYPE\":" ++ u ++ ascii ",\"CLASS\":" ++ v ≡ ascii "{\"NAME\":\"" ++ t
+    → ascii "{\"NAME\":" ++ t ++ ascii ",\"TYPE\":" ++ u ++ ascii ",\"CLASS\":" ++ v ≡ ascii "{\"NAME\":" ++ t
     ++ (ascii ",\"TYPE\":" ++ u) ++ (ascii ",\"CLASS\":" ++ v)
 front t u v = simp append-assoc
 
 pub front-text : (n : Name) (type class : ℕ) → Sized n
-    → ascii "{\"NAME\":\"" ++ nameText n ++ ascii ",\"TYPE\":" ++ decimal type ++ ascii ",\"CLASS\":"
+    → ascii "{\"NAME\":" ++ nameText n ++ ascii ",\"TYPE\":" ++ decimal type ++ ascii ",\"CLASS\":"
     ++ decimal class ≡ startText (nameForm n) type class
 unfolding startText numberText
 front-text n type class h =
     front (nameText n) (decimal type) (decimal class)
-    ∙ ap (λ (t : List ℕ). ascii "{\"NAME\":\"" ++ t ++ (ascii ",\"TYPE\":" ++ decimal type)
+    ∙ ap (λ (t : List ℕ). ascii "{\"NAME\":" ++ t ++ (ascii ",\"TYPE\":" ++ decimal type)
     ++ (ascii ",\"CLASS\":" ++ decimal class)) (sym (sized-text n h))
 
 question-parts : (q : Question) → Sized (q .name)

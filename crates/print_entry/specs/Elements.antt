@@ -25,13 +25,13 @@ use Rattle.print_entry.specs.declared.Element.the-variants as element
 -- ---- parts of elements
 -- NAME by the name's form, TYPE, CLASS
 unfoldable pub startText : List ℕ → ℕ → ℕ → List ℕ
-startText form type class = ascii "{\"NAME\":\"" ++ formText form ++ numberText (ascii ",\"TYPE\":") type
+startText form type class = ascii "{\"NAME\":" ++ formText form ++ numberText (ascii ",\"TYPE\":") type
     ++ numberText (ascii ",\"CLASS\":") class
 
--- a record up to the quote before its RDATA
+-- a record up to its RDATA
 unfoldable pub fieldsText : List ℕ → ℕ → ℕ → ℕ → List ℕ
 fieldsText form type class ttl = startText form type class ++ ascii ",\"TTL\":" ++ signedText (signed ttl)
-    ++ ascii ",\"RDATAHEX\":\""
+    ++ ascii ",\"RDATAHEX\":"
 
 -- RDATA that ends at an offset
 abbrev pub hexOfRdata : ℕ → Laid → Entry (List ℕ)

@@ -41,22 +41,22 @@ fn put_start(out: &mut [u8], to: usize, form: &[u8], kind: u32, class: u32) -> u
     ensures { λ r. ⌜ Wrote (now (out .entry)) to (startText (now (form .entry)) kind class) (now (out .exit)) r ⌝ }
     ensures { λ r. ⌜ r ≤ to + 1326 ⌝ }
 {
-    let title = put_all(out, to, b"{\"NAME\":\"");
+    let title = put_all(out, to, b"{\"NAME\":");
     let name = put_name(out, title, form);
     let number = put_number(out, name, b",\"TYPE\":", kind);
     put_number(out, number, b",\"CLASS\":", class)
 }
 
-// Writes a record up to the quote before its RDATA.
+// Writes a record up to its RDATA.
 fn put_fields(out: &mut [u8], to: usize, form: &[u8], kind: u32, class: u32, ttl: u32) -> usize
     requires { ⌜ (to < 2 ^ 36) × (length (now form) ≤ 255) ⌝ }
     ensures { λ r. ⌜ Wrote (now (out .entry)) to (fieldsText (now (form .entry)) kind class ttl) (now (out .exit)) r ⌝ }
-    ensures { λ r. ⌜ r ≤ to + 1357 ⌝ }
+    ensures { λ r. ⌜ r ≤ to + 1356 ⌝ }
 {
     let start = put_start(out, to, form, kind, class);
     let title = put_all(out, start, b",\"TTL\":");
     let number = put_signed(out, title, ttl);
-    put_all(out, number, b",\"RDATAHEX\":\"")
+    put_all(out, number, b",\"RDATAHEX\":")
 }
 
 // Writes a record as it is, by its owner's form and its fields.
@@ -68,7 +68,8 @@ fn put_ordinary(s: &[u8], form: &[u8], head: Head, out: &mut [u8], to: usize) ->
     ensures { λ r. ⌜ r ≤ to + 2419 + 2 * head .rdlength ⌝ }
 {
     let fields = put_fields(out, to, form, head.kind, head.class, head.ttl);
-    let rdata = put_rdata(s, head.kind, head.rdata, head.rdlength, true, out, fields);
+    let open = put(out, fields, b'"');
+    let rdata = put_rdata(s, head.kind, head.rdata, head.rdlength, true, out, open);
     let RdataEnd::To(end) = rdata else {
         // not reached
         return to;

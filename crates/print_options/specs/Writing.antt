@@ -51,16 +51,16 @@ module _ (v : List ℕ) where
 module _ (v : List ℕ) {b b′ : List ℕ} {at r : ℕ} where
   -- no row, or not the shape
   pub other-is : (code : ℕ) {b₁ b₂ : List ℕ} {r₁ r₂ : ℕ} → Wrote b at (ascii "\"OPT") b₁ r₁
-      → Wrote b₁ r₁ (decimal code) b₂ r₂ → Wrote b₂ r₂ (ascii "\":\"" ++ hexText v) b′ r
+      → Wrote b₁ r₁ (decimal code) b₂ r₂ → Wrote b₂ r₂ (ascii "\":" ++ hexText v) b′ r
       → Wrote b at (memberText (other code v)) b′ r
   unfolding memberText
   other-is code p q s =
-      let e : ascii "\"OPT" ++ decimal code ++ ascii "\":\"" ++ hexText v ≡ ascii "\"OPT" ++ decimal code
-      ++ (ascii "\":\"" ++ hexText v) = simp append-assoc in
+      let e : ascii "\"OPT" ++ decimal code ++ ascii "\":" ++ hexText v ≡ ascii "\"OPT" ++ decimal code
+      ++ (ascii "\":" ++ hexText v) = simp append-assoc in
       rw e (then (then p q) s)
 
   -- NSID
-  pub nsid-is : {b₁ : List ℕ} {r₁ : ℕ} → Wrote b at (ascii "\"NSID\":{\"HEX\":\"" ++ hexText v) b₁ r₁
+  pub nsid-is : {b₁ : List ℕ} {r₁ : ℕ} → Wrote b at (ascii "\"NSID\":{\"HEX\":" ++ hexText v) b₁ r₁
       → Wrote b₁ r₁ (ascii "}") b′ r → Wrote b at (optionText 3 v) b′ r
   unfolding lookup rowText rows members formOf shape valueText memberOf memberText
   nsid-is p q = then p q
@@ -89,14 +89,14 @@ module _ (v : List ℕ) {b b′ : List ℕ} {at r : ℕ} where
   expire-is s h f p q = rw (expire-four v s h, ← f) (then p q)
 
   -- COOKIE
-  pub cookie-client : {b₁ : List ℕ} {r₁ : ℕ} → length v ≡ 8 → Wrote b at (ascii "\"COOKIE\":[\"" ++ hexText v) b₁ r₁
+  pub cookie-client : {b₁ : List ℕ} {r₁ : ℕ} → length v ≡ 8 → Wrote b at (ascii "\"COOKIE\":[" ++ hexText v) b₁ r₁
       → Wrote b₁ r₁ (ascii "]") b′ r → Wrote b at (optionText 10 v) b′ r
   unfolding lookup rowText rows members formOf shape valueText memberOf memberText
   cookie-client e p q = rw e (then p q)
 
   pub cookie-both : {b₁ b₂ : List ℕ} {r₁ r₂ : ℕ} → Shaped 10 v → (length v ≡ 8 → ⊥)
-      → Wrote b at (ascii "\"COOKIE\":[\"" ++ hexText (take 8 v)) b₁ r₁
-      → Wrote b₁ r₁ (ascii ",\"" ++ hexText (take (length v - 8) (drop 8 v))) b₂ r₂ → Wrote b₂ r₂ (ascii "]") b′ r
+      → Wrote b at (ascii "\"COOKIE\":[" ++ hexText (take 8 v)) b₁ r₁
+      → Wrote b₁ r₁ (ascii "," ++ hexText (take (length v - 8) (drop 8 v))) b₂ r₂ → Wrote b₂ r₂ (ascii "]") b′ r
       → Wrote b at (optionText 10 v) b′ r
   unfolding lookup rowText rows members formOf shape valueText memberOf memberText
   cookie-both f e p q s =
@@ -105,7 +105,7 @@ module _ (v : List ℕ) {b b′ : List ℕ} {at r : ℕ} where
         ne-eqb _ _ e,
         le-leb _ _ h,
         le-leb _ _ k,
-        ← (append-assoc (hexText (take 8 v)) (ascii ",\"" ++ hexText (drop 8 v)) (ascii "]")),
+        ← (append-assoc (hexText (take 8 v)) (ascii "," ++ hexText (drop 8 v)) (ascii "]")),
       )
       (then (then p (rw (rest-is 8 v) at q)) s)
 
@@ -125,7 +125,7 @@ module _ (v : List ℕ) {b b′ : List ℕ} {at r : ℕ} where
 
   pub padding-is : {t : Bool} {b₁ b₂ b₃ : List ℕ} {r₁ r₂ r₃ : ℕ} → t ≡ false → t ≡ all zero? v
       → Wrote b at (ascii "\"PADDING\":{\"LENGTH\":") b₁ r₁ → Wrote b₁ r₁ (decimal (length v)) b₂ r₂
-      → Wrote b₂ r₂ (ascii ",\"HEX\":\"" ++ hexText v) b₃ r₃ → Wrote b₃ r₃ (ascii "}") b′ r
+      → Wrote b₂ r₂ (ascii ",\"HEX\":" ++ hexText v) b₃ r₃ → Wrote b₃ r₃ (ascii "}") b′ r
       → Wrote b at (optionText 12 v) b′ r
   unfolding lookup rowText rows members formOf shape valueText memberOf memberText
   padding-is e f p q s u = rw (← f, e) (then (then p q) (then s u))

@@ -28,7 +28,7 @@ fn put_other(out: &mut [u8], at: usize, code: u32, value: &[u8]) -> usize
 {
     let mut next = put_all(out, at, b"\"OPT");
     next = put_decimal(out, next, code);
-    put_hex_text(out, next, b"\":\"", value)
+    put_hex_text(out, next, b"\":", value)
 }
 
 // NSID
@@ -37,7 +37,7 @@ fn put_nsid(out: &mut [u8], at: usize, value: &[u8]) -> usize
     ensures { λ r. ⌜ Wrote (now (out .entry)) at (optionText 3 (now (value .entry))) (now (out .exit)) r ⌝ }
     ensures { λ r. ⌜ r ≤ at + 4 * length (now (value .entry)) + 64 ⌝ }
 {
-    let next = put_hex_text(out, at, b"\"NSID\":{\"HEX\":\"", value);
+    let next = put_hex_text(out, at, b"\"NSID\":{\"HEX\":", value);
     put(out, next, b'}')
 }
 
@@ -72,11 +72,11 @@ fn put_cookie(out: &mut [u8], at: usize, value: &[u8]) -> usize
     ensures { λ r. ⌜ r ≤ at + 4 * length (now (value .entry)) + 64 ⌝ }
 {
     if value.len() == 8 {
-        let next = put_hex_text(out, at, b"\"COOKIE\":[\"", value);
+        let next = put_hex_text(out, at, b"\"COOKIE\":[", value);
         return put(out, next, b']');
     }
-    let mut next = put_hex_text(out, at, b"\"COOKIE\":[\"", &value[0..8]);
-    next = put_hex_text(out, next, b",\"", &value[8..value.len()]);
+    let mut next = put_hex_text(out, at, b"\"COOKIE\":[", &value[0..8]);
+    next = put_hex_text(out, next, b",", &value[8..value.len()]);
     put(out, next, b']')
 }
 
@@ -101,7 +101,7 @@ fn put_padding(out: &mut [u8], at: usize, value: &[u8]) -> usize
     if all_zero(value, false) {
         return put(out, next, b'}');
     }
-    next = put_hex_text(out, next, b",\"HEX\":\"", value);
+    next = put_hex_text(out, next, b",\"HEX\":", value);
     put(out, next, b'}')
 }
 

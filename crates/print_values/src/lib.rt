@@ -17,13 +17,14 @@ ghost use Rattle.octets.specs.Overlay.{Wrote};
 ghost use Rattle.options.specs.Options.{present, errorTail};
 ghost use Rattle.print_values.specs.Entries.{Width, numbers, numberAt};
 
-// Writes octets in hexadecimal: the text up to the quote before them, their digits and the quote after.
+// Writes `head`, and after it octets in hexadecimal, in quotes.
 pub fn put_hex_text(out: &mut [u8], at: usize, head: &[u8], src: &[u8]) -> usize
     requires { ⌜ (at < 2 ^ 39) × (length (now head) < 32) × (length (now src) < 65536) ⌝ }
     ensures { λ r. ⌜ Wrote (now (out .entry)) at (now (head .entry) ++ hexText (now (src .entry))) (now (out .exit)) r ⌝ }
-    ensures { λ r. ⌜ r ≡ at + length (now (head .entry)) + 2 * length (now (src .entry)) + 1 ⌝ }
+    ensures { λ r. ⌜ r ≡ at + length (now (head .entry)) + 2 * length (now (src .entry)) + 2 ⌝ }
 {
     let mut next = put_all(out, at, head);
+    next = put(out, next, b'"');
     next = put_hex(out, next, src);
     put(out, next, b'"')
 }
@@ -70,7 +71,7 @@ pub fn put_error_tail(out: &mut [u8], at: usize, text: &[u8]) -> usize
     if text.len() == 0 {
         return put(out, at, b'}');
     }
-    let mut next = put_all(out, at, b",\"TEXT\":\"");
+    let mut next = put_all(out, at, b",\"TEXT\":");
     next = put_string(out, next, text);
     put(out, next, b'}')
 }

@@ -34,10 +34,10 @@ octets-right = refl
 -- octets of names: the root, labels, a dot and a quote within a label; a label cut short
 unfoldable pub forms : List (List ℕ × String)
 forms =
-    (hexed "00", ".\"")
-    ∷ (hexed "016100", "a.\"")
-    ∷ (hexed "03612E6202222000", "a\\\\.b.\\\\034\\\\032.\"")
-    ∷ (hexed "036162", "ab.\"")
+    (hexed "00", "\".\"")
+    ∷ (hexed "016100", "\"a.\"")
+    ∷ (hexed "03612E6202222000", "\"a\\\\.b.\\\\034\\\\032.\"")
+    ∷ (hexed "036162", "\"ab.\"")
     ∷ []
 
 pub forms-right : Right formText forms
@@ -54,7 +54,7 @@ ttls-right = refl
 
 -- strings
 unfoldable pub strings : List (List ℕ × String)
-strings = ([], "\"") ∷ (ascii "a\"b\\c.", "a\\\"b\\\\c.\"") ∷ []
+strings = ([], "\"\"") ∷ (ascii "a\"b\\c.", "\"a\\\"b\\\\c.\"") ∷ []
 
 pub strings-right : Right stringText strings
 unfolding strings stringText stringOctet

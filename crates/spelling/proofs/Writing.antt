@@ -77,10 +77,11 @@ pub wrote-label : (l : List ℕ) {b b₁ b₂ : List ℕ} {at r₁ r₂ i : ℕ}
 unfolding labelText
 wrote-label l h p q = wrote-ended spelled 46 l h p q
 
-pub wrote-string : (l : List ℕ) {b b₁ b₂ : List ℕ} {at r₁ r₂ i : ℕ} → length l ≤ i
-    → Wrote b at (each stringOctet (take i l)) b₁ r₁ → Wrote b₁ r₁ (34 ∷ []) b₂ r₂ → Wrote b at (stringText l) b₂ r₂
+pub wrote-string : (l : List ℕ) {b b₁ b₂ b₃ : List ℕ} {at r₁ r₂ r₃ i : ℕ} → length l ≤ i → Wrote b at (34 ∷ []) b₁ r₁
+    → Wrote b₁ r₁ (each stringOctet (take i l)) b₂ r₂ → Wrote b₂ r₂ (34 ∷ []) b₃ r₃
+    → Wrote b at (stringText l) b₃ r₃
 unfolding stringText
-wrote-string l h p q = wrote-ended stringOctet 34 l h p q
+wrote-string l h o p q = then o (wrote-ended stringOctet 34 l h p q)
 
 -- ---- an octet of a string
 pub wrote-quote : {x : ℕ} {b b′ : List ℕ} {at r : ℕ} → x ≡ 34 → Wrote b at (ascii "\\\"") b′ r
@@ -113,42 +114,43 @@ wrote-minus {n} h k p q =
     rw (le-ltb n 2147483648 h, e) (then p q)
 
 -- ---- a name
--- the writer of a name is at a length octet or at the end: what is written and the text from there on are the whole
+-- after the quote, the writer of a name is at a length octet or at the end: what it wrote since and the text from there
+-- on are the rest
 pub record Begun (form b : List ℕ) (at : ℕ) (b′ : List ℕ) (to i : ℕ) : Type 0 where
   pub done : List ℕ
   pub wrote : Wrote b at done b′ to
-  pub text : formText form ≡ done ++ labels (drop i form)
+  pub text : formText form ≡ 34 ∷ (done ++ labels (drop i form))
 
 -- before the first label
 pub begun-start : (form b : List ℕ) (at : ℕ) → (getD form 0 0 ≡ 0 → ⊥) → Begun form b at b at 0
 begun-start form b at z = record { done = []; wrote = nothing b at; text = form-labels form z }
 
--- the text from there on, written
-begun-rest : {form b b₁ b₂ : List ℕ} {at to r i : ℕ} → Begun form b at b₁ to i → Wrote b₁ to (labels (drop i form)) b₂ r
-    → Wrote b at (formText form) b₂ r
-begun-rest g v = rw (g .text) (then (g .wrote) v)
+-- the quote, and the text from there on
+begun-rest : {form b b₁ b₂ b₃ : List ℕ} {at r₁ to r₃ i : ℕ} → Wrote b at (34 ∷ []) b₁ r₁ → Begun form b₁ r₁ b₂ to i
+    → Wrote b₂ to (labels (drop i form)) b₃ r₃ → Wrote b at (formText form) b₃ r₃
+begun-rest q g v = rw (g .text) (then q (then (g .wrote) v))
 
 -- no octets; the root alone
-pub wrote-empty : (form : List ℕ) {b b′ : List ℕ} {at r : ℕ} → length form ≡ 0 → Wrote b at (34 ∷ []) b′ r
-    → Wrote b at (formText form) b′ r
+pub wrote-empty : (form : List ℕ) {b b₁ b₂ : List ℕ} {at r₁ r₂ : ℕ} → length form ≡ 0 → Wrote b at (34 ∷ []) b₁ r₁
+    → Wrote b₁ r₁ (34 ∷ []) b₂ r₂ → Wrote b at (formText form) b₂ r₂
 unfolding formText
-wrote-empty [] e v = v
-wrote-empty (x ∷ s) e v = absurd (omega arith)
+wrote-empty [] e q v = then q v
+wrote-empty (x ∷ s) e q v = absurd (omega arith)
 
-pub wrote-root : (form : List ℕ) {b b′ : List ℕ} {at r : ℕ} → (length form ≡ 0 → ⊥) → getD form 0 0 ≡ 0
-    → Wrote b at (ascii ".\"") b′ r → Wrote b at (formText form) b′ r
+pub wrote-root : (form : List ℕ) {b b₁ b₂ : List ℕ} {at r₁ r₂ : ℕ} → (length form ≡ 0 → ⊥) → getD form 0 0 ≡ 0
+    → Wrote b at (34 ∷ []) b₁ r₁ → Wrote b₁ r₁ (ascii ".\"") b₂ r₂ → Wrote b at (formText form) b₂ r₂
 unfolding formText
-wrote-root [] h e v = absurd (h refl)
-wrote-root (x ∷ s) h e v = rw (eq-eqb x 0 e) v
+wrote-root [] h e q v = absurd (h refl)
+wrote-root (x ∷ s) h e q v = rw (eq-eqb x 0 e) (then q v)
 
 -- at the end, at the root octet
 labels-end : (s : List ℕ) (i : ℕ) → length s ≤ i → labels (drop i s) ≡ 34 ∷ []
 unfolding labels
 labels-end s i h = rw (drop-of-length-le s h)
 
-pub begun-end : {form b b₁ b₂ : List ℕ} {at to r i : ℕ} → Begun form b at b₁ to i → length form ≤ i
-    → Wrote b₁ to (34 ∷ []) b₂ r → Wrote b at (formText form) b₂ r
-begun-end {form} {i = i} g h v = begun-rest g (rw (labels-end form i h) v)
+pub begun-end : {form b b₁ b₂ b₃ : List ℕ} {at r₁ to r₃ i : ℕ} → Wrote b at (34 ∷ []) b₁ r₁ → Begun form b₁ r₁ b₂ to i
+    → length form ≤ i → Wrote b₂ to (34 ∷ []) b₃ r₃ → Wrote b at (formText form) b₃ r₃
+begun-end {form} {i = i} q g h v = begun-rest q g (rw (labels-end form i h) v)
 
 labels-root : (s : List ℕ) (i : ℕ) → i < length s → getD s i 0 ≡ 0 → labels (drop i s) ≡ 34 ∷ []
 unfolding labels
@@ -156,8 +158,9 @@ labels-root s i h e = rw (drop-one s i h, e)
 
 module _ {form b b₁ : List ℕ} {at to i n : ℕ} (g : Begun form b at b₁ to i) (h : i < length form)
     (e : n ≡ getD form i 0) where
-  pub begun-root : {b₂ : List ℕ} {r : ℕ} → n ≡ 0 → Wrote b₁ to (34 ∷ []) b₂ r → Wrote b at (formText form) b₂ r
-  begun-root z v = begun-rest g (rw (labels-root form i h (sym e ∙ z)) v)
+  pub begun-root : {b₀ b₂ : List ℕ} {at₀ r : ℕ} → n ≡ 0 → Wrote b₀ at₀ (34 ∷ []) b at → Wrote b₁ to (34 ∷ []) b₂ r
+      → Wrote b₀ at₀ (formText form) b₂ r
+  begun-root z q v = begun-rest q g (rw (labels-root form i h (sym e ∙ z)) v)
 
   -- a label, and what follows it
   module _ (z : n ≡ 0 → ⊥) where
@@ -179,12 +182,12 @@ module _ {form b b₁ : List ℕ} {at to i n : ℕ} (g : Begun form b at b₁ to
         }
 
     -- a label that the octets end in
-    pub begun-cut : {b₂ b₃ : List ℕ} {r₂ r₃ : ℕ} → length form - (i + 1) < n
+    pub begun-cut : {b₀ b₂ b₃ : List ℕ} {at₀ r₂ r₃ : ℕ} → length form - (i + 1) < n → Wrote b₀ at₀ (34 ∷ []) b at
         → Wrote b₁ to (labelText (take (length form - (i + 1)) (drop (i + 1) form))) b₂ r₂ → Wrote b₂ r₂ (34 ∷ []) b₃ r₃
-        → Wrote b at (formText form) b₃ r₃
-    begun-cut k v w =
+        → Wrote b₀ at₀ (formText form) b₃ r₃
+    begun-cut k q v w =
         let l = length-drop (i + 1) form in
         let c : take n (drop (i + 1) form) ≡ take (length form - (i + 1)) (drop (i + 1) form) =
         take-all n (drop (i + 1) form) (omega arith)
         ∙ sym (take-all (length form - (i + 1)) (drop (i + 1) form) (omega arith)) in
-        begun-rest g (rw (label-next, c, labels-end form (i + 1 + n) (omega arith)) (then v w))
+        begun-rest q g (rw (label-next, c, labels-end form (i + 1 + n) (omega arith)) (then v w))

@@ -1,5 +1,5 @@
 -- The text of a name from its octets without pointers.
-use mathlib.Core.Path.{_≡_, refl}
+use mathlib.Core.Path.{_≡_, refl, ap}
 use mathlib.Core.Bool.{cond}
 use mathlib.Core.List.{List, [], _∷_, _++_, append-assoc, append-nil}
 use Prim.Native.Nat.{ℕ, zero, suc}
@@ -25,10 +25,10 @@ unfoldable pub labels : List ℕ → List ℕ
 labels [] = 34 ∷ []
 labels (x ∷ s) = cond (eqb x 0) (34 ∷ []) (within s x)
 
--- the whole: the root alone is `.`
+-- the whole in quotes: the root alone is `.`
 unfoldable pub formText : List ℕ → List ℕ
-formText [] = 34 ∷ []
-formText (x ∷ s) = cond (eqb x 0) (ascii ".\"") (within s x)
+formText [] = ascii "\"\""
+formText (x ∷ s) = 34 ∷ cond (eqb x 0) (ascii ".\"") (within s x)
 
 -- a label's octets, and then the labels after it
 pub within-label : (s : List ℕ) (left : ℕ) → within s left ≡ labelText (take left s) ++ labels (drop left s)
@@ -61,14 +61,14 @@ form-text-more [] r h = refl
 form-text-more (l ∷ n) r h =
     let some = name-sized (l ∷ n) h .0 in
     let e = ne-eqb (length l) 0 (omega arith) in
-    rw e (rw e at (labels-text (l ∷ n) r (name-sized (l ∷ n) h)))
+    rw e (ap (λ t. 34 ∷ t) (rw e at (labels-text (l ∷ n) r (name-sized (l ∷ n) h))))
 
 -- and alone
 pub form-text : (n : Name) → T (name? n) → formText (nameForm n) ≡ nameText n
 form-text n h = rw append-nil at (form-text-more n [] h)
 
--- but for the root alone, the text from the first length octet on is the whole
-pub form-labels : (s : List ℕ) → (getD s 0 0 ≡ 0 → ⊥) → formText s ≡ labels s
+-- but for the root alone, the quote and the text from the first length octet on are the whole
+pub form-labels : (s : List ℕ) → (getD s 0 0 ≡ 0 → ⊥) → formText s ≡ 34 ∷ labels s
 unfolding formText labels
 form-labels [] z = refl
 form-labels (x ∷ s) z = rw (ne-eqb x 0 z)

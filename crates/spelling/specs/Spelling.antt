@@ -27,9 +27,9 @@ spelled x =
 unfoldable pub labelText : List ℕ → List ℕ
 labelText label = ended spelled 46 label
 
--- a name and the quote after it: each label with its dot; the root is `.`
+-- a name in quotes: each label with its dot; the root is `.`
 unfoldable pub nameText : Name → List ℕ
-nameText name = cond (none? name) (ascii ".\"") (ended labelText 34 name)
+nameText name = 34 ∷ cond (none? name) (ascii ".\"") (ended labelText 34 name)
 
 -- ---- signed numbers
 pub data Signed : Type 0 where
@@ -54,6 +54,6 @@ printable? x = leb 32 x && leb x 126
 unfoldable pub stringOctet : ℕ → List ℕ
 stringOctet x = cond (eqb x 34) (ascii "\\\"") (cond (eqb x 92) (ascii "\\\\") (x ∷ []))
 
--- a string's octets and the quote after them
+-- a string in quotes
 unfoldable pub stringText : List ℕ → List ℕ
-stringText l = ended stringOctet 34 l
+stringText l = 34 ∷ ended stringOctet 34 l

@@ -65,20 +65,20 @@ fn put_label(out: &mut [u8], at: usize, label: &[u8], table: &[u8; 256]) -> usiz
     put(out, to, 46)
 }
 
-// Writes the name whose octets without pointers are `form`, and the quote after it.
+// Writes the name whose octets without pointers are `form`, in quotes.
 pub fn put_name(out: &mut [u8], at: usize, form: &[u8]) -> usize
     requires { ⌜ (at < 2 ^ 38) × (length (now form) ≤ 255) ⌝ }
     ensures { λ r. ⌜ Wrote (now (out .entry)) at (formText (now (form .entry))) (now (out .exit)) r ⌝ }
-    ensures { λ r. ⌜ r ≤ at + 1280 ⌝ }
+    ensures { λ r. ⌜ r ≤ at + 1281 ⌝ }
 {
+    let mut to = put(out, at, 34);
     if form.len() == 0 {
-        return put(out, at, 34);
+        return put(out, to, 34);
     }
     if form[0] == 0 {
-        return put_all(out, at, b".\"");
+        return put_all(out, to, b".\"");
     }
     let table = widths();
-    let mut to = at;
     let mut i = 0;
     while i < form.len() {
         let n = wide(form[i]);
@@ -125,13 +125,13 @@ fn put_string_octet(out: &mut [u8], at: usize, x: u8) -> usize
     put(out, at, x)
 }
 
-// Writes the octets of a string and the quote after them.
+// Writes a string in quotes.
 pub fn put_string(out: &mut [u8], at: usize, src: &[u8]) -> usize
-    requires { ⌜ at + 2 * length (now src) + 1 < 2 ^ 40 ⌝ }
+    requires { ⌜ at + 2 * length (now src) + 2 < 2 ^ 40 ⌝ }
     ensures { λ r. ⌜ Wrote (now (out .entry)) at (stringText (now (src .entry))) (now (out .exit)) r ⌝ }
-    ensures { λ r. ⌜ r ≤ at + 2 * length (now (src .entry)) + 1 ⌝ }
+    ensures { λ r. ⌜ r ≤ at + 2 * length (now (src .entry)) + 2 ⌝ }
 {
-    let mut to = at;
+    let mut to = put(out, at, 34);
     let mut i = 0;
     while i < src.len() {
         to = put_string_octet(out, to, src[i]);

@@ -3,7 +3,7 @@ use mathlib.Core.Path.{_≡_, refl}
 use mathlib.Core.List.{List, [], _∷_, _++_, map}
 use Prim.Native.Nat.{ℕ}
 use Rattle.octets.specs.Decimal.{natural, positive, decimal}
-use Rattle.octets.specs.Hexadecimal.{hex, unhex, hexText}
+use Rattle.octets.specs.Hexadecimal.{hex, hexPairs, unhex, hexText}
 use Rattle.octets.specs.Codec.{tried}
 use Rattle.octets.specs.Lists.{ascii, lookup, rowText, key?, each}
 use Rattle.octets.specs.Answer.{Output, output, refused}
@@ -22,8 +22,9 @@ use Rattle.json.specs.Limits.{within?, small-rdata?, small-options?}
 use Rattle.strict.specs.Members.{value?, member?, optionOf, octetsOf}
 use Rattle.strict.specs.Parser.{parse, document, head, questionCodec, recordCodec, itemCodec, ednsElement}
 use Rattle.strict.specs.Parser.{optionMembers, member, knownMember, otherMember, value, expiryNumber}
-use Rattle.strict.specs.Spelt.{name, label, spelledOctet, spelledAt, escape, ddd, leads?, coded-from?, coded?}
-use Rattle.strict.specs.Spelt.{signedNumber, string, stringChar, stringAt, bare?, quoted}
+use Rattle.strict.specs.Spelt.{name, rootOrLabels, label, spelledOctet, spelledAt, escape, ddd, leads?}
+use Rattle.strict.specs.Spelt.{coded-from?, coded?, signedNumber, string, stringChars, stringChar, stringAt}
+use Rattle.strict.specs.Spelt.{bare?, quoted}
 use Rattle.strict.specs.Reading.{reading}
 use Rattle.strict.specs.Meaning.{meaning, documentView, itemRecord, itemEdns, itemAdditional, unsigned, agrees?}
 use Rattle.strict.specs.Meaning.{counts?, ttl?, ednsItem?, item?}
@@ -611,5 +612,5 @@ readings =
 -- every row, computed
 pub readings-hold : map (λ (r : Reading). outcome (reading (r .text))) readings ≡ map
     (λ (r : Reading). r .gives) readings
-unfolding readings parse document head natural positive questionCodec recordCodec name label spelledOctet spelledAt escape ddd leads? coded-from? coded? plain? signedNumber hex unhex string stringChar stringAt bare? printable? quoted itemCodec ednsElement optionMembers member knownMember otherMember value expiryNumber tried members rows flags rcodes formOf lookup rowText decimal spelled stringOctet hexText reading meaning documentView itemRecord itemEdns itemAdditional unsigned agrees? counts? ttl? ednsItem? item? view? additionals? additional? settled? opt-entry? edns? option? header? question? record? name? label? nameForm rdataFits? walk nameFrom layouts layoutOf pieces rdataAt rising? divided optionsOf ednsOf key? shape words value? member? optionOf octetsOf within? small-rdata? small-option? small-options? messageOf recordOf ednsRecord optionForm each form headerForm questionForm recordForm
+unfolding readings parse document head natural positive questionCodec recordCodec name rootOrLabels label spelledOctet spelledAt escape ddd leads? coded-from? coded? plain? signedNumber hex hexPairs unhex string stringChars stringChar stringAt bare? printable? quoted itemCodec ednsElement optionMembers member knownMember otherMember value expiryNumber tried members rows flags rcodes formOf lookup rowText decimal spelled stringOctet hexText reading meaning documentView itemRecord itemEdns itemAdditional unsigned agrees? counts? ttl? ednsItem? item? view? additionals? additional? settled? opt-entry? edns? option? header? question? record? name? label? nameForm rdataFits? walk nameFrom layouts layoutOf pieces rdataAt rising? divided optionsOf ednsOf key? shape words value? member? optionOf octetsOf within? small-rdata? small-option? small-options? messageOf recordOf ednsRecord optionForm each form headerForm questionForm recordForm
 readings-hold = refl

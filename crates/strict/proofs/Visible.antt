@@ -17,7 +17,7 @@ use Rattle.spelling.specs.Spelling.{plain?, three-digits, spelled, labelText, n
 use Rattle.spelling.specs.Spelling.{printable?, stringOctet, stringText}
 use Rattle.options.specs.Options.{rows, members, Form, hexObject, octetList, expiry, hexList, word, padding, wordList}
 use Rattle.options.specs.Options.{extendedError, unlisted, formOf, Value}
-use Rattle.options.specs.Options.{paddingTail, errorTail, expiryText, hexString, valueText, Member, known, other}
+use Rattle.options.specs.Options.{paddingTail, errorTail, expiryText, valueText, Member, known, other}
 use Rattle.options.specs.Options.{memberText}
 use Rattle.edns.specs.Edns.{rcodes, EdnsItem, flags, ednsText}
 use Rattle.json.specs.Document.{RecordItem, Item, ordinary, edns, Document, questionText, recordText, itemText}
@@ -113,7 +113,7 @@ label-seen l h = ended-seen spelled 46 (quote "." tt) spelled-seen l (h .0)
 
 name-seen : (n : Name) → Labels n → Seen (nameText n)
 unfolding nameText
-name-seen n h = go (none? n)
+name-seen n h = quote "\"" tt ⊕ go (none? n)
   where
     go : (b : Bool) → Seen (cond b (ascii ".\"") (ended labelText 34 n))
     go true = quote ".\"" tt
@@ -121,7 +121,7 @@ name-seen n h = go (none? n)
 
 string-seen : (l : List ℕ) → StringIn l → Seen (stringText l)
 unfolding stringText stringOctet
-string-seen l h = ended-seen stringOctet 34 (quote "\"" tt) octet l h
+string-seen l h = quote "\"" tt ⊕ ended-seen stringOctet 34 (quote "\"" tt) octet l h
   where
     go : (x : ℕ) (a b : Bool) → T (printable? x) → Seen (cond a (ascii "\\\"") (cond b (ascii "\\\\") (x ∷ [])))
     go x true b h = quote "\\\"" tt
@@ -134,11 +134,11 @@ string-seen l h = ended-seen stringOctet 34 (quote "\"" tt) octet l h
 -- ---- options
 padding-seen : (n : Option (List ℕ)) → Maybe Octets n → Seen (paddingTail n)
 padding-seen none h = quote "}" tt
-padding-seen (some l) h = quote ",\"HEX\":\"" tt ⊕ hex-seen l h ⊕ quote "}" tt
+padding-seen (some l) h = quote ",\"HEX\":" tt ⊕ hex-seen l h ⊕ quote "}" tt
 
 error-seen : (n : Option (List ℕ)) → Maybe StringIn n → Seen (errorTail n)
 error-seen none h = quote "}" tt
-error-seen (some l) h = quote ",\"TEXT\":\"" tt ⊕ string-seen l h ⊕ quote "}" tt
+error-seen (some l) h = quote ",\"TEXT\":" tt ⊕ string-seen l h ⊕ quote "}" tt
 
 expiry-seen : (n : Option ℕ) → Seen (expiryText n)
 expiry-seen none = quote "\"NONE\"" tt
@@ -146,10 +146,10 @@ expiry-seen (some n) = decimal-seen n
 
 value-seen : (form : Form) (v : Value form) → ValueIn form v → Seen (valueText form v)
 unfolding valueText
-value-seen hexObject v h = quote "{\"HEX\":\"" tt ⊕ hex-seen v h ⊕ quote "}" tt
+value-seen hexObject v h = quote "{\"HEX\":" tt ⊕ hex-seen v h ⊕ quote "}" tt
 value-seen octetList v h = listed-seen decimal (λ n k. decimal-seen n) v h
 value-seen expiry v h = expiry-seen v
-value-seen hexList v h = listed-seen hexString (λ l k. quote "\"" tt ⊕ hex-seen l k) v h
+value-seen hexList v h = listed-seen hexText hex-seen v h
 value-seen word v h = decimal-seen v
 value-seen padding v h = quote "{\"LENGTH\":" tt ⊕ decimal-seen (v .0) ⊕ padding-seen (v .1) (h .1)
 value-seen wordList v h = listed-seen decimal (λ n k. decimal-seen n) v h
@@ -160,13 +160,13 @@ member-seen : (m : Member) → MemberIn m → Seen (memberText m)
 unfolding memberText members rows
 member-seen (known code v) h =
     quote "\"" tt ⊕ textOf-seen members tt code ⊕ quote "\":" tt ⊕ value-seen (formOf code) v (h .1)
-member-seen (other n l) h = quote "\"OPT" tt ⊕ decimal-seen n ⊕ quote "\":\"" tt ⊕ hex-seen l (h .1)
+member-seen (other n l) h = quote "\"OPT" tt ⊕ decimal-seen n ⊕ quote "\":" tt ⊕ hex-seen l (h .1)
 
 -- ---- the document
 question-seen : (q : Question) → QuestionIn q → Seen (questionText q)
 unfolding questionText
 question-seen q h =
-    quote "{\"NAME\":\"" tt ⊕ name-seen (q .name) (h .0)
+    quote "{\"NAME\":" tt ⊕ name-seen (q .name) (h .0)
     ⊕ quote ",\"TYPE\":" tt ⊕ decimal-seen (q .type)
     ⊕ quote ",\"CLASS\":" tt ⊕ decimal-seen (q .class)
     ⊕ quote "}" tt
@@ -174,11 +174,11 @@ question-seen q h =
 record-seen : (r : RecordItem) → RecordIn r → Seen (recordText r)
 unfolding recordText
 record-seen r h =
-    quote "{\"NAME\":\"" tt ⊕ name-seen (r .name) (h .0)
+    quote "{\"NAME\":" tt ⊕ name-seen (r .name) (h .0)
     ⊕ quote ",\"TYPE\":" tt ⊕ decimal-seen (r .type)
     ⊕ quote ",\"CLASS\":" tt ⊕ decimal-seen (r .class)
     ⊕ quote ",\"TTL\":" tt ⊕ signed-seen (r .ttl)
-    ⊕ quote ",\"RDATAHEX\":\"" tt ⊕ hex-seen (r .rdata) (h .1 .1 .1 .1)
+    ⊕ quote ",\"RDATAHEX\":" tt ⊕ hex-seen (r .rdata) (h .1 .1 .1 .1)
     ⊕ quote "}" tt
 
 edns-seen : (e : EdnsItem) → EdnsIn e → Seen (ednsText e)

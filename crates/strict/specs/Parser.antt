@@ -14,7 +14,7 @@ use Rattle.octets.specs.Codec.{Avoids, Any, Codec, fronts, unique, whole, whole
 use Rattle.octets.specs.Codec.{weaken, ranged, only, many, array, pair-by}
 use Rattle.octets.specs.Codec.{tried, apart?, apart-texts, distinct, table, _▷_, _◁_, _⊗_}
 use Rattle.octets.specs.Decimal.{decimal, NoDigit, natural, number, number-avoids, decimal-avoids, till}
-use Rattle.octets.specs.Hexadecimal.{hexText, unhex, hex}
+use Rattle.octets.specs.Hexadecimal.{hexText, unhex, hexPairs, hex, hexText-avoids}
 use Rattle.records.specs.Message.{Header}
 use Rattle.spelling.specs.Spelling.{plain?, stringText}
 use Rattle.options.specs.Options.{rows, members, Form, hexObject, octetList, expiry, hexList, word, padding, wordList}
@@ -26,7 +26,7 @@ use Rattle.json.specs.Document.{headText, documentText}
 use Rattle.strict.specs.Grammar.{Number, QuestionIn, RecordIn, Maybe, ValueIn, MemberIn, EdnsIn, ItemIn}
 use Rattle.strict.specs.Grammar.{DocumentIn}
 use Rattle.strict.specs.Spelt.{made, kinds, coded?, coded-from?, leads?, ddd, escape, spelledAt, spelledOctet}
-use Rattle.strict.specs.Spelt.{label, name, signedNumber, string}
+use Rattle.strict.specs.Spelt.{label, rootOrLabels, name, signedNumber, string}
 
 -- ---- values of options
 -- a text that ends by itself may stand before anything
@@ -76,25 +76,25 @@ numbered {A} {f} l same p =
     fits none r = tt
     fits (some a) r = tt
 
-pub padding-same : (n : Option (List ℕ)) → paddingTail n ≡ endText "\"HEX\":\"" hexText n
+pub padding-same : (n : Option (List ℕ)) → paddingTail n ≡ endText "\"HEX\":" hexText n
 padding-same none = refl
 padding-same (some l) = refl
 
-pub error-same : (n : Option (List ℕ)) → errorTail n ≡ endText "\"TEXT\":\"" stringText n
+pub error-same : (n : Option (List ℕ)) → errorTail n ≡ endText "\"TEXT\":" stringText n
 error-same none = refl
 error-same (some l) = refl
 
 -- a value of each form
 unfoldable pub value : (form : Form) → Codec (ValueIn form) (valueText form) NoDigit
 unfolding valueText
-value hexObject = free ("{\"HEX\":\"" ▷ hex ◁ "}")
+value hexObject = free ("{\"HEX\":" ▷ hex ◁ "}")
 value octetList = free (array (number-avoids 93 tt) (λ r. tt) (λ r. tt) number)
 value expiry = expiryNumber
-value hexList = free (array (λ a r s h e. fronts tt e) (λ r. tt) (λ r. tt) ("\"" ▷ hex))
+value hexList = free (array (hexText-avoids 93 tt) (λ r. tt) (λ r. tt) hex)
 value word = number
-value padding = free ("{\"LENGTH\":" ▷ numbered "\"HEX\":\"" padding-same hex)
+value padding = free ("{\"LENGTH\":" ▷ numbered "\"HEX\":" padding-same hex)
 value wordList = free (array (number-avoids 93 tt) (λ r. tt) (λ r. tt) number)
-value extendedError = free ("{\"CODE\":" ▷ numbered "\"TEXT\":\"" error-same string)
+value extendedError = free ("{\"CODE\":" ▷ numbered "\"TEXT\":" error-same string)
 value unlisted = record { parse = λ t. stuck t; back = λ u r h m. absurd h; sound = λ t. missed t }
 
 -- ---- members of options
@@ -132,7 +132,7 @@ knownMember = pair-by ("\"" ▷ table members members-distinct ◁ "\":") (λ co
 unfoldable pub otherMember : Codec {A = ℕ × List ℕ} (λ u. MemberIn (other (u .0) (u .1)))
     (λ u. memberText (other (u .0) (u .1))) NoDigit
 unfolding memberText
-otherMember = titled (λ u. simp append-assoc) (free ("\"OPT" ▷ till "\":\"" tt number ⊗ hex))
+otherMember = titled (λ u. simp append-assoc) (free ("\"OPT" ▷ till "\":" tt number ⊗ hex))
 
 -- the two never begin alike
 pub members-apart : (u : (code : ℕ) × Value (formOf code)) (v : ℕ × List ℕ) (r s : List ℕ) → T (key? (u .0) members)
@@ -158,7 +158,7 @@ unfoldable pub questionCodec : Codec QuestionIn questionText Any
 unfolding questionText
 questionCodec = titled (λ q. simp append-assoc) (on (λ q. (q .name, (q .type, q .class)))
     (λ (n, (t, c)). record { name = n; type = t; class = c }) (λ q h. (h, refl)) (λ q h. (h, refl))
-    ("{\"NAME\":\"" ▷ name
+    ("{\"NAME\":" ▷ name
     ⊗ ",\"TYPE\":" ▷ till ",\"CLASS\":" tt number
     ⊗ till "}" tt number))
 
@@ -167,10 +167,10 @@ unfolding recordText
 recordCodec = titled (λ r. simp append-assoc) (on (λ r. (r .name, (r .type, (r .class, (r .ttl, r .rdata)))))
     (λ (n, (t, (c, (l, d)))). record { name = n; type = t; class = c; ttl = l; rdata = d }) (λ r h. (h, refl))
     (λ r h. (h, refl))
-    ("{\"NAME\":\"" ▷ name
+    ("{\"NAME\":" ▷ name
     ⊗ ",\"TYPE\":" ▷ till ",\"CLASS\":" tt number
     ⊗ till ",\"TTL\":" tt number
-    ⊗ till ",\"RDATAHEX\":\"" tt signedNumber
+    ⊗ till ",\"RDATAHEX\":" tt signedNumber
     ⊗ hex ◁ "}"))
 
 -- ---- the EDNS element
@@ -209,7 +209,7 @@ ednsElement = titled (λ e. simp append-assoc) (on (λ e. (e .version, (e .flags
 pub item-apart : (a : RecordItem) (b : EdnsItem) (r s : List ℕ) → recordText a ++ r ≡ ednsText b ++ s → ⊥
 unfolding recordText ednsText
 item-apart a b r s e =
-    apart-texts (ascii "{\"NAME\":\"") (ascii "{\"EDNS\":{\"Version\":") _ _ tt (simp append-assoc at e)
+    apart-texts (ascii "{\"NAME\":") (ascii "{\"EDNS\":{\"Version\":") _ _ tt (simp append-assoc at e)
 
 abbrev itemKind : Item → RecordItem ⊎ EdnsItem
 itemKind (ordinary r) = inl r
@@ -349,9 +349,9 @@ unfolding parse document head natural
 leading-zero = refl
 
 -- at the second digit where none of 40 to 49 is written in digits, and at the third of a number past 255
-escaped-plain : (name .parse (ascii "a\\\\046.\"") ≡ stuck (ascii "46.\""))
-    × (name .parse (ascii "a\\\\256.\"") ≡ stuck (ascii "6.\""))
-unfolding name label spelledOctet spelledAt escape ddd leads? coded-from? coded? plain?
+escaped-plain : (name .parse (ascii "\"a\\\\046.\"") ≡ stuck (ascii "46.\""))
+    × (name .parse (ascii "\"a\\\\256.\"") ≡ stuck (ascii "6.\""))
+unfolding name rootOrLabels label spelledOctet spelledAt escape ddd leads? coded-from? coded? plain?
 escaped-plain = (refl, refl)
 
 -- at the second digit of an option's number that begins with 0
@@ -365,6 +365,6 @@ unfolding member knownMember otherMember natural tried members rows
 member-unknown = refl
 
 -- at the quote where a second digit should be
-hex-odd : hex .parse (ascii "0A1\"}") ≡ stuck (ascii "\"}")
-unfolding hex unhex
+hex-odd : hex .parse (ascii "\"0A1\"}") ≡ stuck (ascii "\"}")
+unfolding hex hexPairs unhex
 hex-odd = refl

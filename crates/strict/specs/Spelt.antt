@@ -7,7 +7,7 @@ use Prim.Native.Nat.{ℕ, zero, suc, _+_, _-_, _*_, _/_, _%_, _^_, _<_, _≤_}
 use native.Mathlib.Omega.{arith}
 use borrow.Author.Tests.{eqb-true, eqb-false}
 use lib.Dec.{T, T-not, leb, ltb, eqb, leb→le, ltb→lt, lt→ltb}
-use Rattle.octets.specs.Lists.{ascii, ended}
+use Rattle.octets.specs.Lists.{ascii, none?, ended}
 use Rattle.octets.specs.Bits.{is-true, is-false, unequal, both, and-left, and-right}
 use Rattle.octets.specs.Parsed.{Parsed, took, stuck, and-then, strip, Holds, missed, found, map-holds, then-holds}
 use Rattle.octets.specs.Parsed.{strip-sound}
@@ -298,14 +298,15 @@ abbrev nameFrom : Unit {0} ⊎ Name → Name
 nameFrom (inl u) = []
 nameFrom (inr n) = n
 
--- `.` and the quote, or labels and the quote
-unfoldable pub name : Codec Labels nameText Any
-unfolding nameText plain?
-name = titled same (on rootOr nameFrom one two
+-- the root or labels, and the quote after them
+unfoldable pub rootOrLabels : Codec Labels (λ n. cond (none? n) (ascii ".\"") (ended labelText 34 n)) Any
+unfolding plain?
+rootOrLabels = titled same (on rootOr nameFrom one two
     (either (only tt ".\"") (several (label-avoids 34 tt tt) (λ r. tt) (λ b r h. tt) label)
     (λ a b r s h k e. some-avoids labelText 34 (label-avoids 46 tt tt) b s _ k (sym e))))
   where
-    same : (n : Name) → nameText n ≡ eitherText (λ u. ascii ".\"") (ended labelText 34) (rootOr n)
+    same : (n : Name) → cond (none? n) (ascii ".\"") (ended labelText 34 n)
+        ≡ eitherText (λ u. ascii ".\"") (ended labelText 34) (rootOr n)
     same [] = refl
     same (l ∷ n) = refl
 
@@ -318,6 +319,11 @@ name = titled same (on rootOr nameFrom one two
     two (inl u) h = (tt, refl)
     two (inr []) h = absurd (h .1)
     two (inr (l ∷ n)) h = (h .0, refl)
+
+-- a name in quotes
+unfoldable pub name : Codec Labels nameText Any
+unfolding nameText
+name = "\"" ▷ rootOrLabels
 
 -- ---- signed numbers
 -- a number, or a minus and a number that is not 0
@@ -413,7 +419,11 @@ stringOctet-avoids x r s i e = go (eqb x 34) (eqb x 92) refl e
     go false true d e = fronts tt e
     go false false d e = eqb-false x 34 d (head-eq-of-cons-eq e)
 
--- octets and the quote
+-- a string's octets, and the quote after them
+unfoldable pub stringChars : Codec StringIn (ended stringOctet 34) Any
+stringChars = many stringOctet-avoids (λ r. tt) (λ b r h. tt) stringChar
+
+-- a string in quotes
 unfoldable pub string : Codec StringIn stringText Any
 unfolding stringText
-string = many stringOctet-avoids (λ r. tt) (λ b r h. tt) stringChar
+string = "\"" ▷ stringChars

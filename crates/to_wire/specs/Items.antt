@@ -31,7 +31,7 @@ abbrev pub ItemRead : ℕ → List ℕ → Cursor → List ℕ → Entry → Lis
 ItemRead rcode t c b r b′ = Found (itemCodec .parse) (ItemFacts rcode c b r b′) t c (r .cursor)
 
 abbrev nameTitle : List ℕ
-nameTitle = ascii "{\"NAME\":\""
+nameTitle = ascii "{\"NAME\":"
 
 abbrev ednsTitle : List ℕ
 ednsTitle = ascii "{\"EDNS\":{\"Version\":"

@@ -7,11 +7,11 @@ use Prim.Native.Nat.{ℕ, _+_, _≤_, _<_}
 use native.Mathlib.Omega.{arith}
 use borrow.Author.Tests.{not-true, not-false, le-leb, lt-leb, le-ltb, ltb-false, eq-eqb, ne-eqb}
 use lib.Dec.{T, leb, ltb, eqb, leb→le, le→leb}
-use lib.ListN.{length, drop, length-append, length-drop}
+use lib.ListN.{length, drop, length-append}
 use Rattle.octets.specs.Lists.{none?, all, All, each, ended}
 use Rattle.octets.specs.Bits.{is-true, both, and-left, and-right, all→All, All→all, All-append, All-left, All-right}
 use Rattle.octets.specs.Bits.{octets-test}
-use Rattle.octets.specs.Parsed.{took, stuck, strip, strip-sound, held}
+use Rattle.octets.specs.Parsed.{took, stuck, strip}
 use Rattle.octets.specs.Codec.{Avoids, Any, OneOrMore, Codec, exact, several}
 use Rattle.octets.specs.Overlay.{Wrote, then, nothing, same-long}
 use Rattle.names.specs.Name.{Name, nameForm, label?, name?}
@@ -19,10 +19,11 @@ use Rattle.names.specs.NameLaws.{label-short}
 use Rattle.names.specs.Ways.{labelForm, form-labels}
 use Rattle.spelling.specs.Spelling.{plain?, labelText}
 use Rattle.strict.specs.Grammar.{Label}
-use Rattle.strict.specs.Spelt.{label, label-avoids, name}
+use Rattle.strict.specs.Spelt.{label, label-avoids, rootOrLabels, name}
 use Rattle.parse_tokens.specs.declared.Cursor.{Cursor}
 use Rattle.parse_tokens.specs.Cursor.{left-of, Safe, Passed, Came, Stopped, reads-stop, reads-took, Got}
 use Rattle.parse_tokens.specs.Step.{Found, found-stuck, Put, put-from, each-last, none-last, Held, Emits, Judged}
+use Rattle.parse_tokens.specs.Leaf.{passed-place, found-quoted}
 use Rattle.parse_tokens.specs.Choice.{further}
 use Rattle.parse_tokens.specs.Many.{le-or-lt, run-of, Going, going-start, going-end, going-more, going-stop}
 use Rattle.parse_tokens.specs.Place.{Byte, inside, one-byte, no-strip}
@@ -266,29 +267,29 @@ module _ {t : List ℕ} {start : ℕ} {b : List ℕ} {to at size : ℕ} {out : L
               let x = sized (small (name-less (w .l) a t)) in
               omega (arith, k .over h (omega arith), form-last (w .l) a, name-size (w .l) a t)
 
--- ---- a name: the root or labels
-abbrev pub NameRead : (t : List ℕ) (c : Cursor) (b : List ℕ) (r : Cursor) (b′ : List ℕ) → Type 0
-NameRead t c b r b′ =
-    Found (name .parse) (λ n. Put name? nameForm c b r b′ n × (none? n ≡ eqb (r .at) (c .at + 2))) t c r
+-- ---- the root or labels, and the quote
+abbrev pub RootOrLabels : (t : List ℕ) (c : Cursor) (b : List ℕ) (r : Cursor) (b′ : List ℕ) → Type 0
+RootOrLabels t c b r b′ =
+    Found (rootOrLabels .parse) (λ n. Put name? nameForm c b r b′ n × (none? n ≡ eqb (r .at) (c .at + 2))) t c r
 
-name-root : (w r : List ℕ) → strip (46 ∷ 34 ∷ []) w ≡ took tt r → name .parse w ≡ took [] r
-unfolding name
+name-root : (w r : List ℕ) → strip (46 ∷ 34 ∷ []) w ≡ took tt r → rootOrLabels .parse w ≡ took [] r
+unfolding rootOrLabels
 name-root w r e = rw e
 
 name-list : (w : List ℕ) {u r : List ℕ} {n : Name} → strip (46 ∷ 34 ∷ []) w ≡ stuck u → labelList .parse w ≡ took n r
-    → name .parse w ≡ took n r
-unfolding name labelList
+    → rootOrLabels .parse w ≡ took n r
+unfolding rootOrLabels labelList
 name-list w e d = rw (e, d)
 
 name-neither : (t : List ℕ) (at m n : ℕ) → m ≤ length t → n ≤ length t
     → strip (46 ∷ 34 ∷ []) (drop at t) ≡ stuck (drop m t) → labelList .parse (drop at t) ≡ stuck (drop n t)
-    → name .parse (drop at t) ≡ stuck (drop (cond (ltb m n) n m) t)
-unfolding name labelList
+    → rootOrLabels .parse (drop at t) ≡ stuck (drop (cond (ltb m n) n m) t)
+unfolding rootOrLabels labelList
 name-neither t at m n h k e d = rw (e, d, further t m n h k)
 
 module _ {t : List ℕ} {c : Cursor} (h : Safe t c) where
-  pub name-stuck : {b b′ : List ℕ} → not (c .spelled) ≡ true → NameRead t c b c b′
-  name-stuck g = found-stuck (name .parse) t c h (not-true _ g)
+  pub name-stuck : {b b′ : List ℕ} → not (c .spelled) ≡ true → RootOrLabels t c b c b′
+  name-stuck g = found-stuck (rootOrLabels .parse) t c h (not-true _ g)
 
   -- the root
   module _ {x : ℕ} (g : c .spelled ≡ true) (e : Byte t (c .at) x) (d : x ≡ 46) {r : Cursor}
@@ -296,7 +297,7 @@ module _ {t : List ℕ} {c : Cursor} (h : Safe t c) where
     stripped : (b : Bool) → r .spelled ≡ b → strip (46 ∷ 34 ∷ []) (drop (c .at) t) ≡ left-of b (drop (r .at) t)
     stripped b k = sym (rw (k, g) at (q .left))
 
-    pub root-bad : {b b′ : List ℕ} → not (r .spelled) ≡ true → NameRead t c b r b′
+    pub root-bad : {b b′ : List ℕ} → not (r .spelled) ≡ true → RootOrLabels t c b r b′
     root-bad k = record {
       reads = reads-stop (rw g (name-neither t (c .at) (r .at) (c .at) (q .keeps .safe .inside) (h .inside)
           (stripped false (not-true _ k)) (list-stuck (drop (c .at) t) (label-dot e d))
@@ -305,13 +306,11 @@ module _ {t : List ℕ} {c : Cursor} (h : Safe t c) where
     }
 
     pub root-is : {b b′ : List ℕ} {s : Cursor} → not (r .spelled) ≡ false → Emits (0 ∷ []) r b s b′
-        → NameRead t c b s b′
+        → RootOrLabels t c b s b′
     unfolding name? nameForm
     root-is {b} {b′} {s} k m =
         let z = stripped true (not-false _ k) in
-        let y = ap length (held (strip-sound (46 ∷ 34 ∷ []) (drop (c .at) t)) z) in
-        let f : r .at ≡ c .at + 2 =
-        omega (arith, length-drop (c .at) t, length-drop (r .at) t, q .keeps .safe .inside, q .keeps .onward) in
+        let f = passed-place q (not-false _ k) in
         let put : Put name? nameForm r b s b′ [] =
         record { meant = m .meant ∙ sym (and-true (r .meant)); small = λ k. m .small; wrote = λ k. m .wrote } in
         record {
@@ -329,7 +328,7 @@ module _ {t : List ℕ} {c : Cursor} (h : Safe t c) where
 -- labels
 module _ {t : List ℕ} {c : Cursor} {b b′ : List ℕ} {x : ℕ} {p : Part} (h : Safe t c) (g : not (c .spelled) ≡ false)
     (e : Byte t (c .at) x) (d : x ≡ 46 → ⊥) (q : LabelsAt t (c .at) b (c .to) p b′) where
-  pub name-bad : {r : Cursor} → not (p .found) ≡ true → Stopped c (p .at) r → NameRead t c b r b′
+  pub name-bad : {r : Cursor} → not (p .found) ≡ true → Stopped c (p .at) r → RootOrLabels t c b r b′
   name-bad {r} k s = record {
     reads = reads-stop (rw (not-false (c .spelled) g)
         (name-neither t (c .at) (c .at) (p .at) (h .inside) (q .within) (no-strip 46 (34 ∷ []) e d)
@@ -346,7 +345,7 @@ module _ {t : List ℕ} {c : Cursor} {b b′ : List ℕ} {x : ℕ} {p : Part} (h
       last false f = omega (arith, q .onward, ltb-false (c .at) (p .at) f)
 
   pub name-is : {r s u : Cursor} → not (p .found) ≡ false → Came c (p .at) r → Held (p .size) r s
-      → Judged (leb (p .size) 255) s u → NameRead t c b u b′
+      → Judged (leb (p .size) 255) s u → RootOrLabels t c b u b′
   name-is {r} {s} {u} k m v j = record {
     reads = reads-took (rw (not-false (c .spelled) g)
         (name-list (drop (c .at) t) (no-strip 46 (34 ∷ []) e d) (got .is))) (j .spelled ∙ v .spelled ∙ m .is)
@@ -385,3 +384,13 @@ module _ {t : List ℕ} {c : Cursor} {b b′ : List ℕ} {x : ℕ} {p : Part} (h
           text = got .holds .wrote (fits z) .text;
         };
       }
+
+-- ---- a name in quotes, which is the root if it has three octets
+abbrev pub NameRead : (t : List ℕ) (c : Cursor) (b : List ℕ) (r : Cursor) (b′ : List ℕ) → Type 0
+NameRead t c b r b′ =
+    Found (name .parse) (λ n. Put name? nameForm c b r b′ n × (none? n ≡ eqb (r .at) (c .at + 3))) t c r
+
+pub name-opened : {t : List ℕ} {c o r : Cursor} {b b′ : List ℕ} → Passed (34 ∷ []) t c o → RootOrLabels t o b r b′
+    → NameRead t c b r b′
+unfolding name
+name-opened = found-quoted 2

@@ -201,7 +201,7 @@ pub record OtherRead (t : List ℕ) (c : Cursor) (b : List ℕ) (r : Coded) (b�
   pub found : Found (otherMember .parse) (OtherOption t c b r b′) t c (r .cursor)
 
 pub other-read : {t : List ℕ} {c o e r : Cursor} {b b′ : List ℕ} {n : Amount} {code : ℕ} → Passed (ascii "\"OPT") t c o
-    → NumberRead t o n → Passed (ascii "\":\"") t (n .cursor) e → OtherHex (n .value) t e b r b′
+    → NumberRead t o n → Passed (ascii "\":") t (n .cursor) e → OtherHex (n .value) t e b r b′
     → code ≡ optionCode (n .value) → OtherRead t c b (record { cursor = r; code = code }) b′
 unfolding otherMember member? optionOf
 other-read {n = n} q x e y z = record {
@@ -249,7 +249,7 @@ module _ {t : List ℕ} {c : Cursor} {n : Row} {b : List ℕ} (x : MemberNameRea
     found = either-further leftMember rightMember (knownMember .parse) (otherMember .parse) (known-read y)
         (λ z. OptionRead t c b (record { cursor = z; code = n .key }) b′)
         (found-pair {Q = λ l. Unit {0}} {q = hex .parse}
-        (found-lit {P = λ m. Unit {0}} {p = till "\":\"" tt number .parse} q
+        (found-lit {P = λ m. Unit {0}} {p = till "\":" tt number .parse} q
         (found-stuck _ t o (q .keeps .safe) (name-apart x g q)))
         (found-stuck _ t o (q .keeps .safe) (name-apart x g q)))
         (name-apart x g q) f λ u h. (put-as refl refl (h .1), λ m. h .0);

@@ -56,7 +56,7 @@ word-read x w = found-at (x .found) (w .at) (w .spelled) (w .room) λ m e. (put-
 
 -- ---- questions
 pub question-read : {t b b₁ b₂ b₃ : List ℕ} {c d e f g r : Cursor} {k l : Amount}
-    → Passed (ascii "{\"NAME\":\"") t c d → NameRead t d b e b₁ → Passed (ascii ",\"TYPE\":") t e f
+    → Passed (ascii "{\"NAME\":") t c d → NameRead t d b e b₁ → Passed (ascii ",\"TYPE\":") t e f
     → WordRead t f b₁ k b₂ → Passed (ascii ",\"CLASS\":") t (k .cursor) g
     → WordRead t g b₂ l b₃ → Passed (ascii "}") t (l .cursor) r
     → Step question? questionForm (questionCodec .parse) t c b r b₃
@@ -149,7 +149,7 @@ rdata-read {kind} {f} {n} {t} {b} {b₁} {b₂} {h} {c} {d} {e} {r} {s} {ok} x g
 
 -- ---- records
 abbrev pub tailParse : List ℕ → Parsed (Signed × List ℕ)
-tailParse = (till ",\"RDATAHEX\":\"" tt signedNumber ⊗ hex ◁ "}") .parse
+tailParse = (till ",\"RDATAHEX\":" tt signedNumber ⊗ hex ◁ "}") .parse
 
 -- TTL and RDATA were read, of a record of a TYPE whose owner is the root or not
 pub record Tail (kind : ℕ) (root : Bool) (rcode : ℕ) (c : Cursor) (b : List ℕ) (r : Entry) (b′ : List ℕ)
@@ -182,7 +182,7 @@ shows-edns-of {kind} e f = record { shows = f ∙ rw (eq-eqb kind 41 e) }
 
 pub tail-read : {kind rcode : ℕ} {root h : Bool} {t b b₁ b₂ : List ℕ} {c d e r : Cursor} {v : Ttl} {s : Span}
     → SignedRead t c v → Done (TtlKept (v .fits) (v .bits)) ttl? (λ s. be32 (unsigned s)) (v .cursor) b d b₁
-    → Passed (ascii ",\"RDATAHEX\":\"") t d e → RdataRead kind t e b₁ s b₂
+    → Passed (ascii ",\"RDATAHEX\":") t d e → RdataRead kind t e b₁ s b₂
     → Passed (ascii "}") t (s .cursor) r → CouldBeElement kind root (v .bits) rcode t s h
     → TailRead kind root rcode t c b (record { cursor = r; opt = eqb kind 41; shown = false; hidden = h }) b₂
 tail-read {kind} {rcode} {root} {h} {t} {b} {b₁} {b₂} {c} {d} {e} {r} {v} {s} x w q y z g =
@@ -225,19 +225,19 @@ abbrev recordFrom : Fields → RecordItem
 recordFrom (n, (t, (c, (l, d)))) = record { name = n; type = t; class = c; ttl = l; rdata = d }
 
 abbrev fieldsParse : List ℕ → Parsed Fields
-fieldsParse = (name ⊗ ",\"TYPE\":" ▷ till ",\"CLASS\":" tt number ⊗ till ",\"TTL\":" tt number ⊗ till ",\"RDATAHEX\":\""
+fieldsParse = (name ⊗ ",\"TYPE\":" ▷ till ",\"CLASS\":" tt number ⊗ till ",\"TTL\":" tt number ⊗ till ",\"RDATAHEX\":"
     tt signedNumber ⊗ hex ◁ "}") .parse
 
 unfoldable pub recordRest : List ℕ → Parsed RecordItem
 recordRest w = and-then (fieldsParse w) λ u r. took (recordFrom u) r
 
-pub entry-parse : (w : List ℕ) → recordCodec .parse w ≡ and-then (strip (ascii "{\"NAME\":\"") w) (λ u r. recordRest r)
+pub entry-parse : (w : List ℕ) → recordCodec .parse w ≡ and-then (strip (ascii "{\"NAME\":") w) (λ u r. recordRest r)
 unfolding recordCodec recordRest
-entry-parse w = go (strip (ascii "{\"NAME\":\"") w)
+entry-parse w = go (strip (ascii "{\"NAME\":") w)
   where
     go : (o : Parsed (Unit {0})) → and-then (and-then (and-then o (λ u r. name .parse r))
         (λ a w. and-then ((",\"TYPE\":" ▷ till ",\"CLASS\":" tt number ⊗ till ",\"TTL\":" tt number ⊗ till
-        ",\"RDATAHEX\":\"" tt signedNumber ⊗ hex ◁ "}") .parse w) λ b r. took (a, b) r))
+        ",\"RDATAHEX\":" tt signedNumber ⊗ hex ◁ "}") .parse w) λ b r. took (a, b) r))
         (λ u r. took (recordFrom u) r)
         ≡ and-then o (λ u r. and-then (fieldsParse r) λ u r. took (recordFrom u) r)
     go (took u r) = refl
@@ -281,15 +281,15 @@ record-judged (n, (t, (c, (s, l)))) i o =
     go true false c false e h = refl
     go false b c false e h = refl
 
-two-behind : (m n : ℕ) → m ≤ n → eqb (n - m) 2 ≡ eqb n (m + 2)
-two-behind m n h = go (eqb n (m + 2)) refl
+three-behind : (m n : ℕ) → m ≤ n → eqb (n - m) 3 ≡ eqb n (m + 3)
+three-behind m n h = go (eqb n (m + 3)) refl
   where
-    go : (b : Bool) → eqb n (m + 2) ≡ b → eqb (n - m) 2 ≡ b
-    go true e = eq-eqb (n - m) 2 (omega (arith, eqb→eq n (m + 2) (subst T (sym e) tt)))
-    go false e = ne-eqb (n - m) 2 (λ d. eqb-false n (m + 2) e (omega (arith, d)))
+    go : (b : Bool) → eqb n (m + 3) ≡ b → eqb (n - m) 3 ≡ b
+    go true e = eq-eqb (n - m) 3 (omega (arith, eqb→eq n (m + 3) (subst T (sym e) tt)))
+    go false e = ne-eqb (n - m) 3 (λ d. eqb-false n (m + 3) e (omega (arith, d)))
 
 pub record-read : {rcode : ℕ} {root : Bool} {t b b₁ b₂ b₃ b₄ : List ℕ} {c d f g h : Cursor} {k l : Amount} {r : Entry}
-    → NameRead t c b d b₁ → root ≡ eqb (d .at - c .at) 2 → Passed (ascii ",\"TYPE\":") t d f → WordRead t f b₁ k b₂
+    → NameRead t c b d b₁ → root ≡ eqb (d .at - c .at) 3 → Passed (ascii ",\"TYPE\":") t d f → WordRead t f b₁ k b₂
     → Passed (ascii ",\"CLASS\":") t (k .cursor) g
     → WordRead t g b₂ l b₃ → Passed (ascii ",\"TTL\":") t (l .cursor) h → TailRead (k .value) root rcode t h b₃ r b₄
     → RecordRead rcode t c b r b₄
@@ -313,7 +313,7 @@ record-read {rcode} {root} {t} {b} {b₁} {b₂} {b₃} {b₄} {c} {d} {f} {g} {
     hides u e d = rw (d, capped-is (u .1 .0) 41 (omega arith), ← e)
         (ap (λ x. eqb (u .1 .0) 41 && x) (shows-edns rcode (itemRecord (recordFrom u))))
 
-    told : (u : Fields) → (Put name? nameForm c b d b₁ (u .0) × (none? (u .0) ≡ eqb (d .at) (c .at + 2)))
+    told : (u : Fields) → (Put name? nameForm c b d b₁ (u .0) × (none? (u .0) ≡ eqb (d .at) (c .at + 3)))
         × ((Put u16? be16 f b₁ (k .cursor) b₂ (u .1 .0) × (k .value ≡ capped (u .1 .0)))
         × ((Put u16? be16 g b₂ (l .cursor) b₃ (u .1 .1 .0) × (l .value ≡ capped (u .1 .1 .0)))
         × Tail (k .value) root rcode h b₃ r b₄ (u .1 .1 .1)))
@@ -322,7 +322,7 @@ record-read {rcode} {root} {t} {b} {b₁} {b₂} {b₃} {b₄} {c} {d} {f} {g} {
       put = put-as (record-judged u (v .1 .1 .1 .signed) (v .1 .1 .1 .octets)) (wire u) all;
       is-opt = v .1 .1 .1 .opt ∙ rw (v .1 .0 .1) (capped-is (u .1 .0) 41 (omega arith));
       is-shown = v .1 .1 .1 .shown;
-      is-hidden = λ m. v .1 .1 .1 .hidden m ∙ hides u (v .0 .1 ∙ sym (two-behind (c .at) (d .at) (n .moves .onward))
+      is-hidden = λ m. v .1 .1 .1 .hidden m ∙ hides u (v .0 .1 ∙ sym (three-behind (c .at) (d .at) (n .moves .onward))
           ∙ sym e) (v .1 .0 .1);
     }
       where

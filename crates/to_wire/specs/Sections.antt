@@ -99,7 +99,7 @@ pub asked-read : {t b b′ : List ℕ} {c r : Cursor} → Step question? questio
     → AskedRead t c b (record { cursor = r; opt = false; shown = false; hidden = false }) b′
 asked-read x = found-as x λ a h. record { put = h; is-opt = refl; is-shown = refl; is-hidden = λ k. refl }
 
-pub titled-read : (rcode : ℕ) {t b b′ : List ℕ} {c d : Cursor} {r : Entry} → Passed (ascii "{\"NAME\":\"") t c d
+pub titled-read : (rcode : ℕ) {t b b′ : List ℕ} {c d : Cursor} {r : Entry} → Passed (ascii "{\"NAME\":") t c d
     → RecordRead rcode t d b r b′ → TitledRead rcode t c b r b′
 titled-read rcode q x =
     found-same (recordCodec .parse) (λ g. sym (entry-parse _))

@@ -9,11 +9,12 @@ use lib.Dec.{eqb}
 use lib.ListN.{length, drop}
 use Rattle.octets.specs.Lists.{none?}
 use Rattle.octets.specs.Parsed.{stuck}
-use Rattle.strict.specs.Spelt.{stringAt, stringChar, stringOctet-avoids, string}
+use Rattle.strict.specs.Spelt.{stringAt, stringChar, stringOctet-avoids, stringChars, string}
 use Rattle.parse_tokens.specs.declared.Cursor.{Cursor}
-use Rattle.parse_tokens.specs.Cursor.{Safe, keeps-same, Came, Stopped, went-keeps, reads-stop, reads-took, Got}
+use Rattle.parse_tokens.specs.Cursor.{Safe, Passed, keeps-same, Came, Stopped, went-keeps, reads-stop, reads-took, Got}
 use Rattle.parse_tokens.specs.Step.{Found, Moves, found-stuck, Put, put-as, put-to, put-nothing, none-last, put-emit}
 use Rattle.parse_tokens.specs.Step.{Emits}
+use Rattle.parse_tokens.specs.Leaf.{found-quoted}
 use Rattle.parse_tokens.specs.Many.{run-of, Going, going-start, going-end, going-more, going-stop}
 use Rattle.parse_tokens.specs.Place.{Byte, inside}
 use Rattle.parse_octets.specs.declared.Letter.{Letter}
@@ -24,17 +25,16 @@ char-empty : stringChar .parse [] ≡ stuck []
 unfolding stringChar stringAt
 char-empty = refl
 
-string-run : (w : List ℕ) → string .parse w ≡ run-of 34 stringChar w
-unfolding string
-string-run w = refl
+chars-run : (w : List ℕ) → stringChars .parse w ≡ run-of 34 stringChar w
+unfolding stringChars
+chars-run w = refl
 
-abbrev pub StringRead : (t : List ℕ) (c : Cursor) (b : List ℕ) (r : Cursor) (b′ : List ℕ) → Type 0
-StringRead t c b r b′ =
-    Found (string .parse) (λ l. Put (λ l. true) (λ l. l) c b r b′ l × (none? l ≡ eqb (r .at) (c .at + 1))) t c r
+abbrev pub CharsRead : (t : List ℕ) (c : Cursor) (b : List ℕ) (r : Cursor) (b′ : List ℕ) → Type 0
+CharsRead t c b r b′ =
+    Found (stringChars .parse) (λ l. Put (λ l. true) (λ l. l) c b r b′ l × (none? l ≡ eqb (r .at) (c .at + 1))) t c r
 
-pub string-stuck : {t : List ℕ} {c : Cursor} {b b′ : List ℕ} → Safe t c → not (c .spelled) ≡ true
-    → StringRead t c b c b′
-string-stuck {t} {c} h g = found-stuck (string .parse) t c h (not-true _ g)
+pub chars-stuck : {t : List ℕ} {c : Cursor} {b b′ : List ℕ} → Safe t c → not (c .spelled) ≡ true → CharsRead t c b c b′
+chars-stuck {t} {c} h g = found-stuck (stringChars .parse) t c h (not-true _ g)
 
 -- the reader came from c to `at`, and the octet `v` was written
 pub record Added (c : Cursor) (at v : ℕ) (b : List ℕ) (r : Cursor) (b′ : List ℕ) : Type 0 where
@@ -45,7 +45,7 @@ pub record Added (c : Cursor) (at v : ℕ) (b : List ℕ) (r : Cursor) (b′ : L
 -- the octets so far
 pub record Chars (t : List ℕ) (c : Cursor) (b : List ℕ) (d : Cursor) (out : List ℕ) : Type 0 where
   pub l : List ℕ
-  pub goes : Going (run-of 34 stringChar) t (string .parse (drop (c .at) t)) (d .at) l
+  pub goes : Going (run-of 34 stringChar) t (stringChars .parse (drop (c .at) t)) (d .at) l
   pub spelled : d .spelled ≡ true
   pub put : Put (λ l. true) (λ l. l) c b d out l
   pub moves : Moves t c d
@@ -55,7 +55,7 @@ pub record Chars (t : List ℕ) (c : Cursor) (b : List ℕ) (d : Cursor) (out : 
 pub chars-start : (t : List ℕ) (c : Cursor) (b : List ℕ) → Safe t c → not (c .spelled) ≡ false → Chars t c b c b
 chars-start t c b h g = record {
   l = [];
-  goes = record { goes = string-run (drop (c .at) t) ∙ going-start (run-of 34 stringChar) t (c .at) .goes };
+  goes = record { goes = chars-run (drop (c .at) t) ∙ going-start (run-of 34 stringChar) t (c .at) .goes };
   spelled = not-false _ g;
   put = put-nothing b (keeps-same h) refl refl;
   moves = record { safe = h; onward = omega arith };
@@ -66,7 +66,7 @@ chars-start t c b h g = record {
 module _ {t : List ℕ} {c : Cursor} {b : List ℕ} {d : Cursor} {out : List ℕ} (w : Chars t c b d out)
     (g : not (c .spelled) ≡ false) {y : ℕ} (f : Byte t (d .at) y) where
   -- the quote after them
-  pub chars-end : {r : Cursor} → y ≡ 34 → Came d (d .at + 1) r → StringRead t c b r out
+  pub chars-end : {r : Cursor} → y ≡ 34 → Came d (d .at + 1) r → CharsRead t c b r out
   chars-end {r} k s =
       let h = inside f (omega arith) in
       let keeps = went-keeps (w .moves .safe) s (omega arith) (omega arith) in
@@ -83,7 +83,7 @@ module _ {t : List ℕ} {c : Cursor} {b : List ℕ} {d : Cursor} {out : List ℕ
 
   module _ (k : y ≡ 34 → ⊥) {o : Letter} (q : LetterAt stringAt t (d .at) o) where
     -- no octet
-    pub chars-bad : {r : Cursor} → not (o .found) ≡ true → Stopped d (o .at) r → StringRead t c b r out
+    pub chars-bad : {r : Cursor} → not (o .found) ≡ true → Stopped d (o .at) r → CharsRead t c b r out
     unfolding stringChar
     chars-bad {r} m s =
         let keeps = went-keeps (w .moves .safe) s (q .onward) (q .within) in
@@ -122,3 +122,13 @@ module _ {t : List ℕ} {c : Cursor} {b : List ℕ} {d : Cursor} {out : List ℕ
     where
       got : Got (stringAt (drop (d .at) t)) (λ v. o .value ≡ v) (drop (o .at) t)
       got = tells-got (q .tells) (not-false _ m)
+
+-- ---- a string in quotes, which is empty if it has two octets
+abbrev pub StringRead : (t : List ℕ) (c : Cursor) (b : List ℕ) (r : Cursor) (b′ : List ℕ) → Type 0
+StringRead t c b r b′ =
+    Found (string .parse) (λ l. Put (λ l. true) (λ l. l) c b r b′ l × (none? l ≡ eqb (r .at) (c .at + 2))) t c r
+
+pub string-opened : {t : List ℕ} {c o r : Cursor} {b b′ : List ℕ} → Passed (34 ∷ []) t c o → CharsRead t o b r b′
+    → StringRead t c b r b′
+unfolding string
+string-opened = found-quoted 1

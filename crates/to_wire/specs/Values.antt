@@ -12,10 +12,10 @@ use lib.Dec.{leb, ltb, eqb}
 use lib.ListN.{length, take, drop, replicate, length-take, length-replicate, replicate-append-replicate}
 use Rattle.octets.specs.Lists.{ascii, all, each, none?, u8?, u16?, u32?, paired, Octets}
 use Rattle.octets.specs.Fields.{be16, be32}
-use Rattle.octets.specs.Hexadecimal.{hexText, hex}
+use Rattle.octets.specs.Hexadecimal.{hexText, hex, hexText-avoids}
 use Rattle.octets.specs.Decimal.{decimal, natural, number, number-avoids}
 use Rattle.octets.specs.Parsed.{Parsed, took, stuck, and-then, strip}
-use Rattle.octets.specs.Codec.{Avoids, Any, Codec, fronts, _▷_}
+use Rattle.octets.specs.Codec.{Avoids, fronts}
 use Rattle.octets.specs.Overlay.{Wrote, nothing, then}
 use Rattle.options.specs.Options.{Form, hexObject, octetList, expiry, hexList, word, padding, wordList, extendedError}
 use Rattle.options.specs.Options.{unlisted, Value, formOf, zero?}
@@ -188,7 +188,7 @@ module _ {t : List ℕ} {c r : Cursor} {b : List ℕ} (q : Passed (ascii "\"NONE
       (found-done (x .found) (x .keeps) d) f λ n h. put-as refl refl h
 
 -- NSID
-pub hex-object : {t : List ℕ} {c r s z : Cursor} {b b′ : List ℕ} {h : Span} → Passed (ascii "{\"HEX\":\"") t c r
+pub hex-object : {t : List ℕ} {c r s z : Cursor} {b b′ : List ℕ} {h : Span} → Passed (ascii "{\"HEX\":") t c r
     → HexRead t r h → Done (HexRun t h) (λ l. true) (λ l. l) (h .cursor) b s b′
     → Passed (ascii "}") t s z → ValueStep hexObject t c b z b′
 unfolding value value? octetsOf
@@ -205,19 +205,19 @@ endParse l p = maybeParse (ascii "}") (lastParse l p)
 
 -- EDE: the text is not empty
 abbrev pub errorLast : List ℕ → Parsed (List ℕ)
-errorLast = lastParse "\"TEXT\":\"" (string .parse)
+errorLast = lastParse "\"TEXT\":" (string .parse)
 
 abbrev pub errorEnd : List ℕ → Parsed (Option (List ℕ))
-errorEnd = endParse "\"TEXT\":\"" (string .parse)
+errorEnd = endParse "\"TEXT\":" (string .parse)
 
 abbrev pub ErrorText : List ℕ → Cursor → List ℕ → Cursor → List ℕ → Type 0
 ErrorText t c b r b′ = Step (λ l. not (none? l)) (λ l. l) errorLast t c b r b′
 
-pub error-last : {t : List ℕ} {c r s j z : Cursor} {b b′ : List ℕ} {ok : Bool} → Passed (ascii ",\"TEXT\":\"") t c r
-    → StringRead t r b s b′ → Judged ok s j → ok ≡ not (eqb (s .at) (r .at + 1))
+pub error-last : {t : List ℕ} {c r s j z : Cursor} {b b′ : List ℕ} {ok : Bool} → Passed (ascii ",\"TEXT\":") t c r
+    → StringRead t r b s b′ → Judged ok s j → ok ≡ not (eqb (s .at) (r .at + 2))
     → Passed (ascii "}") t j z → ErrorText t c b z b′
 error-last {t} {c} {r} {s} {j} {z} {b} {b′} {ok} q x k e d =
-    found-lits (ascii ",") (ascii "\"TEXT\":\"") q
+    found-lits (ascii ",") (ascii "\"TEXT\":") q
     (found-behind (found-at x (k .at) (k .spelled) (omega (arith, k .to, x .moves .safe .room)) λ l h.
     put-to (put-from (q .keeps) (put-judged (h .0) k (rw (h .1) (sym e)))) (d .keeps)) d)
 
@@ -294,10 +294,10 @@ module _ {t : List ℕ} {h : Span} {n : ℕ} where
     }
 
 abbrev pub paddingLast : List ℕ → Parsed (List ℕ)
-paddingLast = lastParse "\"HEX\":\"" (hex .parse)
+paddingLast = lastParse "\"HEX\":" (hex .parse)
 
 abbrev pub paddingEnd : List ℕ → Parsed (Option (List ℕ))
-paddingEnd = endParse "\"HEX\":\"" (hex .parse)
+paddingEnd = endParse "\"HEX\":" (hex .parse)
 
 -- of any number that was read as n
 abbrev pub PaddingHex : ℕ → List ℕ → Cursor → List ℕ → Cursor → List ℕ → Type 0
@@ -309,10 +309,10 @@ PaddingEnd n t c b r b′ = Found paddingEnd (λ o. (k : ℕ) → n ≡ capped k
     → Put (padding? k) (paddingOctets k) c b r b′ o) t c r
 
 pub padding-hex : {n : ℕ} {t : List ℕ} {c r s j z : Cursor} {b b′ : List ℕ} {h : Span} {ok : Bool}
-    → Passed (ascii ",\"HEX\":\"") t c r → HexRead t r h → Done (HexRun t h) (λ l. true) (λ l. l) (h .cursor) b s b′
+    → Passed (ascii ",\"HEX\":") t c r → HexRead t r h → Done (HexRun t h) (λ l. true) (λ l. l) (h .cursor) b s b′
     → PaddingFits t h n ok → Judged ok s j → Passed (ascii "}") t j z → PaddingHex n t c b z b′
 padding-hex {h = h} q x d f k e =
-    found-lits (ascii ",") (ascii "\"HEX\":\"") q
+    found-lits (ascii ",") (ascii "\"HEX\":") q
     (found-behind (found-at (x .found) (k .at ∙ d .at) (k .spelled ∙ d .spelled)
     (omega (arith, k .to, d .room)) λ l y m v.
     put-to (put-from (q .keeps) (put-from (x .keeps) (put-judged (d .put l y) k (f .fits m l v y)))) (e .keeps)) e)
@@ -380,41 +380,35 @@ cookie-parts (a ∷ h ∷ x ∷ l) = go (eqb (length a) 8) (leb 8 (length h) && 
     go true false = refl
     go false y = refl
 
-abbrev pub cookieCodec : Codec Octets (λ l. ascii "\"" ++ hexText l) Any
-cookieCodec = "\"" ▷ hex
-
 abbrev pub cookieParse : List ℕ → Parsed (List (List ℕ))
-cookieParse = part-of cookieCodec 93 true
+cookieParse = part-of hex 93 true
 
 abbrev pub CookieStep : ℕ → List ℕ → Cursor → List ℕ → Cursor → List ℕ → Type 0
-CookieStep i t c b r b′ = Step (λ l. part? i (length l)) (λ l. l) (cookieCodec .parse) t c b r b′
+CookieStep i t c b r b′ = Step (λ l. part? i (length l)) (λ l. l) (hex .parse) t c b r b′
 
-pub cookie-string : (i : ℕ) {t : List ℕ} {c r s j : Cursor} {b b′ : List ℕ} {h : Span} {size : ℕ} {ok : Bool}
-    → Passed (ascii "\"") t c r → HexRead t r h → Done (HexRun t h) (λ l. true) (λ l. l) (h .cursor) b s b′
+pub cookie-string : (i : ℕ) {t : List ℕ} {c s j : Cursor} {b b′ : List ℕ} {h : Span} {size : ℕ} {ok : Bool}
+    → HexRead t c h → Done (HexRun t h) (λ l. true) (λ l. l) (h .cursor) b s b′
     → size ≡ sizeOf h → ok ≡ part? i size → Judged ok s j → CookieStep i t c b j b′
-cookie-string i q x d e f k =
-    step-lit q (found-at (x .found) (k .at ∙ d .at) (k .spelled ∙ d .spelled) (omega (arith, k .to, d .room)) λ l y.
-    put-from (x .keeps) (put-judged (d .put l y) k (ap (part? i) (sym (e ∙ run-size y)) ∙ sym f)))
+cookie-string i x d e f k =
+    found-at (x .found) (k .at ∙ d .at) (k .spelled ∙ d .spelled) (omega (arith, k .to, d .room)) λ l y.
+    put-from (x .keeps) (put-judged (d .put l y) k (ap (part? i) (sym (e ∙ run-size y)) ∙ sym f))
 
 -- the strings found from c to d
 pub record Cookies (t : List ℕ) (c : Cursor) (b : List ℕ) (d : Cursor) (first : Bool) (i : ℕ)
     (out : List ℕ) : Type 0 where
-  pub items : Items cookieCodec 93 (λ l. Put (parts? 0) (each (λ h. h)) c b d out l
+  pub items : Items hex 93 (λ l. Put (parts? 0) (each (λ h. h)) c b d out l
       × (i ≡ partAfter 0 l)) t c true d first
   pub few : i ≤ 2
   pub long : length out ≡ length b
 
-cookie-avoids : Avoids Octets (λ l. ascii "\"" ++ hexText l) 93
-cookie-avoids a r s h e = fronts tt e
-
-cookie-apart : Avoids Octets (λ l. 44 ∷ (ascii "\"" ++ hexText l)) 93
+cookie-apart : Avoids Octets (λ l. 44 ∷ hexText l) 93
 cookie-apart a r s h e = fronts tt e
 
 module _ {t : List ℕ} {c : Cursor} {b : List ℕ} (g : not (c .spelled) ≡ false) where
   pub cookies-start : Safe t c → Cookies t c b c true 0 b
   unfolding each
   cookies-start h = record {
-    items = items-start cookieCodec 93 cookie-avoids cookie-apart t g h
+    items = items-start hex 93 (hexText-avoids 93 tt) cookie-apart t g h
         (put-nothing b (keeps-same h) refl refl, refl);
     few = omega arith;
     long = refl;
@@ -424,27 +418,27 @@ module _ {t : List ℕ} {c : Cursor} {b : List ℕ} (g : not (c .spelled) ≡ fa
     pub cookies-end : {x : ℕ} {r j : Cursor} → Byte t (d .at) x → x ≡ 93 → Came d (d .at + 1) r → Judged (ltb 0 i) r j
         → Step cookie? (each (λ h. h)) cookieParse t c b j out
     cookies-end {x} {r} {j} k e s q =
-        let y = items-end cookieCodec 93 cookie-avoids cookie-apart t g
+        let y = items-end hex 93 (hexText-avoids 93 tt) cookie-apart t g
         (w .items) {R = λ l. Put (parts? 0) (each (λ h. h)) c b r out l × (i ≡ partAfter 0 l)} k e (omega arith) s
         (λ z l h. (put-to (h .0) z, h .1)) in
         found-at y (q .at) (q .spelled) (omega (arith, q .to, y .moves .safe .room)) λ l h. put-judged (h .0) q
         (cookie-parts l ∙ ap (λ (n : ℕ). parts? 0 l && ltb 0 n) (sym (h .1)))
 
     module _ {e r : Cursor} {out′ : List ℕ} (q : Passed (comma-of first) t d e) (s : CookieStep i t e out r out′) where
-      one-cookie : Step (λ l. part? i (length l)) (λ l. l) (item-of cookieCodec 93 first) t d out r out′
+      one-cookie : Step (λ l. part? i (length l)) (λ l. l) (item-of hex 93 first) t d out r out′
       one-cookie = step-lit q s
 
       pub cookies-stop : {x : ℕ} → Byte t (d .at) x → (x ≡ 93 → ⊥) → not (r .spelled) ≡ true
           → Step cookie? (each (λ h. h)) cookieParse t c b r out′
-      cookies-stop k z j = items-stop cookieCodec 93 cookie-avoids cookie-apart t g (w .items) one-cookie k z j
+      cookies-stop k z j = items-stop hex 93 (hexText-avoids 93 tt) cookie-apart t g (w .items) one-cookie k z j
 
       pub cookies-far : not (r .spelled) ≡ false → d .at < r .at
-      cookies-far j = items-far cookieCodec 93 cookie-avoids cookie-apart t g (w .items) one-cookie j
+      cookies-far j = items-far hex 93 (hexText-avoids 93 tt) cookie-apart t g (w .items) one-cookie j
 
       pub cookies-more : {n : ℕ} → not (r .spelled) ≡ false → length out′ ≡ length out → n ≡ next-part i
           → Cookies t c b r false n out′
       cookies-more {n} j z y = record {
-        items = items-more cookieCodec 93 cookie-avoids cookie-apart t g (w .items) one-cookie j
+        items = items-more hex 93 (hexText-avoids 93 tt) cookie-apart t g (w .items) one-cookie j
             (λ l a p q. (
               put-last l a (parts-last 0 l a ∙ ap (λ (n : ℕ). parts? 0 l && part? n (length a)) (sym (p .1)))
                   (p .0) q,

@@ -61,7 +61,7 @@ fn question(text: &[u8], c: Cursor, out: &mut [u8]) -> Cursor
     ensures { λ r. ⌜ Step question? questionForm (questionCodec .parse) (now (text .entry)) c (now (out .entry)) r
         (now (out .exit)) ⌝ }
 {
-    let start = literal(text, c, b"{\"NAME\":\"");
+    let start = literal(text, c, b"{\"NAME\":");
     let owner = name(text, start, out);
     let behind = literal(text, owner, b",\"TYPE\":");
     let kind = word(text, behind, out);
@@ -118,7 +118,7 @@ fn tail(text: &[u8], c: Cursor, kind: u64, root: bool, rcode: u32, out: &mut [u8
 {
     let ttl = signed(text, c);
     let written = put_ttl(ttl.cursor, ttl.bits, ttl.fits, out);
-    let title = literal(text, written, b",\"RDATAHEX\":\"");
+    let title = literal(text, written, b",\"RDATAHEX\":");
     let span = rdata(text, title, kind, out);
     Entry {
         cursor: literal(text, span.cursor, b"}"),
@@ -141,7 +141,7 @@ fn record(text: &[u8], c: Cursor, rcode: u32, out: &mut [u8]) -> Entry
     let further = literal(text, kind.cursor, b",\"CLASS\":");
     let class = word(text, further, out);
     let title = literal(text, class.cursor, b",\"TTL\":");
-    tail(text, title, kind.value, end - start == 2, rcode, out)
+    tail(text, title, kind.value, end - start == 3, rcode, out)
 }
 
 // An element of the additional section.
@@ -149,7 +149,7 @@ fn item(text: &[u8], c: Cursor, rcode: u32, out: &mut [u8]) -> Entry
     requires { ⌜ Safe (now text) c × (rcode < 16) ⌝ }
     ensures { λ r. ⌜ ItemRead rcode (now (text .entry)) c (now (out .entry)) r (now (out .exit)) ⌝ }
 {
-    let ordinary = literal(text, c, b"{\"NAME\":\"");
+    let ordinary = literal(text, c, b"{\"NAME\":");
     let element = literal(text, c, b"{\"EDNS\":{\"Version\":");
     if element.spelled {
         let end = edns(text, element, rcode, out);
@@ -204,7 +204,7 @@ fn record_element(text: &[u8], c: Cursor, rcode: u32, out: &mut [u8]) -> Entry
     requires { ⌜ Safe (now text) c × (rcode < 16) ⌝ }
     ensures { λ r. ⌜ TitledRead rcode (now (text .entry)) c (now (out .entry)) r (now (out .exit)) ⌝ }
 {
-    let start = literal(text, c, b"{\"NAME\":\"");
+    let start = literal(text, c, b"{\"NAME\":");
     record(text, start, rcode, out)
 }
 

@@ -6,8 +6,8 @@ ghost use lib.ListN.{length};
 ghost use Rattle.parse_tokens.specs.Cursor.{Safe};
 ghost use Rattle.parse_tokens.specs.Place.{Byte};
 ghost use Rattle.to_wire.specs.Label.{Stored, LabelAt};
-ghost use Rattle.to_wire.specs.Name.{Grown, LabelsAt, NameRead};
-ghost use Rattle.to_wire.specs.String.{Added, StringRead};
+ghost use Rattle.to_wire.specs.Name.{Grown, LabelsAt, RootOrLabels, NameRead};
+ghost use Rattle.to_wire.specs.String.{Added, CharsRead, StringRead};
 use octets::put;
 use parse_octets::char_at;
 use parse_octets::octet;
@@ -141,7 +141,7 @@ fn labels_at(text: &[u8], start: usize, out: &mut [u8], to: usize) -> Part
 // The root and the quote after it.
 fn root(text: &[u8], c: Cursor, out: &mut [u8]) -> Cursor
     requires { ⌜ Safe (now text) c × ((c .spelled ≡ true) × Byte (now text) (c .at) 46) ⌝ }
-    ensures { λ r. ⌜ NameRead (now (text .entry)) c (now (out .entry)) r (now (out .exit)) ⌝ }
+    ensures { λ r. ⌜ RootOrLabels (now (text .entry)) c (now (out .entry)) r (now (out .exit)) ⌝ }
 {
     let r = literal(text, c, b".\"");
     if !r.spelled {
@@ -150,10 +150,10 @@ fn root(text: &[u8], c: Cursor, out: &mut [u8]) -> Cursor
     emit(r, &[0], out)
 }
 
-// A name and the quote after it.
-pub fn name(text: &[u8], c: Cursor, out: &mut [u8]) -> Cursor
+// The root or labels, and the quote after them.
+fn root_or_labels(text: &[u8], c: Cursor, out: &mut [u8]) -> Cursor
     requires { ⌜ Safe (now text) c ⌝ }
-    ensures { λ r. ⌜ NameRead (now (text .entry)) c (now (out .entry)) r (now (out .exit)) ⌝ }
+    ensures { λ r. ⌜ RootOrLabels (now (text .entry)) c (now (out .entry)) r (now (out .exit)) ⌝ }
 {
     if !c.spelled {
         return c;
@@ -173,6 +173,15 @@ pub fn name(text: &[u8], c: Cursor, out: &mut [u8]) -> Cursor
     demand(r, size <= 255)
 }
 
+// A name in quotes.
+pub fn name(text: &[u8], c: Cursor, out: &mut [u8]) -> Cursor
+    requires { ⌜ Safe (now text) c ⌝ }
+    ensures { λ r. ⌜ NameRead (now (text .entry)) c (now (out .entry)) r (now (out .exit)) ⌝ }
+{
+    let open = literal(text, c, b"\"");
+    root_or_labels(text, open, out)
+}
+
 // Goes on to `at`, and writes the octet.
 fn add(c: Cursor, at: usize, v: u8, out: &mut [u8]) -> Cursor
     requires { ⌜ c .to ≤ 65535 ⌝ }
@@ -181,10 +190,10 @@ fn add(c: Cursor, at: usize, v: u8, out: &mut [u8]) -> Cursor
     emit(advance(c, at), &[v], out)
 }
 
-// A string and the quote after it. Its octets are written as they are read.
-pub fn string(text: &[u8], c: Cursor, out: &mut [u8]) -> Cursor
+// The octets of a string, and the quote after them. They are written as they are read.
+fn chars(text: &[u8], c: Cursor, out: &mut [u8]) -> Cursor
     requires { ⌜ Safe (now text) c ⌝ }
-    ensures { λ r. ⌜ StringRead (now (text .entry)) c (now (out .entry)) r (now (out .exit)) ⌝ }
+    ensures { λ r. ⌜ CharsRead (now (text .entry)) c (now (out .entry)) r (now (out .exit)) ⌝ }
 {
     if !c.spelled {
         return c;
@@ -202,4 +211,13 @@ pub fn string(text: &[u8], c: Cursor, out: &mut [u8]) -> Cursor
         }
         d = add(d, o.at, o.value, out);
     }
+}
+
+// A string in quotes.
+pub fn string(text: &[u8], c: Cursor, out: &mut [u8]) -> Cursor
+    requires { ⌜ Safe (now text) c ⌝ }
+    ensures { λ r. ⌜ StringRead (now (text .entry)) c (now (out .entry)) r (now (out .exit)) ⌝ }
+{
+    let open = literal(text, c, b"\"");
+    chars(text, open, out)
 }

@@ -123,7 +123,7 @@ fn hex_object(text: &[u8], c: Cursor, out: &mut [u8]) -> Cursor
     requires { ⌜ Safe (now text) c ⌝ }
     ensures { λ r. ⌜ ValueStep hexObject (now (text .entry)) c (now (out .entry)) r (now (out .exit)) ⌝ }
 {
-    let open = literal(text, c, b"{\"HEX\":\"");
+    let open = literal(text, c, b"{\"HEX\":");
     let h = hex(text, open);
     let d = put_hex(text, h, h.cursor, out);
     literal(text, d, b"}")
@@ -191,8 +191,7 @@ fn cookie_string(text: &[u8], c: Cursor, i: usize, out: &mut [u8]) -> Cursor
     requires { ⌜ Safe (now text) c ⌝ }
     ensures { λ r. ⌜ CookieStep i (now (text .entry)) c (now (out .entry)) r (now (out .exit)) ⌝ }
 {
-    let open = literal(text, c, b"\"");
-    let h = hex(text, open);
+    let h = hex(text, c);
     let d = put_hex(text, h, h.cursor, out);
     demand(d, cookie_part(i, size_of(h)))
 }
@@ -278,7 +277,7 @@ fn padding_hex(text: &[u8], c: Cursor, n: u64, out: &mut [u8]) -> Cursor
     requires { ⌜ Safe (now text) c ⌝ }
     ensures { λ r. ⌜ PaddingHex n (now (text .entry)) c (now (out .entry)) r (now (out .exit)) ⌝ }
 {
-    let open = literal(text, c, b",\"HEX\":\"");
+    let open = literal(text, c, b",\"HEX\":");
     let h = hex(text, open);
     let d = put_hex(text, h, h.cursor, out);
     literal(text, demand(d, padding_fits(text, h, n)), b"}")
@@ -311,9 +310,9 @@ fn error_text(text: &[u8], c: Cursor, out: &mut [u8]) -> Cursor
     requires { ⌜ Safe (now text) c ⌝ }
     ensures { λ r. ⌜ ErrorText (now (text .entry)) c (now (out .entry)) r (now (out .exit)) ⌝ }
 {
-    let open = literal(text, c, b",\"TEXT\":\"");
+    let open = literal(text, c, b",\"TEXT\":");
     let d = string(text, open, out);
-    let empty = d.at == open.at + 1;
+    let empty = d.at == open.at + 2;
     literal(text, demand(d, !empty), b"}")
 }
 
@@ -447,7 +446,7 @@ fn other(text: &[u8], c: Cursor, out: &mut [u8]) -> Coded
 {
     let open = literal(text, c, b"\"OPT");
     let n = number(text, open);
-    let close = literal(text, n.cursor, b"\":\"");
+    let close = literal(text, n.cursor, b"\":");
     let r = other_hex(text, close, n.value, out);
     Coded {
         cursor: r,

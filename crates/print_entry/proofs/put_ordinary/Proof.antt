@@ -1,4 +1,4 @@
--- `print_entry::put_ordinary` meets its contract: the fields, RDATA, the quote and the brace; there is no fault.
+-- `print_entry::put_ordinary` meets its contract: the fields, RDATA in quotes and the brace; there is no fault.
 use native.Mathlib.Omega.{arith}
 use borrow.Author.Needs.{needs}
 use Rattle.rdata.proofs.FormLaws.{rdata-digits-end}
@@ -8,6 +8,9 @@ use Rattle.print_entry.proofs.put_ordinary.Tie as tie
 
 put-fields-requires : tie.Need-put-fields-requires
 put-fields-requires c κs = search needs
+
+put-requires : tie.Need-put-requires
+put-requires c κs = search needs
 
 put-rdata-requires : tie.Need-put-rdata-requires
 put-rdata-requires c κs = search needs
@@ -31,8 +34,10 @@ put-all-requires : tie.Need-put-all-requires
 put-all-requires c κs =
     let told = c .before .before .before in
     let rdata = told .before .before .before .before in
+    let quote = rdata .before .before .before .before in
+    let fields = quote .before .before .before .before in
     let k = rdata-digits-end _ _ (rdata .put-rdata .ensures .1) (told .rdata .given .1) in
-    search needs
+    search (quote .put .ensures .place, fields .put-fields .ensures .1, needs)
 
 same-length-2 : tie.Need-same-length-2
 same-length-2 c = search needs
@@ -42,14 +47,20 @@ returns-2 c =
     let written = c .before .before in
     let told = written .before .before .before .before in
     let rdata = told .before .before .before .before in
-    let k = rdata-digits-end _ _ (rdata .put-rdata .ensures .1) (told .rdata .given .1) in
-    (search (ordinary-prints, needs), omega (arith, written .put-all .ensures .place))
+    let quote = rdata .before .before .before .before in
+    let fields = quote .before .before .before .before in
+    let k = rdata-digits-end _ _ (rdata .put-rdata .ensures .1) (told .rdata .given .1) in (
+      ordinary-prints _ _ _ (rdata .put-rdata .ensures .0) (fields .put-fields .ensures .0) (quote .put .ensures)
+          (told .rdata .given .1) (written .put-all .ensures),
+      omega (arith, written .put-all .ensures .place, quote .put .ensures .place, fields .put-fields .ensures .1),
+    )
 
 pub put-ordinary-spec : {M : Type 1} → statement M
 put-ordinary-spec =
     tie.close
     (tie.spec
     put-fields-requires
+    put-requires
     put-rdata-requires
     enum-known-rdata
     enum-told

@@ -1,4 +1,4 @@
--- `print_values::put_hex_text` meets its contract: the text before, the digits and the quote.
+-- `print_values::put_hex_text` meets its contract: the text before, the quote, the digits and the quote.
 use borrow.Author.Needs.{needs}
 use Rattle.print_values.proofs.Parts.{wrote-hex}
 use Rattle.print_values.proofs.put_hex_text.Statement.{statement}
@@ -7,11 +7,14 @@ use Rattle.print_values.proofs.put_hex_text.Tie as tie
 put-all-requires : tie.Need-put-all-requires
 put-all-requires c κs = search needs
 
+put-requires : tie.Need-put-requires
+put-requires c κs = search needs
+
 put-hex-requires : tie.Need-put-hex-requires
 put-hex-requires c κs = search needs
 
-put-requires : tie.Need-put-requires
-put-requires c κs = search needs
+put-requires-2 : tie.Need-put-requires-2
+put-requires-2 c κs = search needs
 
 same-length : tie.Need-same-length
 same-length c = search needs
@@ -24,7 +27,8 @@ put-hex-text-spec =
     tie.close
     (tie.spec
     put-all-requires
-    put-hex-requires
     put-requires
+    put-hex-requires
+    put-requires-2
     same-length
     returns)

@@ -10,14 +10,17 @@ use Rattle.spelling.proofs.put_name.Statement.{statement}
 use Rattle.spelling.proofs.put_name.Tie as tie
 
 abbrev Inv-loop : tie.InvT-loop
-Inv-loop out₀ at form table to₀ i₀ out to i = (i ≤ length form) × (to ≤ at + 5 * i) × (length out ≡ length out₀)
-    × Begun form out₀ at out to i
+Inv-loop out₀ at form to₀ table i₀ out to i = (i ≤ length form) × (to ≤ to₀ + 5 * i) × (length out ≡ length out₀)
+    × Begun form out₀ to₀ out to i
 
 abbrev μ-loop : tie.MeasureT-loop
-μ-loop out₀ at form table to₀ i₀ out to i = length form - i
+μ-loop out₀ at form to₀ table i₀ out to i = length form - i
 
 put-requires : tie.Need-put-requires Inv-loop μ-loop
 put-requires c κs = search needs
+
+put-requires-2 : tie.Need-put-requires-2 Inv-loop μ-loop
+put-requires-2 c κs = search needs
 
 same-length : tie.Need-same-length Inv-loop μ-loop
 same-length c = search needs
@@ -52,8 +55,8 @@ shared-slice-read-wide c = search needs
 wide-requires : tie.Need-wide-requires Inv-loop μ-loop
 wide-requires c κs = search needs
 
-put-requires-2 : tie.Need-put-requires-2 Inv-loop μ-loop
-put-requires-2 c κs = search needs
+put-requires-3 : tie.Need-put-requires-3 Inv-loop μ-loop
+put-requires-3 c κs = search needs
 
 same-length-3 : tie.Need-same-length-3 Inv-loop μ-loop
 same-length-3 c = search needs
@@ -79,8 +82,8 @@ part-put-label-end c = search needs
 put-label-requires : tie.Need-put-label-requires Inv-loop μ-loop
 put-label-requires c κs = search needs
 
-put-requires-3 : tie.Need-put-requires-3 Inv-loop μ-loop
-put-requires-3 c κs = search needs
+put-requires-4 : tie.Need-put-requires-4 Inv-loop μ-loop
+put-requires-4 c κs = search needs
 
 same-length-4 : tie.Need-same-length-4 Inv-loop μ-loop
 same-length-4 c = search needs
@@ -109,8 +112,8 @@ loop-less c = search needs
 loop-again : tie.Need-loop-again Inv-loop μ-loop
 loop-again c = (search needs, search needs, search needs, search (begun-label, needs))
 
-put-requires-4 : tie.Need-put-requires-4 Inv-loop μ-loop
-put-requires-4 c κs = search needs
+put-requires-5 : tie.Need-put-requires-5 Inv-loop μ-loop
+put-requires-5 c κs = search needs
 
 same-length-5 : tie.Need-same-length-5 Inv-loop μ-loop
 same-length-5 c = search needs
@@ -125,6 +128,7 @@ put-name-spec =
     Inv-loop
     μ-loop
     put-requires
+    put-requires-2
     same-length
     returns
     shared-slice-read-if2
@@ -136,7 +140,7 @@ put-name-spec =
     loop-holds
     shared-slice-read-wide
     wide-requires
-    put-requires-2
+    put-requires-3
     same-length-3
     returns-3
     add-start
@@ -145,7 +149,7 @@ put-name-spec =
     part-put-label-start
     part-put-label-end
     put-label-requires
-    put-requires-3
+    put-requires-4
     same-length-4
     returns-4
     add-end
@@ -155,6 +159,6 @@ put-name-spec =
     put-label-requires-2
     loop-less
     loop-again
-    put-requires-4
+    put-requires-5
     same-length-5
     returns-5)

@@ -3,18 +3,21 @@ use borrow.Author.Needs.{needs}
 use Prim.Native.Nat.{_≤_, _+_, _*_, _-_}
 use lib.ListN.{length, take}
 use Rattle.octets.specs.Lists.{each}
-use Rattle.octets.specs.Overlay.{Wrote, each-start, each-step, same-long, then}
+use Rattle.octets.specs.Overlay.{Wrote, each-start, each-step, same-long}
 use Rattle.spelling.specs.Spelling.{stringOctet}
 use Rattle.spelling.proofs.Writing.{wrote-string}
 use Rattle.spelling.proofs.put_string.Statement.{statement}
 use Rattle.spelling.proofs.put_string.Tie as tie
 
 abbrev Inv-loop : tie.InvT-loop
-Inv-loop out₀ at src to₀ i₀ out to i = (i ≤ length src) × (to ≤ at + 2 * i)
-    × Wrote out₀ at (each stringOctet (take i src)) out to
+Inv-loop out₀ at src to₀ i₀ out to i = (i ≤ length src) × (to ≤ to₀ + 2 * i)
+    × Wrote out₀ to₀ (each stringOctet (take i src)) out to
 
 abbrev μ-loop : tie.MeasureT-loop
 μ-loop out₀ at src to₀ i₀ out to i = length src - i
+
+put-requires : tie.Need-put-requires Inv-loop μ-loop
+put-requires c κs = search needs
 
 loop-holds : tie.Need-loop-holds Inv-loop μ-loop
 loop-holds c = (search needs, search needs, each-start _ _ _)
@@ -34,12 +37,11 @@ loop-less c = search needs
 loop-again : tie.Need-loop-again Inv-loop μ-loop
 loop-again c = (search needs, search needs, search (each-step, needs))
 
-put-requires : tie.Need-put-requires Inv-loop μ-loop
-put-requires c κs = search needs
+put-requires-2 : tie.Need-put-requires-2 Inv-loop μ-loop
+put-requires-2 c κs = search needs
 
 same-length : tie.Need-same-length Inv-loop μ-loop
-same-length c = same-long
-    (then (c .before .before .before .before .before .loop .inv .2) (c .before .before .put .ensures))
+same-length c = search (same-long (c .before .before .before .before .before .loop .inv .2), needs)
 
 returns : tie.Need-returns Inv-loop μ-loop
 returns c = (search (wrote-string, needs), search needs)
@@ -50,12 +52,13 @@ put-string-spec =
     (tie.spec
     Inv-loop
     μ-loop
+    put-requires
     loop-holds
     shared-slice-read-put-string-octet
     put-string-octet-requires
     add-i
     loop-less
     loop-again
-    put-requires
+    put-requires-2
     same-length
     returns)

@@ -1,87 +1,24 @@
-use Rattle.to_wire.specs.String.{Chars, chars-start, string-stuck, chars-end, chars-bad, chars-far, chars-more}
-use native.Mathlib.Omega.{arith}
-use Prim.Native.Nat.{_-_}
-use lib.ListN.{length}
+-- `labels::string` meets its contract: the quote, and the octets after it.
 use borrow.Author.Needs.{needs}
+use Rattle.to_wire.specs.String.{string-opened}
 use Rattle.to_wire.proofs.labels.string.Statement.{statement}
 use Rattle.to_wire.proofs.labels.string.Tie as tie
 
-abbrev Inv-loop : tie.InvT-loop
-Inv-loop text out₀ d₀ out d = Chars text d₀ out₀ d out
+slice-aggregate-literal : tie.Need-slice-aggregate-literal
+slice-aggregate-literal c = search needs
 
-abbrev μ-loop : tie.MeasureT-loop
-μ-loop text out₀ d₀ out d = length text - d .at
+literal-requires : tie.Need-literal-requires
+literal-requires c κs = search needs
 
-returns : tie.Need-returns Inv-loop μ-loop
-returns c = search (string-stuck, needs)
+chars-requires : tie.Need-chars-requires
+chars-requires c κs = search needs
 
-loop-holds : tie.Need-loop-holds Inv-loop μ-loop
-loop-holds c = search (chars-start, needs)
-
-octet-at-requires : tie.Need-octet-at-requires Inv-loop μ-loop
-octet-at-requires c κs = search needs
-
-add-advance : tie.Need-add-advance Inv-loop μ-loop
-add-advance c = search needs
-
-advance-requires : tie.Need-advance-requires Inv-loop μ-loop
-advance-requires c κs = search needs
-
-same-length : tie.Need-same-length Inv-loop μ-loop
+same-length : tie.Need-same-length
 same-length c = search needs
 
-returns-2 : tie.Need-returns-2 Inv-loop μ-loop
-returns-2 c = search (chars-end, needs)
-
-char-at-requires : tie.Need-char-at-requires Inv-loop μ-loop
-char-at-requires c κs = search needs
-
-fail-at-requires : tie.Need-fail-at-requires Inv-loop μ-loop
-fail-at-requires c κs = search needs
-
-same-length-2 : tie.Need-same-length-2 Inv-loop μ-loop
-same-length-2 c = search needs
-
-returns-3 : tie.Need-returns-3 Inv-loop μ-loop
-returns-3 c = search (chars-bad, needs)
-
-add-requires : tie.Need-add-requires Inv-loop μ-loop
-add-requires c κs = search needs
-
-loop-less : tie.Need-loop-less Inv-loop μ-loop
-loop-less c =
-    let m = c .before .before .before .before in
-    omega (
-      arith,
-      chars-far (m .before .before .before .before .before .loop .inv) (m .before .before .char-at .ensures)
-          (m .if3 .left),
-      c .before .before .add .ensures .emits .at,
-      c .before .before .add .ensures .came .at,
-    )
-
-loop-again : tie.Need-loop-again Inv-loop μ-loop
-loop-again c =
-    let m = c .before .before .before .before in
-    chars-more (m .before .before .before .before .before .loop .inv) (m .before .before .char-at .ensures)
-    (m .if3 .left) (c .before .before .add .ensures) (search needs)
+returns : tie.Need-returns
+returns c = search (string-opened, needs)
 
 pub string-spec : {M : Type 1} → statement M
 string-spec =
-    tie.close
-    (tie.spec
-    Inv-loop
-    μ-loop
-    returns
-    loop-holds
-    octet-at-requires
-    add-advance
-    advance-requires
-    same-length
-    returns-2
-    char-at-requires
-    fail-at-requires
-    same-length-2
-    returns-3
-    add-requires
-    loop-less
-    loop-again)
+    tie.close (tie.spec slice-aggregate-literal literal-requires chars-requires same-length returns)

@@ -4,12 +4,6 @@ use Rattle.to_wire.specs.Values.{hex-digits, cookie-string}
 use Rattle.to_wire.proofs.members.cookie_string.Statement.{statement}
 use Rattle.to_wire.proofs.members.cookie_string.Tie as tie
 
-slice-aggregate-literal : tie.Need-slice-aggregate-literal
-slice-aggregate-literal c = search needs
-
-literal-requires : tie.Need-literal-requires
-literal-requires c κs = search needs
-
 hex-requires : tie.Need-hex-requires
 hex-requires c κs = search needs
 
@@ -35,8 +29,6 @@ pub cookie-string-spec : {M : Type 1} → statement M
 cookie-string-spec =
     tie.close
     (tie.spec
-    slice-aggregate-literal
-    literal-requires
     hex-requires
     put-hex-requires
     size-of-requires
