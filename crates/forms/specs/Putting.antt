@@ -10,6 +10,7 @@ use lib.ListN.{length, take, length-take}
 use Rattle.octets.specs.Fields.{be16, be32, be16At}
 use Rattle.octets.specs.Overlay.{Wrote, then, nothing}
 use Rattle.octets.specs.Overlay as overlay
+use Rattle.octets.specs.Loops.{Continues, continues-step}
 use Rattle.names.specs.Name.{nameForm, Fault}
 use Rattle.names.specs.Answer.{faultOf}
 use Rattle.names.specs.declared.Fault.{Fault as FaultRead}
@@ -211,9 +212,15 @@ abbrev pub Comes : Came → ℕ → Type 0
 Comes (came.To at to opts) end = (at ≤ end) × (to ≤ 255 * at)
 Comes (came.Stopped at fault) end = Unit {0}
 
-pub goes-within : (x : Gone) {end next to kind : ℕ} → Goes x end → x ≡ gone.To next to kind
-    → (next ≤ end) × (to ≤ 255 * next)
-goes-within x {end} h e = subst (λ (y : Gone). Goes y end) e h
+module _ (x : Gone) (end : ℕ) {next to kind : ℕ} (h : Goes x end) (e : x ≡ gone.To next to kind) where
+  goes : Goes (gone.To next to kind) end
+  goes = subst (λ (y : Gone). Goes y end) e h
+
+  pub goes-inside : next ≤ end
+  goes-inside = goes .0
+
+  pub goes-short : to ≤ 255 * next
+  goes-short = goes .1
 
 pub comes-within : (x : Came) {end at to opts : ℕ} → Comes x end → x ≡ came.To at to opts → (at ≤ end) × (to ≤ 255 * at)
 comes-within x {end} h e = subst (λ (y : Came). Comes y end) e h
@@ -226,10 +233,10 @@ run-after p w e (runs {n = i} {m = m} {r = r} q v) =
     runs {n = optCount (p .type) + i} {m = m} {r = r} (omega (arith, e, q)) (then w v)
 run-after p w e halts = halts
 
-runs-after : {x : Entry Part} (f : ℕ → Run) (at : ℕ) {b b₁ b₂ : List ℕ} {to n next kind k j : ℕ} {r : Came}
+runs-after : {x : Entry Part} (f : ℕ → Run) (at : ℕ) {b b₁ : List ℕ} {to n next kind k j : ℕ}
     → Puts x b to b₁ (gone.To next n kind)
-    → j ≡ k + optCount kind → Runs j (f next) b₁ n b₂ r → Runs k (turned f at x) b to b₂ r
-runs-after f at (puts {p = p} w) e d = run-after p w e d
+    → j ≡ k + optCount kind → Continues (Runs j (f next) b₁ n) (Runs k (turned f at x) b to)
+runs-after f at (puts {p = p} w) e = record { goes = λ b r d. run-after p w e d }
 
 runs-stop : {x : Entry Part} (f : ℕ → Run) {b b₁ : List ℕ} {to at k : ℕ} {g : FaultRead}
     → Puts x b to b₁ (gone.Faulty g) → Runs k (turned f at x) b to b₁ (came.Stopped at g)
@@ -241,35 +248,27 @@ unfolding sectionRun
 section-next records s zero at h = absurd (omega arith)
 section-next records s (suc n) at h = let e : suc n - 1 ≡ n = omega arith in rw e
 
--- to do the rest of a section from here is to do the whole from the start
-pub record Onward (k : ℕ) (rest whole : Run) (b₀ : List ℕ) (to : ℕ) (b : List ℕ) (next : ℕ) : Type 0 where
-  pub goes : (b′ : List ℕ) (r : Came) → Runs k rest b next b′ r → Runs 0 whole b₀ to b′ r
-
-pub onward-start : (w : Run) (b : List ℕ) (to : ℕ) → Onward 0 w w b to b to
-onward-start w b to = record { goes = λ b′ r d. d }
-
+-- the loop over a section's entries
 module _ (records : Bool) (s : List ℕ) (left at : ℕ) {k next to : ℕ} {whole : Run} {b₀ b : List ℕ}
-    (w : Onward k (sectionRun records s left at) whole b₀ to b next) where
+    (w : Continues (Runs k (sectionRun records s left at) b next) (Runs 0 whole b₀ to)) where
   -- no entry is left
-  pub onward-end : left ≤ 0 → Runs 0 whole b₀ to b (came.To at next k)
+  pub section-ends : left ≤ 0 → Runs 0 whole b₀ to b (came.To at next k)
   unfolding sectionRun
-  onward-end h = let z : left ≡ 0 =
+  section-ends h = let z : left ≡ 0 =
       omega arith in w .goes b (came.To at next k)
       (rw z (runs {l = []} {n = 0} {m = k} {r = next} (omega arith) (nothing b next)))
 
   module _ {x : Gone} {b₁ : List ℕ} (h : 0 < left) (p : Puts (partAt records s at) b next b₁ x) where
     -- one more entry
-    pub onward-more : {j behind n kind : ℕ} → x ≡ gone.To behind n kind → j ≡ k + optCount kind
-        → Onward j (sectionRun records s (left - 1) behind) whole b₀ to b₁ n
-    onward-more q e = record {
-      goes = λ b′ r d. w .goes b′ r
-          (rw (section-next records s left at h)
-          (runs-after (λ i. sectionRun records s (left - 1) i) at (rw q at p) e d));
-    }
+    pub section-goes : {opts behind n kind : ℕ} → x ≡ gone.To behind n kind → opts ≡ optCount kind
+        → Continues (Runs (k + opts) (sectionRun records s (left - 1) behind) b₁ n) (Runs 0 whole b₀ to)
+    section-goes q e =
+        continues-step w (rw (section-next records s left at h)
+        (runs-after (λ i. sectionRun records s (left - 1) i) at (rw q at p) (ap (λ (o : ℕ). k + o) e)))
 
     -- a faulty one
-    pub onward-stop : {g : FaultRead} → x ≡ gone.Faulty g → Runs 0 whole b₀ to b₁ (came.Stopped at g)
-    onward-stop {g} q = w .goes b₁ (came.Stopped at g)
+    pub section-stops : {g : FaultRead} → x ≡ gone.Faulty g → Runs 0 whole b₀ to b₁ (came.Stopped at g)
+    section-stops {g} q = w .goes b₁ (came.Stopped at g)
         (rw (section-next records s left at h) (runs-stop (λ i. sectionRun records s (left - 1) i) (rw q at p)))
 
 pub opt-yes : (kind : ℕ) → kind ≡ 41 → 1 ≡ optCount kind

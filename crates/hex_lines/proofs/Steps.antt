@@ -12,7 +12,8 @@ use lib.ListN.{length, getD, take, drop, set, length-drop}
 use lib.Seq.{drop-cons, take-append-seam}
 use Rattle.octets.specs.Lists.{present?}
 use Rattle.octets.specs.Lists as lists
-use Rattle.octets.specs.Overlay.{overlay, Wrote, then, nothing, overlay-first}
+use Rattle.octets.specs.Overlay.{overlay, Wrote, nothing, overlay-first}
+use Rattle.octets.specs.Loops.{Continues, continues-start, continues-step, continues-text}
 use Rattle.hex_lines.specs.Hex.{hexValue, octetThen, unhexed, hexAnswer, hexLeft, Unhexed, OctetsWithin}
 use Rattle.hex_lines.specs.Hex.{valueOr16, hex?}
 use Rattle.hex_lines.specs.Hex.{octetsFound}
@@ -79,14 +80,13 @@ looked-end {s} {i} p h k = go (drop i s) refl (length-drop i s)
     go (c ∷ d ∷ l) e n = absurd (omega arith)
 
 -- ---- writing the octets
--- what is written for the rest makes the whole
+-- what is left is hexadecimal, and its octets make the whole
 pub record HexLoop (s b₀ b : List ℕ) (to i : ℕ) : Type 0 where
   pub good : hex? (drop i s) ≡ true
-  pub goes : {b′ : List ℕ} {r : ℕ} → Wrote b to (octetsFound (unhexed (drop i s))) b′ r
-      → Wrote b₀ 0 (octetsFound (unhexed s)) b′ r
+  pub rest : Continues (Wrote b to (octetsFound (unhexed (drop i s)))) (Wrote b₀ 0 (octetsFound (unhexed s)))
 
 pub rest-start : (s b : List ℕ) → hex? s ≡ true → HexLoop s b b 0 0
-rest-start s b e = record { good = e; goes = λ w. w }
+rest-start s b e = record { good = e; rest = continues-start }
 
 -- one store
 stored : (b : List ℕ) (at x : ℕ) → Wrote b at (x ∷ []) (set b at x) (at + 1)
@@ -135,7 +135,7 @@ module _ {s b₀ b : List ℕ} {to i : ℕ} (p : HexLoop s b₀ b to i) (h : 2 �
       let o : octetsFound (unhexed (drop i s)) ≡ (v * 16 + w) ∷ octetsFound (unhexed (drop (i + 2) s)) =
       rw (drop-two s i h, is-digit _ d (first-below d), is-digit _ e (second-below e))
       (octets-step (unhexed (drop (i + 2) s)) v w r) in
-      record { good = r; goes = λ z. p .goes (rw o (then (stored b to (v * 16 + w)) z)) }
+      record { good = r; rest = continues-step (p .rest) (rw o (continues-text (stored b to (v * 16 + w)))) }
 
 -- the end
 pub rest-end : {s b₀ b : List ℕ} {to i : ℕ} → HexLoop s b₀ b to i → length s - i < 2
@@ -144,8 +144,8 @@ unfolding hex? unhexed
 rest-end {s} {b₀} {b} {to} {i} p h = go (drop i s) refl (length-drop i s)
   where
     go : (l : List ℕ) → drop i s ≡ l → length l ≡ length s - i → Wrote b₀ 0 (octetsFound (unhexed s)) b to
-    go [] e n = p .goes (rw e (nothing b to))
-    go (c ∷ []) e n = p .goes (rw e (nothing b to))
+    go [] e n = p .rest .goes b to (rw e (nothing b to))
+    go (c ∷ []) e n = p .rest .goes b to (rw e (nothing b to))
     go (c ∷ d ∷ l) e n = absurd (omega arith)
 
 -- ---- the ways to the answer

@@ -14,6 +14,7 @@ use Rattle.octets.specs.Bits.{is-true, and-right}
 use Rattle.octets.specs.Fields.{be16At}
 use Rattle.octets.specs.Decimal.{decimal}
 use Rattle.octets.specs.Overlay.{Wrote, then, nothing, each-ended}
+use Rattle.octets.specs.Loops.{Continues, continues-start, continues-step, continues-text}
 use Rattle.options.specs.Options.{EdnsOption, memberOf, memberText}
 use Rattle.edns.specs.Edns.{prepend, optionsOf, rcodes, flags, fullRcode, ednsItem, ednsText}
 use Rattle.edns.specs.Element.{risen?, optionsRise, listOf, optionsIn, optionsText, showsEdns, elementText}
@@ -59,7 +60,7 @@ later a (some l) t = (tt, refl)
 -- whole text.
 pub record OptionsLoop (s b : List ℕ) (at : ℕ) (out : List ℕ) (to from : ℕ) : Type 0 where
   pub divides : T (present? (optionsOf (drop from s)))
-  pub writes : (b′ : List ℕ) (r : ℕ) → Wrote out to (optionsText (drop from s)) b′ r → Wrote b at (optionsText s) b′ r
+  pub rest : Continues (Wrote out to (optionsText (drop from s))) (Wrote b at (optionsText s))
 
 risen-present : (o : Option (List EdnsOption)) → risen? o ≡ true → T (present? o)
 risen-present none e = subst T (sym e) tt
@@ -68,13 +69,13 @@ risen-present (some l) e = tt
 -- before the first option
 pub left-start : (s b : List ℕ) (at : ℕ) → optionsRise s ≡ true → OptionsLoop s b at b at 0
 unfolding optionsRise
-left-start s b at e = record { divides = risen-present (optionsOf s) e; writes = λ b′ r w. w }
+left-start s b at e = record { divides = risen-present (optionsOf s) e; rest = continues-start }
 
 module _ {s b : List ℕ} {at : ℕ} {out : List ℕ} {to from : ℕ} (f : OptionsLoop s b at out to from) where
   -- after the last
   pub left-end : length s ≤ from → Wrote b at (optionsText s) out to
   unfolding optionsText optionsIn each
-  left-end h = f .writes out to (rw (options-end s from h) (nothing out to))
+  left-end h = f .rest .goes out to (rw (options-end s from h) (nothing out to))
 
   module _ (h : from < length s) where
     -- there is an option
@@ -105,7 +106,7 @@ module _ {s b : List ℕ} {at : ℕ} {out : List ℕ} {to from : ℕ} (f : Optio
         let member : Wrote out to (44 ∷ memberText (memberOf (here s from))) out₂ r₂ = then p (rw (long, d, e) at q) in
         rw e record {
           divides = t;
-          writes = λ b′ r w. f .writes b′ r (rw (more, text) (then member w));
+          rest = continues-step (f .rest) (rw (more, text) (continues-text member));
         }
 
 -- ---- the element

@@ -3,6 +3,7 @@ use mathlib.Core.Path.{_≡_, refl, ap, subst}
 use mathlib.Core.List.{List, _++_}
 use Prim.Native.Nat.{ℕ, _+_, _*_, _≤_, _<_}
 use Rattle.octets.specs.Overlay.{Wrote, then}
+use Rattle.octets.specs.Loops.{Continues, continues-start, continues-step}
 use Rattle.records.specs.Read.{Entry, entry, bad}
 use Rattle.records.specs.RecordLaws.{bad≢entry}
 use Rattle.print_entry.specs.declared.Position.{Position}
@@ -57,15 +58,18 @@ module _ {b b₁ : List ℕ} {to n₁ : ℕ} {t : List ℕ} (w : Wrote b to t b�
     }
 
 -- ---- what is left to write
--- From the buffer b and the place `next` the rest is left: it has no fault, and to write it is to write the whole from
--- the start.
-pub record PrintLoop (whole : Entry (List ℕ)) (b₀ : List ℕ) (to : ℕ) (rest : Entry (List ℕ)) (b : List ℕ)
+-- the buffer and the position after the text of an entry
+abbrev PrintsTo : Entry (List ℕ) → List ℕ → ℕ → List ℕ → Position → Type 0
+PrintsTo e b to b′ p = Prints e b to b′ (p .at) (p .to)
+
+-- From the buffer b and the place `next` the rest is left: it has no fault, and to write it is to write the whole.
+pub record PrintLoop (whole : Entry (List ℕ)) (b₀ : List ℕ) (to : ℕ) (left : Entry (List ℕ)) (b : List ℕ)
     (next : ℕ) : Type 0 where
-  pub readable : Readable rest
-  pub goes : (b′ : List ℕ) (at n : ℕ) → Prints rest b next b′ at n → Prints whole b₀ to b′ at n
+  pub readable : Readable left
+  pub rest : Continues (PrintsTo left b next) (PrintsTo whole b₀ to)
 
 pub rest-all : {e : Entry (List ℕ)} {b : List ℕ} {to : ℕ} → Readable e → PrintLoop e b to e b to
-rest-all h = record { readable = h; goes = λ b′ at n p. p }
+rest-all h = record { readable = h; rest = continues-start }
 
 module _ {whole : Entry (List ℕ)} {b₀ b : List ℕ} {to next : ℕ} where
   -- by an equal rest
@@ -78,7 +82,7 @@ module _ {whole : Entry (List ℕ)} {b₀ b : List ℕ} {to next : ℕ} where
   rest-text {e} {t} r w =
       record {
         readable = readable-value (λ u. t ++ u) e (r .readable);
-        goes = λ b′ at n p. r .goes b′ at n (prints-after w p);
+        rest = continues-step (r .rest) (record { goes = λ b′ p q. prints-after w q });
       }
 
   -- an entry of it is written
@@ -89,7 +93,7 @@ module _ {whole : Entry (List ℕ)} {b₀ b : List ℕ} {to next : ℕ} where
   -- its last text is written
   pub rest-end : {t b₁ : List ℕ} {at n : ℕ} → PrintLoop whole b₀ to (entry t at) b next → Wrote b next t b₁ n
       → Prints whole b₀ to b₁ at n
-  rest-end r w = r .goes _ _ _ (prints-text w)
+  rest-end {b₁ = b₁} {at = at} {n = n} r w = r .rest .goes b₁ (record { at = at; to = n }) (prints-text w)
 
 -- ---- bounds
 -- an element from an offset on ends after it, within the message; an octet of it has less than 4,096 octets of text

@@ -12,6 +12,7 @@ use Rattle.octets.specs.Lists.{ascii, ended, listed}
 use Rattle.octets.specs.Fields.{be16At, drop-one}
 use Rattle.octets.specs.Decimal.{decimal}
 use Rattle.octets.specs.Overlay.{Wrote, then}
+use Rattle.octets.specs.Loops.{Continues, continues-step, continues-text}
 use Rattle.octets.proofs.Writing.{decimal-short}
 use Rattle.options.specs.Options.{words}
 
@@ -91,14 +92,6 @@ module _
 abbrev pub entries : List ℕ → List ℕ
 entries = ended (λ n. 44 ∷ decimal n) 93
 
--- to write those left from here is to write all of them from where the loop starts
-pub record ListLoop (whole left : List ℕ) (b₀ : List ℕ) (at : ℕ) (b : List ℕ) (to : ℕ) : Type 0 where
-  pub goes : (b′ : List ℕ) (r : ℕ) → Wrote b to (entries left) b′ r → Wrote b₀ at (entries whole) b′ r
-
--- the loop starts
-pub list-start : (l b : List ℕ) (at : ℕ) → ListLoop l l b at b at
-list-start l b at = record { goes = λ b′ r w. w }
-
 module _ {w : ℕ} (k : Width w) (s : List ℕ) where
   -- there is no number
   pub list-none : {b b′ : List ℕ} {at r : ℕ} → length s < w → Wrote b at (ascii "[]") b′ r
@@ -106,11 +99,11 @@ module _ {w : ℕ} (k : Width w) (s : List ℕ) where
   list-none h v = rw (no-number k s 0 (omega arith)) v
 
   module _ (i : ℕ) {b₀ b b₁ : List ℕ} {at to r : ℕ}
-      (o : ListLoop (numbers w (drop w s)) (numbers w (drop i s)) b₀ at b to) where
+      (o : Continues (Wrote b to (entries (numbers w (drop i s)))) (Wrote b₀ at (entries (numbers w (drop w s))))) where
     -- one entry more
     pub list-next : i + w ≤ length s → Wrote b to (44 ∷ decimal (numberAt w s i)) b₁ r
-        → ListLoop (numbers w (drop w s)) (numbers w (drop (i + w) s)) b₀ at b₁ r
-    list-next h v = record { goes = λ b′ t u. o .goes b′ t (rw (number-here k s i h) (then v u)) }
+        → Continues (Wrote b₁ r (entries (numbers w (drop (i + w) s)))) (Wrote b₀ at (entries (numbers w (drop w s))))
+    list-next h v = continues-step o (rw (number-here k s i h) (continues-text v))
 
     -- none is left: the bracket ends the list, whose first number was written before the loop
     pub list-last : {b₋ : List ℕ} {r₋ : ℕ} → w ≤ length s → length s < i + w

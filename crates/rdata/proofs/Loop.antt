@@ -8,6 +8,7 @@ use lib.ListN.{length, take, drop, length-take}
 use Rattle.octets.specs.Lists.{each}
 use Rattle.octets.specs.Hexadecimal.{hexOctet}
 use Rattle.octets.specs.Overlay.{Wrote, then, nothing, same-long}
+use Rattle.octets.specs.Loops.{Continues, continues-step}
 use Rattle.names.specs.Name.{nameForm}
 use Rattle.names.specs.Walk.{part}
 use Rattle.names.specs.declared.Fault.{Fault as FaultRead}
@@ -36,18 +37,21 @@ wrote-piece-octets e p = rw e p
 
 -- ---- the loop
 -- octets were written before the rest
-puts-before : (w : Laid) (xs : List ℕ) {hex : Bool} {l b b₁ b₂ : List ℕ} {to n : ℕ} {r : RdataEnd}
-    → Wrote b to (digitsIf hex xs) b₁ n → PutsForm hex w l b₁ n b₂ r → PutsForm hex (before xs w) (xs ++ l) b to b₂ r
-puts-before w xs {hex} {l} p q =
+puts-before : (w : Laid) (xs : List ℕ) {hex : Bool} {l b b₁ : List ℕ} {to n : ℕ}
+    → Wrote b to (digitsIf hex xs) b₁ n
+    → Continues (PutsForm hex w l b₁ n) (PutsForm hex (before xs w) (xs ++ l) b to)
+puts-before w xs {hex} {l} p =
     record {
-      next = q .next;
-      wrote = rw (digitsIf-append hex xs l) (then p (q .wrote));
-      answer = q .answer ∙ go w;
+      goes = λ b′ r q. record {
+        next = q .next;
+        wrote = rw (digitsIf-append hex xs l) (then p (q .wrote));
+        answer = q .answer ∙ go w (q .next);
+      };
     }
   where
-    go : (w : Laid) → rdataEndOf w (q .next) ≡ rdataEndOf (before xs w) (q .next)
-    go (laid d) = refl
-    go (misfit fault) = refl
+    go : (w : Laid) (next : ℕ) → rdataEndOf w next ≡ rdataEndOf (before xs w) next
+    go (laid d) next = refl
+    go (misfit fault) next = refl
 
 -- nothing was written
 puts-none : {hex : Bool} {w : Laid} {b : List ℕ} {to : ℕ} {r : RdataEnd} → r ≡ rdataEndOf w to
@@ -70,9 +74,8 @@ pub record RdataLoop (hex : Bool) (s : List ℕ) (kind start size : ℕ) (b₀ :
   pub few : i ≤ 3
   pub place : next ≤ 2 ^ 37 + 510 * i + 2 * at
   pub long : length b ≡ length b₀
-  pub goes : (b′ : List ℕ) (r : RdataEnd)
-      → PutsForm hex (piecesAt s kind start size i at) (formAt s kind start size i at) b next b′ r
-      → PutsRdata hex s kind start size b₀ to b′ r
+  pub rest : Continues (PutsForm hex (piecesAt s kind start size i at) (formAt s kind start size i at) b next)
+      (PutsRdata hex s kind start size b₀ to)
 
 pub loop-start : {hex : Bool} {s : List ℕ} {kind start size : ℕ} {b : List ℕ} {to : ℕ}
     → (length s ≤ 65535) × (start + size ≤ length s) × (to < 2 ^ 37) → RdataLoop hex s kind start size b to 0 start b to
@@ -85,7 +88,7 @@ loop-start {s = s} {kind = kind} {start = start} {size = size} (h, k, j) =
       few = omega arith;
       place = omega arith;
       long = refl;
-      goes = λ b′ r p. rw (rdata-pieces true s kind start size) p;
+      rest = record { goes = λ b′ r p. rw (rdata-pieces true s kind start size) p };
     }
 
 module _ {hex : Bool} {s : List ℕ} {kind start size : ℕ} {b₀ : List ℕ} {to i at : ℕ} {b : List ℕ} {next : ℕ}
@@ -93,25 +96,23 @@ module _ {hex : Bool} {s : List ℕ} {kind start size : ℕ} {b₀ : List ℕ} {
     (e : r ≡ stepRead (stepAt (drop i (layoutIn kind size)) s start (start + size) at)) where
   -- the rest by its first step
   by-step : {x : StepOf} → stepAt (drop i (layoutIn kind size)) s start (start + size) at ≡ x
-      → (b′ : List ℕ) (y : RdataEnd)
-      → PutsForm hex (follow s at (piecesAt s kind start size (i + 1)) x)
-      (formThen s at (formAt s kind start size (i + 1)) x) b next b′ y
-      → PutsRdata hex s kind start size b₀ to b′ y
-  by-step q b′ y p = w .goes b′ y
-      (rw (
-        pieces-next s (layoutIn kind size) start (start + size) at i q,
-        form-next s (layoutIn kind size) start (start + size) at i q,
-      ) p)
+      → Continues (PutsForm hex (follow s at (piecesAt s kind start size (i + 1)) x)
+      (formThen s at (formAt s kind start size (i + 1)) x) b next) (PutsRdata hex s kind start size b₀ to)
+  by-step q =
+      rw (
+        ← pieces-next s (layoutIn kind size) start (start + size) at i q,
+        ← form-next s (layoutIn kind size) start (start + size) at i q,
+      ) (w .rest)
 
   -- the end
   pub loop-done : r .step ≡ step.Done
       → PutsRdata hex s kind start size b₀ to b (To next)
-  loop-done q = by-step (tells _ e q) b (To next) (puts-none refl)
+  loop-done q = by-step (tells _ e q) .goes b (To next) (puts-none refl)
 
   -- a fault
   pub loop-misfit : {f : FaultRead} → r .step ≡ step.Misfit f
       → PutsRdata hex s kind start size b₀ to b (Misfit f)
-  loop-misfit {f} q = let (fault, x, y) = tells _ e q in by-step x b (Misfit f) (puts-none (ap Misfit y))
+  loop-misfit {f} q = let (fault, x, y) = tells _ e q in by-step x .goes b (Misfit f) (puts-none (ap Misfit y))
 
   -- a piece of the form xs, which ends at n, was written
   onward : (xs : List ℕ) {x : StepOf} {n n₁ : ℕ} {b₁ : List ℕ}
@@ -128,8 +129,8 @@ module _ {hex : Bool} {s : List ℕ} {kind start size : ℕ} {b₀ : List ℕ} {
         few = omega arith;
         place = j;
         long = same-long p ∙ w .long;
-        goes = λ b′ y d. by-step q b′ y
-            (rw (f (piecesAt s kind start size (i + 1)), g (formAt s kind start size (i + 1))) (puts-before _ xs p d));
+        rest = continues-step (by-step q)
+            (rw (f (piecesAt s kind start size (i + 1)), g (formAt s kind start size (i + 1))) (puts-before _ xs p));
       }
 
   module _ (h : Steps (r .step) i at (start + size)) where

@@ -4,21 +4,22 @@ use Prim.Native.Nat.{_+_, _*_, _≤_}
 use mathlib.Core.Path.{_≡_, _∙_}
 use native.Mathlib.Omega.{arith}
 use lib.ListN.{length}
-use Rattle.forms.specs.Putting.{sectionRun, goes-within, Onward, onward-start, onward-end, onward-more}
-use Rattle.forms.specs.Putting.{onward-stop}
+use Rattle.octets.specs.Loops.{Continues, continues-start}
+use Rattle.forms.specs.Putting.{sectionRun, Runs, goes-inside, goes-short, section-ends, section-goes}
+use Rattle.forms.specs.Putting.{section-stops}
 use Rattle.forms.proofs.put_section.Statement.{statement}
 use Rattle.forms.proofs.put_section.Tie as tie
 
 abbrev Inv-loop : tie.InvT-loop
 Inv-loop s records count at out₀ to left₀ place₀ next₀ opts₀ out left place next opts =
     (place ≤ length s) × (next ≤ 255 * place) × (opts + left ≤ 4294967295) × (length out ≡ length out₀)
-    × Onward opts (sectionRun records s left place) (sectionRun records s count at) out₀ to out next
+    × Continues (Runs opts (sectionRun records s left place) out next) (Runs 0 (sectionRun records s count at) out₀ to)
 
 abbrev μ-loop : tie.MeasureT-loop
 μ-loop s records count at out₀ to left₀ place₀ next₀ opts₀ out left place next opts = left
 
 loop-holds : tie.Need-loop-holds Inv-loop μ-loop
-loop-holds c = (search needs, search needs, search needs, search needs, onward-start _ _ _)
+loop-holds c = (search needs, search needs, search needs, search needs, continues-start)
 
 put-entry-requires : tie.Need-put-entry-requires Inv-loop μ-loop
 put-entry-requires c κs = omega (arith, c .before .before .loop .inv)
@@ -30,12 +31,7 @@ same-length : tie.Need-same-length Inv-loop μ-loop
 same-length c = search needs
 
 returns : tie.Need-returns Inv-loop μ-loop
-returns c =
-    let m = c .before .before .before .before .before in (
-      onward-stop _ _ _ _ (m .before .before .before .loop .inv .4) (m .before .before .loop-test .taken)
-          (m .put-entry .ensures .0) (c .before .fault .given .1),
-      tt,
-    )
+returns c = (search (section-stops, needs), tt)
 
 enum-known-behind : tie.Need-enum-known-behind Inv-loop μ-loop
 enum-known-behind c = search needs
@@ -53,30 +49,19 @@ loop-less : tie.Need-loop-less Inv-loop μ-loop
 loop-less c = search needs
 
 loop-again : tie.Need-loop-again Inv-loop μ-loop
-loop-again c = let k =
-    goes-within _ (c .before .before .before .before .before .before .put-entry .ensures .1)
-    (c .before .before .behind .given .1) in (
-      k .0,
-      k .1,
-      omega (
-        arith,
-        c .before .before .before .before .before .before .before .before .before .loop .inv,
-        c .opt-of .ensures .1,
-      ),
-      c .before .before .before .before .before .before .put-entry .kept .1 .1 .1 .0
-          ∙ c .before .before .before .before .before .before .before .before .before .loop .inv .3,
-      onward-more _ _ _ _ (c .before .before .before .before .before .before .before .before .before .loop .inv .4)
-          (c .before .before .before .before .before .before .before .before .loop-test .taken)
-          (c .before .before .before .before .before .before .put-entry .ensures .0)
-          (c .before .before .behind .given .1)
-          (search needs),
-    )
+loop-again c = (
+  search (goes-inside, needs),
+  search (goes-short, needs),
+  search needs,
+  search needs,
+  search (section-goes, needs),
+)
 
 same-length-2 : tie.Need-same-length-2 Inv-loop μ-loop
 same-length-2 c = search needs
 
 returns-2 : tie.Need-returns-2 Inv-loop μ-loop
-returns-2 c = let i = c .before .loop .inv in (onward-end _ _ _ _ (i .4) (c .loop-test .left), (i .0, i .1))
+returns-2 c = (search (section-ends, needs), search needs)
 
 pub put-section-spec : {M : Type 1} → statement M
 put-section-spec =

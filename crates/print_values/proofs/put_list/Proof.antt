@@ -2,8 +2,9 @@
 use mathlib.Core.Path.{_∙_, _≡_}
 use Prim.Native.Nat.{_≤_, _+_, _*_, _-_}
 use lib.ListN.{length, drop}
-use Rattle.octets.specs.Overlay.{same-long}
-use Rattle.print_values.specs.Entries.{numbers, ListLoop, list-none, list-start, list-next, list-last}
+use Rattle.octets.specs.Overlay.{Wrote, same-long}
+use Rattle.octets.specs.Loops.{Continues, continues-start}
+use Rattle.print_values.specs.Entries.{numbers, entries, list-none, list-next, list-last}
 use borrow.Author.Needs.{needs}
 use Rattle.print_values.proofs.put_list.Statement.{statement}
 use Rattle.print_values.proofs.put_list.Tie as tie
@@ -13,7 +14,8 @@ Inv-loop out₀ at value width to₀ i₀ out to i =
     (i ≤ length value)
     × (to ≤ at + 4 * i)
     × (length out ≡ length out₀)
-    × ListLoop (numbers width (drop width value)) (numbers width (drop i value)) out₀ to₀ out to
+    × Continues (Wrote out to (entries (numbers width (drop i value))))
+    (Wrote out₀ to₀ (entries (numbers width (drop width value))))
 
 abbrev μ-loop : tie.MeasureT-loop
 μ-loop out₀ at value width to₀ i₀ out to i = length value - i
@@ -34,7 +36,7 @@ put-entry-requires : tie.Need-put-entry-requires Inv-loop μ-loop
 put-entry-requires c κs = search needs
 
 loop-holds : tie.Need-loop-holds Inv-loop μ-loop
-loop-holds c = (search needs, search needs, search needs, list-start _ _ _)
+loop-holds c = (search needs, search needs, search needs, continues-start)
 
 add-loop : tie.Need-add-loop Inv-loop μ-loop
 add-loop c = search needs
