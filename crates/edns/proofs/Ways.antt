@@ -13,6 +13,7 @@ use lib.ListN.{length, take, drop, length-drop, drop-of-length-le}
 use lib.Seq.{drop-drop, getD-drop}
 use Rattle.octets.specs.Lists.{key?}
 use Rattle.octets.specs.Fields.{be16At}
+use Rattle.octets.specs.Loops.{Remains}
 use Rattle.options.specs.Options.{EdnsOption}
 use Rattle.edns.specs.Edns.{prepend, divided, optionsOf, rising?, rcodes}
 use Rattle.edns.specs.EdnsLaws.{divided-end}
@@ -116,10 +117,6 @@ abbrev pub rise? : ℕ → Option (List EdnsOption) → Bool
 rise? least none = false
 rise? least (some l) = least? least l && rising? l
 
--- v is the whole answer, by what is read from `at` on
-pub record RiseLoop (s : List ℕ) (v : Bool) (least at : ℕ) : Type 0 where
-  pub goes : v ≡ rise? least (optionsOf (drop at s))
-
 rise-all : (o : Option (List EdnsOption)) → risen? o ≡ rise? 0 o
 rise-all none = refl
 rise-all (some []) = refl
@@ -139,11 +136,13 @@ rise-next least a (some []) h = rw (le-leb least (a .code) h)
 rise-next least a (some (b ∷ l)) h = rw (le-leb least (a .code) h, add-one)
 
 -- before the first option
-pub rises-start : (s : List ℕ) → RiseLoop s (optionsRise s) 0 0
+pub rises-start : (s : List ℕ) → Remains (optionsRise s) (rise? 0 (optionsOf s))
 unfolding optionsRise
 rises-start s = record { goes = rise-all (optionsOf s) }
 
-module _ {s : List ℕ} {v : Bool} {least at : ℕ} (f : RiseLoop s v least at) {size : ℕ} (z : size ≡ length s) where
+-- v is the whole answer, by what is read from `at` on
+module _ (s : List ℕ) {v : Bool} (least at : ℕ) (f : Remains v (rise? least (optionsOf (drop at s)))) {size : ℕ}
+    (z : size ≡ length s) where
   -- after the last
   pub rises-end : size ≤ at → true ≡ v
   unfolding rising?
@@ -172,7 +171,7 @@ module _ {s : List ℕ} {v : Bool} {least at : ℕ} (f : RiseLoop s v least at) 
         rises-low i = sym (more ∙ rise-low least (here s at) (optionsOf (drop (at + (4 + n)) s)) (rw (← d) i))
 
         -- a code above the last
-        pub rises-more : least ≤ code → RiseLoop s v (code + 1) (at + (4 + n))
+        pub rises-more : least ≤ code → Remains v (rise? (code + 1) (optionsOf (drop (at + (4 + n)) s)))
         rises-more i = record {
           goes = more ∙ rise-next least (here s at) (optionsOf (drop (at + (4 + n)) s))
               (rw (← d) i) ∙ rw (← d);

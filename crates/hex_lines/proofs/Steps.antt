@@ -13,7 +13,7 @@ use lib.Seq.{drop-cons, take-append-seam}
 use Rattle.octets.specs.Lists.{present?}
 use Rattle.octets.specs.Lists as lists
 use Rattle.octets.specs.Overlay.{overlay, Wrote, nothing, overlay-first}
-use Rattle.octets.specs.Loops.{Continues, continues-start, continues-step, continues-text}
+use Rattle.octets.specs.Loops.{Continues, continues-start, continues-step, continues-text, Remains}
 use Rattle.hex_lines.specs.Hex.{hexValue, octetThen, unhexed, hexAnswer, hexLeft, Unhexed, OctetsWithin}
 use Rattle.hex_lines.specs.Hex.{valueOr16, hex?}
 use Rattle.hex_lines.specs.Hex.{octetsFound}
@@ -42,41 +42,36 @@ none-right none o r e = refl
 
 -- ---- looking through a line
 -- the answer for the whole is that for what is not looked at yet
-pub record Looked (s : List ℕ) (i : ℕ) : Type 0 where
-  pub same : hex? s ≡ hex? (drop i s)
-
-pub looked-start : (s : List ℕ) → Looked s 0
-looked-start s = record { same = refl }
-
-module _ {s : List ℕ} {i : ℕ} (p : Looked s i) (h : 2 ≤ length s - i) where
+module _ (s : List ℕ) (i : ℕ) (p : Remains (hex? s) (hex? (drop i s))) (h : 2 ≤ length s - i) where
   module _ {v : ℕ} (a : v ≡ valueOr16 (hexValue (getD s i 0))) where
     pub first-bad : 16 ≤ v → false ≡ hex? s
     unfolding hex? unhexed
     first-bad k =
         let n = none-left _ (hexValue (getD s (i + 1) 0)) (unhexed (drop (i + 2) s)) (no-digit _ a k) in
-        sym (p .same ∙ rw (drop-two s i h, n))
+        sym (p .goes ∙ rw (drop-two s i h, n))
 
     module _ {w : ℕ} (b : w ≡ valueOr16 (hexValue (getD s (i + 1) 0))) where
       pub second-bad : 16 ≤ w → false ≡ hex? s
       unfolding hex? unhexed
       second-bad k =
           let n = none-right (hexValue (getD s i 0)) _ (unhexed (drop (i + 2) s)) (no-digit _ b k) in
-          sym (p .same ∙ rw (drop-two s i h, n))
+          sym (p .goes ∙ rw (drop-two s i h, n))
 
-      pub both-good : v < 16 → w < 16 → Looked s (i + 2)
+      pub both-good : v < 16 → w < 16 → Remains (hex? s) (hex? (drop (i + 2) s))
       unfolding hex? unhexed
       both-good k l =
           let r = rest-of (unhexed (drop (i + 2) s)) v w in
-          record { same = p .same ∙ rw (drop-two s i h, is-digit _ a k, is-digit _ b l) r }
+          record { goes = p .goes ∙ rw (drop-two s i h, is-digit _ a k, is-digit _ b l) r }
 
 -- the end: nothing is left, or one digit
-pub looked-end : {s : List ℕ} {i : ℕ} → Looked s i → i ≤ length s → length s - i < 2 → eqb i (length s) ≡ hex? s
+pub looked-end : (s : List ℕ) (i : ℕ) → Remains (hex? s) (hex? (drop i s)) → i ≤ length s → length s - i < 2
+    → eqb i (length s) ≡ hex? s
 unfolding hex? unhexed
-looked-end {s} {i} p h k = go (drop i s) refl (length-drop i s)
+looked-end s i p h k = go (drop i s) refl (length-drop i s)
   where
     go : (l : List ℕ) → drop i s ≡ l → length l ≡ length s - i → eqb i (length s) ≡ hex? s
-    go [] e n = eq-eqb i (length s) (omega arith) ∙ sym (p .same ∙ rw e)
-    go (c ∷ []) e n = ne-eqb i (length s) (λ q. omega arith) ∙ sym (p .same ∙ rw e)
+    go [] e n = eq-eqb i (length s) (omega arith) ∙ sym (p .goes ∙ rw e)
+    go (c ∷ []) e n = ne-eqb i (length s) (λ q. omega arith) ∙ sym (p .goes ∙ rw e)
     go (c ∷ d ∷ l) e n = absurd (omega arith)
 
 -- ---- writing the octets

@@ -1,20 +1,16 @@
 -- A test of every octet from a place on, octet by octet.
-use mathlib.Core.Path.{_≡_, refl, sym, _∙_}
+use mathlib.Core.Path.{_≡_, sym, _∙_}
 use mathlib.Core.Bool.{Bool, true, false}
 use mathlib.Core.List.{List}
 use Prim.Native.Nat.{ℕ, _+_, _≤_, _<_}
 use lib.ListN.{length, getD, drop, drop-of-length-le}
 use Rattle.octets.specs.Lists.{all}
 use Rattle.octets.specs.Fields.{drop-one}
+use Rattle.octets.specs.Loops.{Remains}
 
 -- v is the whole answer, by the octets from `i` on
-pub record EveryLoop (p : ℕ → Bool) (s : List ℕ) (v : Bool) (i : ℕ) : Type 0 where
-  pub goes : v ≡ all p (drop i s)
-
-pub rest-start : (p : ℕ → Bool) (s : List ℕ) (i : ℕ) → EveryLoop p s (all p (drop i s)) i
-rest-start p s i = record { goes = refl }
-
-module _ {p : ℕ → Bool} {s : List ℕ} {v : Bool} {i : ℕ} (o : EveryLoop p s v i) {size : ℕ} (z : size ≡ length s) where
+module _ (p : ℕ → Bool) (s : List ℕ) {v : Bool} (i : ℕ) (o : Remains v (all p (drop i s))) {size : ℕ}
+    (z : size ≡ length s) where
   -- after the last
   pub rest-ends : size ≤ i → true ≡ v
   rest-ends h =
@@ -23,7 +19,7 @@ module _ {p : ℕ → Bool} {s : List ℕ} {v : Bool} {i : ℕ} (o : EveryLoop p
 
   -- x is the octet there: it passes, or fails
   module _ (h : i < size) {x : ℕ} (e : x ≡ getD s i 0) where
-    pub rest-next : p x ≡ true → EveryLoop p s v (i + 1)
+    pub rest-next : p x ≡ true → Remains v (all p (drop (i + 1) s))
     rest-next k = record { goes = o .goes ∙ rw (drop-one s i (rw (← z) h), ← e, k) }
 
     pub rest-fails : p x ≡ false → false ≡ v

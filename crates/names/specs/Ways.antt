@@ -11,6 +11,7 @@ use lib.ListN.{length, getD, drop, replicate, length-append, length-replicate, l
 use lib.Seq.{getD-drop}
 use Rattle.octets.specs.Lists.{each}
 use Rattle.octets.specs.Overlay.{overlay, overlay-join, overlay-first, Wrote, nothing, then, copy-step}
+use Rattle.octets.specs.Loops.{Remains}
 use Rattle.names.specs.Name.{Name, nameForm}
 use Rattle.names.specs.Walk.{part, endOf, named, faulty, labelled, resumed, nameAt}
 use Rattle.names.specs.Walk as walk
@@ -103,13 +104,13 @@ finished-jump next total at form (named n end) = read-same (go (eqb next 0) refl
     go false e = rw (e, e)
 finished-jump next total at form (faulty fault) = refl
 
--- v is the whole answer, by the walk from the length octet at `at` on
-pub record WalkLoop (s : List ℕ) (v : NameRead) (form : List ℕ) (limit : Limit) (run next total at : ℕ) : Type 0 where
-  pub goes : v ≡ finished next total form (walkOn s (limitOf limit) run total at)
+-- the answer by the walk from the length octet at `at` on, when the labels before it are in `form`
+abbrev pub readFrom : List ℕ → List ℕ → Limit → ℕ → ℕ → ℕ → ℕ → NameRead
+readFrom s form limit run next total at = finished next total form (walkOn s (limitOf limit) run total at)
 
 -- before the first length octet
 pub from-start : (s : List ℕ) (limit : Limit) (at : ℕ) → endOf s (limitOf limit) ≤ length s
-    → WalkLoop s (nameRead (nameAt s (limitOf limit) at)) (replicate 255 0) limit at 0 0 at
+    → Remains (nameRead (nameAt s (limitOf limit) at)) (readFrom s (replicate 255 0) limit at 0 0 at)
 from-start s limit at h =
     record {
       goes = finished-start (nameAt s (limitOf limit) at) (λ n next e. read-sized s (limitOf limit) at at n next h e .1)
@@ -147,8 +148,8 @@ keep-more {s} {at = at} l k h p q =
     }
 
 -- ---- the ways
-module _ {s : List ℕ} {v : NameRead} {form : List ℕ} {limit : Limit} {run next total at end : ℕ}
-    (w : WalkLoop s v form limit run next total at) (b : end ≡ endOf s (limitOf limit)) where
+module _ (s : List ℕ) {v : NameRead} (form : List ℕ) (limit : Limit) (run next total at : ℕ) {end : ℕ}
+    (w : Remains v (readFrom s form limit run next total at)) (b : end ≡ endOf s (limitOf limit)) where
   -- the length octet is past the end
   pub name-past : {f : Fault} {r : NameRead} → end ≤ at → f ≡ pastOf limit at → r ≡ failed f → r ≡ v
   unfolding finished
@@ -193,7 +194,7 @@ module _ {s : List ℕ} {v : NameRead} {form : List ℕ} {limit : Limit} {run ne
 
             -- the walk goes on at the target
             pub jump-read : {next′ : ℕ} → (x - 192) * 256 + y < run → next′ ≡ ownEnd next (at + 2)
-                → WalkLoop s v form Message ((x - 192) * 256 + y) next′ total ((x - 192) * 256 + y)
+                → Remains v (readFrom s form Message ((x - 192) * 256 + y) next′ total ((x - 192) * 256 + y))
             jump-read p q =
                 let goal = (x - 192) * 256 + y in
                 record {
@@ -202,8 +203,8 @@ module _ {s : List ℕ} {v : NameRead} {form : List ℕ} {limit : Limit} {run ne
                 }
 
 -- the ways of a label
-module _ {s : List ℕ} {v : NameRead} {form : List ℕ} {limit : Limit} {run next total at end x : ℕ}
-    (w : WalkLoop s v form limit run next total at) (l : LabelWalk s limit at end x) where
+module _ {s : List ℕ} {v : NameRead} (form : List ℕ) {limit : Limit} (run next total : ℕ) {at end x : ℕ}
+    (w : Remains v (readFrom s form limit run next total at)) (l : LabelWalk s limit at end x) where
   at-label : LengthOctet s (limitOf limit) at x
   at-label = record { within = omega arith; octet = l .octet }
 
@@ -224,7 +225,7 @@ module _ {s : List ℕ} {v : NameRead} {form : List ℕ} {limit : Limit} {run ne
     pub label-read : {base form′ : List ℕ} {to to′ : ℕ} → k ≤ x → total + (x + 1) ≤ 254
         → KeptOctets (total + (x + 1)) form total (getD s at 0 ∷ []) base to
         → KeptOctets (total + (x + 1)) base to (part s (at + 1) k) form′ to′
-        → WalkLoop s v form′ limit run next (total + (x + 1)) (at + (x + 1))
+        → Remains v (readFrom s form′ limit run next (total + (x + 1)) (at + (x + 1)))
     label-read {form′ = form′} k≤x p d f =
         let e = l .octet in
         let same : k ≡ x = omega arith in

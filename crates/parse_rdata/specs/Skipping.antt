@@ -4,6 +4,7 @@ use mathlib.Core.List.{List}
 use Prim.Native.Nat.{ℕ, _+_, _≤_, _<_}
 use native.Mathlib.Omega.{arith}
 use lib.ListN.{length, getD}
+use Rattle.octets.specs.Loops.{Remains}
 use Rattle.names.specs.Walk.{part, rdata, Named, named, faulty, labelled, nameFrom}
 use Rattle.names.specs.NameLaws.{read-sized}
 use Rattle.names.specs.Steps.{walkOn, name-walk, LengthOctet, step-past, step-root, step-cut, step-long, step-label}
@@ -32,11 +33,11 @@ name-ends s at {r} {next} p q = go (nameFrom s (rdata 0 (length s)) 0 at) refl (
         omega (arith, k .3)
     go (faulty fault) e f = let z : _≡_ {A = ℕ} 0 1 = cc in absurd (omega arith)
 
--- v is the whole answer, by the walk from the length octet at `at` on; `total` counts the octets of the labels so far
-pub record SkipLoop (s : List ℕ) (v : Skipped) (total at : ℕ) : Type 0 where
-  pub goes : v ≡ skipped (walkOn s (rdata 0 (length s)) 0 total at)
+-- where the walk ends from the length octet at `at` on; `total` counts the octets of the labels so far
+abbrev pub skippedFrom : List ℕ → ℕ → ℕ → Skipped
+skippedFrom s total at = skipped (walkOn s (rdata 0 (length s)) 0 total at)
 
-pub from-start : (s : List ℕ) (at : ℕ) → SkipLoop s (nameEnd s at) 0 at
+pub from-start : (s : List ℕ) (at : ℕ) → Remains (nameEnd s at) (skippedFrom s 0 at)
 unfolding nameEnd
 from-start s at = record { goes = ap skipped (name-walk s (rdata 0 (length s)) 0 at) }
 
@@ -45,7 +46,8 @@ skipped-label : (l : List ℕ) (w : Named) → skipped (labelled l w) ≡ skippe
 skipped-label l (named n next) = refl
 skipped-label l (faulty fault) = refl
 
-module _ {s : List ℕ} {v : Skipped} {total at : ℕ} (w : SkipLoop s v total at) {size : ℕ} (b : size ≡ length s) where
+module _ (s : List ℕ) {v : Skipped} (total at : ℕ) (w : Remains v (skippedFrom s total at)) {size : ℕ}
+    (b : size ≡ length s) where
   -- the length octet is past the end
   pub skip-past : size ≤ at → Unfit ≡ v
   skip-past h = sym (w .goes ∙ ap skipped (step-past s (rdata 0 (length s)) 0 total at (omega arith)))
@@ -74,7 +76,7 @@ module _ {s : List ℕ} {v : Skipped} {total at : ℕ} (w : SkipLoop s v total a
         skip-long j = sym (w .goes ∙ ap skipped (step-long here 0 total z c (omega arith) j))
 
         -- the walk goes on after the label
-        pub skip-label : total + (x + 1) ≤ 254 → SkipLoop s v (total + (x + 1)) (at + (x + 1))
+        pub skip-label : total + (x + 1) ≤ 254 → Remains v (skippedFrom s (total + (x + 1)) (at + (x + 1)))
         skip-label j =
             let rest = walkOn s (rdata 0 (length s)) 0 (total + (x + 1)) (at + (x + 1)) in
             let step = step-label here 0 total z c (omega arith) j in

@@ -1,15 +1,19 @@
 -- `edns::options_rise` meets its contract: what is read from `at` on gives the whole answer.
 use Prim.Native.Nat.{_≤_, _-_}
+use lib.ListN.{drop}
+use Rattle.octets.specs.Loops.{Remains}
 use Rattle.hex_or_octets.specs.Either.{octetsIn}
+use Rattle.edns.specs.Edns.{optionsOf}
 use Rattle.edns.specs.Element.{optionsRise}
-use Rattle.edns.proofs.Ways.{RiseLoop, rises-start, rises-cut, rises-short, rises-low, rises-more, rises-end}
+use Rattle.edns.proofs.Ways.{rise?, rises-start, rises-cut, rises-short, rises-low, rises-more, rises-end}
 use borrow.Author.Needs.{needs}
 use Rattle.edns.proofs.options_rise.Statement.{statement}
 use Rattle.edns.proofs.options_rise.Tie as tie
 
 abbrev Inv-loop : tie.InvT-loop
 Inv-loop s hex size least₀ at₀ least at =
-    (at ≤ size) × (least ≤ 65536) × RiseLoop (octetsIn hex s) (optionsRise (octetsIn hex s)) least at
+    (at ≤ size) × (least ≤ 65536)
+    × Remains (optionsRise (octetsIn hex s)) (rise? least (optionsOf (drop at (octetsIn hex s))))
 
 abbrev μ-loop : tie.MeasureT-loop
 μ-loop s hex size least₀ at₀ least at = size - at

@@ -1,19 +1,21 @@
 -- `hex_lines::is_hex` meets its contract: two digits a turn.
 use borrow.Author.Needs.{needs}
 use Prim.Native.Nat.{_≤_, _-_}
-use lib.ListN.{length}
-use Rattle.hex_lines.proofs.Steps.{Looked, looked-start, first-bad, second-bad, both-good, looked-end}
+use lib.ListN.{length, drop}
+use Rattle.octets.specs.Loops.{Remains, remains-start}
+use Rattle.hex_lines.specs.Hex.{hex?}
+use Rattle.hex_lines.proofs.Steps.{first-bad, second-bad, both-good, looked-end}
 use Rattle.hex_lines.proofs.is_hex.Statement.{statement}
 use Rattle.hex_lines.proofs.is_hex.Tie as tie
 
 abbrev Inv-loop : tie.InvT-loop
-Inv-loop line i₀ i = (i ≤ length line) × Looked line i
+Inv-loop line i₀ i = (i ≤ length line) × Remains (hex? line) (hex? (drop i line))
 
 abbrev μ-loop : tie.MeasureT-loop
 μ-loop line i₀ i = length line - i
 
 loop-holds : tie.Need-loop-holds Inv-loop μ-loop
-loop-holds c = (search needs, looked-start _)
+loop-holds c = (search needs, remains-start)
 
 sub-loop : tie.Need-sub-loop Inv-loop μ-loop
 sub-loop c = search needs
@@ -50,7 +52,7 @@ loop-again c =
     let first = c .before .before .before in
     let turn = first .before .before .before in (
       search needs,
-      both-good (turn .before .loop .inv .1) (turn .loop-test .taken) (first .before .hex-value .ensures)
+      both-good _ _ (turn .before .loop .inv .1) (turn .loop-test .taken) (first .before .hex-value .ensures)
           (c .before .hex-value2 .ensures) (first .if1 .left) (c .if2 .left),
     )
 

@@ -6,9 +6,10 @@ use Prim.Native.Nat.{_≤_, _+_, _-_}
 use mathlib.Core.Path.{_≡_}
 use borrow.Author.Needs.{needs}
 use lib.ListN.{length}
+use Rattle.octets.specs.Loops.{Remains}
 use Rattle.names.specs.Walk.{part, endOf, nameAt}
 use Rattle.names.specs.Answer.{limitOf, nameRead}
-use Rattle.names.specs.Ways.{WalkLoop, from-start, KeptOctets, LabelWalk, keep-none, keep-more, name-past}
+use Rattle.names.specs.Ways.{readFrom, from-start, KeptOctets, LabelWalk, keep-none, keep-more, name-past}
 use Rattle.names.specs.Ways.{root-read, label-cut, label-long, label-read, bits-reserved, pointer-cut, target-low}
 use Rattle.names.specs.Ways.{target-far, jump-read}
 use Rattle.names.proofs.name_at.Statement.{statement}
@@ -25,13 +26,13 @@ abbrev μ-loop : tie.MeasureT-loop
 abbrev Inv-walk : tie.InvT-walk
 Inv-walk s at bound₀ low₀ place₀ total₀ next₀ form₀ bound low place total next form =
     (total ≤ 254) × (endOf s (limitOf bound) ≤ length s) × (length form ≡ 255)
-    × WalkLoop s (nameRead (nameAt s (limitOf bound₀) at)) form bound low next total place
+    × Remains (nameRead (nameAt s (limitOf bound₀) at)) (readFrom s form bound low next total place)
 
 abbrev μ-walk : tie.MeasureT-walk
 μ-walk s at bound₀ low₀ place₀ total₀ next₀ form₀ bound low place total next form = low + (255 - total)
 
 walk-holds : tie.Need-walk-holds Inv-loop μ-loop Inv-walk μ-walk
-walk-holds c = (search needs, search needs, search needs, from-start _ _ _ (search needs))
+walk-holds c = (search needs, search needs, search needs, search (from-start, needs))
 
 end-of-requires : tie.Need-end-of-requires Inv-loop μ-loop Inv-walk μ-walk
 end-of-requires c κs = search needs
@@ -125,11 +126,12 @@ walk-again c =
     let loop = c .before .before .loop .inv in
     let kept = c .before .before .before .before in
     let tested = kept .before .before .before .before in
-    let walk = tested .before .before .before .before .before .walk .inv in (
+    let octet = tested .before .before .before in
+    let walk = octet .before .before .walk .inv in (
       search needs,
       search needs,
       search needs,
-      label-read (walk .3) (loop .5) (c .before .loop-test .left) (loop .1) (loop .0) (c .if5 .left)
+      label-read _ _ _ _ (walk .3) (loop .5) (c .before .loop-test .left) (loop .1) (loop .0) (c .if5 .left)
           (kept .keep .ensures .1) (loop .4),
     )
 
@@ -184,11 +186,12 @@ returns-3 c = search (label-cut, needs)
 returns-4 : tie.Need-returns-4 Inv-loop μ-loop Inv-walk μ-walk
 returns-4 c =
     let inner = c .before .before .before in
-    let loop = inner .loop .inv in
-    let tested = inner .before .before .before .before .before .before in
-    let walk = tested .before .before .before .before .before .walk .inv in
-    label-long (walk .3) (loop .5) (c .before .before .loop-test .left) (loop .1) (c .before .if5 .taken)
-    (c .fail3 .ensures)
+    let kept = inner .before .before in
+    let tested = kept .before .before .before .before in
+    let octet = tested .before .before .before in
+    let walk = octet .before .before .walk .inv in
+    label-long _ _ _ _ (walk .3) (inner .loop .inv .5) (c .before .before .loop-test .left) (inner .loop .inv .1)
+    (c .before .if5 .taken) (c .fail3 .ensures)
 
 returns-5 : tie.Need-returns-5 Inv-loop μ-loop Inv-walk μ-walk
 returns-5 c = search (bits-reserved, needs)

@@ -1,16 +1,18 @@
 -- `options::all_zero` meets its contract: as long as no octet differs from zero, those from `i` on decide.
 use Prim.Native.Nat.{_-_}
+use lib.ListN.{drop}
 use Rattle.octets.specs.Lists.{all}
 use Rattle.hex_or_octets.specs.Either.{octetsIn}
 use Rattle.options.specs.Options.{zero?}
 use Rattle.options.proofs.Every.{zero-is, zero-not}
-use Rattle.hex_or_octets.proofs.Every.{EveryLoop, rest-start, rest-next, rest-fails, rest-ends}
+use Rattle.octets.specs.Loops.{Remains, remains-start}
+use Rattle.hex_or_octets.proofs.Every.{rest-next, rest-fails, rest-ends}
 use borrow.Author.Needs.{needs}
 use Rattle.options.proofs.all_zero.Statement.{statement}
 use Rattle.options.proofs.all_zero.Tie as tie
 
 abbrev Inv-loop : tie.InvT-loop
-Inv-loop s hex size i₀ i = EveryLoop zero? (octetsIn hex s) (all zero? (octetsIn hex s)) i
+Inv-loop s hex size i₀ i = Remains (all zero? (octetsIn hex s)) (all zero? (drop i (octetsIn hex s)))
 
 abbrev μ-loop : tie.MeasureT-loop
 μ-loop s hex size i₀ i = size - i
@@ -19,7 +21,7 @@ count-requires : tie.Need-count-requires Inv-loop μ-loop
 count-requires c κs = search needs
 
 loop-holds : tie.Need-loop-holds Inv-loop μ-loop
-loop-holds c = rest-start _ _ _
+loop-holds c = remains-start
 
 octet-requires : tie.Need-octet-requires Inv-loop μ-loop
 octet-requires c κs = search needs

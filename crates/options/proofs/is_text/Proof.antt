@@ -5,13 +5,15 @@ use Rattle.octets.specs.Lists.{all}
 use Rattle.hex_or_octets.specs.Either.{octetsIn}
 use Rattle.spelling.specs.Spelling.{printable?}
 use Rattle.options.proofs.Every.{printable-is, printable-low, printable-high}
-use Rattle.hex_or_octets.proofs.Every.{EveryLoop, rest-start, rest-next, rest-fails, rest-ends}
+use Rattle.octets.specs.Loops.{Remains, remains-start}
+use Rattle.hex_or_octets.proofs.Every.{rest-next, rest-fails, rest-ends}
 use borrow.Author.Needs.{needs}
 use Rattle.options.proofs.is_text.Statement.{statement}
 use Rattle.options.proofs.is_text.Tie as tie
 
 abbrev Inv-loop : tie.InvT-loop
-Inv-loop s hex size i₀ i = EveryLoop printable? (octetsIn hex s) (all printable? (drop 2 (octetsIn hex s))) i
+Inv-loop s hex size i₀ i =
+    Remains (all printable? (drop 2 (octetsIn hex s))) (all printable? (drop i (octetsIn hex s)))
 
 abbrev μ-loop : tie.MeasureT-loop
 μ-loop s hex size i₀ i = size - i
@@ -20,7 +22,7 @@ count-requires : tie.Need-count-requires Inv-loop μ-loop
 count-requires c κs = search needs
 
 loop-holds : tie.Need-loop-holds Inv-loop μ-loop
-loop-holds c = rest-start _ _ _
+loop-holds c = remains-start
 
 octet-requires : tie.Need-octet-requires Inv-loop μ-loop
 octet-requires c κs = search needs

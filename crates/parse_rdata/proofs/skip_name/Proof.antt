@@ -1,15 +1,16 @@
 -- `parse_rdata::skip_name` meets its contract: the walk from `place` on gives the whole answer.
 use Prim.Native.Nat.{_≤_, _-_}
 use Rattle.octets.specs.Lists.{paired}
-use Rattle.parse_rdata.specs.Skipping.{nameEnd, SkipLoop, from-start, skip-past, skip-root, skip-bits, skip-cut}
-use Rattle.parse_rdata.specs.Skipping.{skip-long, skip-label}
+use Rattle.octets.specs.Loops.{Remains}
+use Rattle.parse_rdata.specs.Skipping.{nameEnd, skippedFrom, from-start, skip-past, skip-root, skip-bits}
+use Rattle.parse_rdata.specs.Skipping.{skip-cut, skip-long, skip-label}
 use borrow.Author.Needs.{needs}
 use Rattle.parse_rdata.proofs.skip_name.Statement.{statement}
 use Rattle.parse_rdata.proofs.skip_name.Tie as tie
 
 abbrev Inv-loop : tie.InvT-loop
 Inv-loop hex at size place₀ total₀ place total =
-    (total ≤ 254) × SkipLoop (paired hex) (nameEnd (paired hex) at) total place
+    (total ≤ 254) × Remains (nameEnd (paired hex) at) (skippedFrom (paired hex) total place)
 
 abbrev μ-loop : tie.MeasureT-loop
 μ-loop hex at size place₀ total₀ place total = 255 - total
