@@ -5,7 +5,7 @@ use mathlib.Core.List.{List, [], _++_, append-assoc}
 use Prim.Native.Nat.{ℕ, zero, suc, _+_, _-_, _*_, _≤_, _<_}
 use native.Mathlib.Omega.{arith}
 use borrow.Author.Tests.{ne-eqb}
-use lib.Dec.{eqb}
+use lib.Dec.{eqb, ltb}
 use lib.ListN.{length, take, length-take}
 use Rattle.octets.specs.Fields.{be16, be32, be16At}
 use Rattle.octets.specs.Overlay.{Wrote, then, nothing}
@@ -222,8 +222,15 @@ module _ (x : Gone) (end : ℕ) {next to kind : ℕ} (h : Goes x end) (e : x ≡
   pub goes-short : to ≤ 255 * next
   goes-short = goes .1
 
-pub comes-within : (x : Came) {end at to opts : ℕ} → Comes x end → x ≡ came.To at to opts → (at ≤ end) × (to ≤ 255 * at)
-comes-within x {end} h e = subst (λ (y : Came). Comes y end) e h
+module _ (x : Came) (end : ℕ) {at to opts : ℕ} (h : Comes x end) (e : x ≡ came.To at to opts) where
+  comes : Comes (came.To at to opts) end
+  comes = subst (λ (y : Came). Comes y end) e h
+
+  pub comes-inside : at ≤ end
+  comes-inside = comes .0
+
+  pub comes-short : to ≤ 255 * at
+  comes-short = comes .1
 
 -- an entry was written, and then those after it
 run-after : {k j : ℕ} (p : Part) {u : Run} {b b₁ b₂ : List ℕ} {to n : ℕ} {r : Came} → Wrote b to (p .form) b₁ n
@@ -287,54 +294,54 @@ abbrev pub chained : Run → (ℕ → Run) → Run
 chained (ran l at n) f = octetsThen l (f at)
 chained (halted at fault) f = halted at fault
 
--- the header's octets, and the sections by its counts
+-- the i-th section, by the header's counts, and n sections after it
+unfoldable pub sectionsRun : List ℕ → ℕ → ℕ → ℕ → Run
+sectionsRun s zero i at = sectionRun (ltb 0 i) s (be16At s (4 + 2 * i)) at
+sectionsRun s (suc n) i at =
+    chained (sectionRun (ltb 0 i) s (be16At s (4 + 2 * i)) at) (λ next. sectionsRun s n (i + 1) next)
+
+-- the header's octets, and the sections
 unfoldable pub messageRun : List ℕ → Run
-messageRun s =
-    octetsThen (take 12 s)
-    (chained (sectionRun false s (be16At s 4) 12) λ a.
-    chained (sectionRun true s (be16At s 6) a) λ b.
-    chained (sectionRun true s (be16At s 8) b) λ c. sectionRun true s (be16At s 10) c)
+messageRun s = octetsThen (take 12 s) (sectionsRun s 3 0 12)
 
 runs-join : {k : ℕ} {l b b₁ b₂ : List ℕ} {to n : ℕ} {u : Run} {r : Came} → Wrote b to l b₁ n → Runs k u b₁ n b₂ r
     → Runs k (octetsThen l u) b to b₂ r
 runs-join p (runs {n = i} {m = m} {r = r} q v) = runs {n = i} {m = m} {r = r} q (then p v)
 runs-join p halts = halts
 
-runs-chain : (f : ℕ → Run) {x : Run} {b b₁ b₂ : List ℕ} {to at n m : ℕ} {r : Came} → Runs 0 x b to b₁ (came.To at n m)
-    → Runs 0 (f at) b₁ n b₂ r → Runs 0 (chained x f) b to b₂ r
-runs-chain f (runs q v) d = runs-join v d
+runs-chain : (f : ℕ → Run) {x : Run} {b b₁ : List ℕ} {to at n m : ℕ} → Runs 0 x b to b₁ (came.To at n m)
+    → Continues (Runs 0 (f at) b₁ n) (Runs 0 (chained x f) b to)
+runs-chain f (runs q v) = record { goes = λ b r d. runs-join v d }
 
 runs-halt : (f : ℕ → Run) {x : Run} {b b₁ : List ℕ} {to at : ℕ} {g : FaultRead} → Runs 0 x b to b₁ (came.Stopped at g)
     → Runs 0 (chained x f) b to b₁ (came.Stopped at g)
 runs-halt f halts = halts
 
-module _ (s : List ℕ) {b b₁ b₂ : List ℕ} {n₁ c₁ : ℕ} {x₁ : Came}
-    (h : Wrote b 0 (take 12 s) b₁ n₁) (e₁ : c₁ ≡ be16At s 4) (p₁ : Runs 0 (sectionRun false s c₁ 12) b₁ n₁ b₂ x₁) where
-  -- a question has a fault
-  pub message-first : {at : ℕ} {g : FaultRead} → x₁ ≡ came.Stopped at g → Runs 0 (messageRun s) b 0 b₂ x₁
-  unfolding messageRun
-  message-first q = rw q (runs-join h (runs-halt _ (rw (e₁, q) at p₁)))
+-- the loop over the sections before the last
+module _ (s : List ℕ) (i at : ℕ) {next to : ℕ} {b₀ b : List ℕ}
+    (w : Continues (Runs 0 (sectionsRun s (3 - i) i at) b next) (Runs 0 (sectionsRun s 3 0 12) b₀ to)) where
+  module _ (h : i < 3) {count : ℕ} (c : count ≡ be16At s (4 + 2 * i)) {b₁ : List ℕ} {x : Came}
+      (p : Runs 0 (sectionRun (ltb 0 i) s count at) b next b₁ x) where
+    sections-next : sectionsRun s (3 - i) i at
+        ≡ chained (sectionRun (ltb 0 i) s count at) (λ n. sectionsRun s (3 - (i + 1)) (i + 1) n)
+    unfolding sectionsRun
+    sections-next = let e : 3 - i ≡ suc (3 - (i + 1)) = omega arith in rw (e, c)
 
-  module _ {b₃ : List ℕ} {at₁ to₁ m₁ c₂ : ℕ} {x₂ : Came} (q₁ : x₁ ≡ came.To at₁ to₁ m₁) (e₂ : c₂ ≡ be16At s 6)
-      (p₂ : Runs 0 (sectionRun true s c₂ at₁) b₂ to₁ b₃ x₂) where
-    -- an answer has
-    pub message-second : {at : ℕ} {g : FaultRead} → x₂ ≡ came.Stopped at g → Runs 0 (messageRun s) b 0 b₃ x₂
+    -- one more section
+    pub sections-goes : {after n m : ℕ} → x ≡ came.To after n m
+        → Continues (Runs 0 (sectionsRun s (3 - (i + 1)) (i + 1) after) b₁ n) (Runs 0 (sectionsRun s 3 0 12) b₀ to)
+    sections-goes q = continues-step w (rw sections-next (runs-chain _ (rw q at p)))
+
+    -- an entry of it has a fault
+    pub sections-stop : {o : List ℕ} {j : ℕ} {g : FaultRead} → Wrote o 0 (take 12 s) b₀ to → x ≡ came.Stopped j g
+        → Runs 0 (messageRun s) o 0 b₁ x
     unfolding messageRun
-    message-second q = rw q (runs-join h (runs-chain _ (rw (e₁, q₁) at p₁) (runs-halt _ (rw (e₂, q) at p₂))))
+    sections-stop d q = runs-join d (w .goes b₁ x (rw (sections-next, q) (runs-halt _ (rw q at p))))
 
-    module _ {b₄ : List ℕ} {at₂ to₂ m₂ c₃ : ℕ} {x₃ : Came} (q₂ : x₂ ≡ came.To at₂ to₂ m₂) (e₃ : c₃ ≡ be16At s 8)
-        (p₃ : Runs 0 (sectionRun true s c₃ at₂) b₃ to₂ b₄ x₃) where
-      -- a record of the authority section has
-      pub message-third : {at : ℕ} {g : FaultRead} → x₃ ≡ came.Stopped at g → Runs 0 (messageRun s) b 0 b₄ x₃
-      unfolding messageRun
-      message-third q = rw q
-          (runs-join h (runs-chain _ (rw (e₁, q₁) at p₁)
-          (runs-chain _ (rw (e₂, q₂) at p₂) (runs-halt _ (rw (e₃, q) at p₃)))))
-
-      -- the additional section is read
-      pub message-fourth : {b₅ : List ℕ} {at₃ to₃ m₃ c₄ : ℕ} {x₄ : Came} → x₃ ≡ came.To at₃ to₃ m₃ → c₄ ≡ be16At s 10
-          → Runs 0 (sectionRun true s c₄ at₃) b₄ to₃ b₅ x₄ → Runs 0 (messageRun s) b 0 b₅ x₄
-      unfolding messageRun
-      message-fourth q₃ e₄ p₄ =
-          runs-join h (runs-chain _ (rw (e₁, q₁) at p₁)
-          (runs-chain _ (rw (e₂, q₂) at p₂) (runs-chain _ (rw (e₃, q₃) at p₃) (rw e₄ at p₄))))
+  -- the last section
+  pub sections-end : {o b₁ : List ℕ} {count : ℕ} {x : Came} → Wrote o 0 (take 12 s) b₀ to → i ≤ 3 → 3 ≤ i
+      → count ≡ be16At s 10 → Runs 0 (sectionRun true s count at) b next b₁ x → Runs 0 (messageRun s) o 0 b₁ x
+  unfolding messageRun sectionsRun
+  sections-end {b₁ = b₁} {x = x} d h k c p =
+      let e : i ≡ 3 = omega arith in
+      runs-join d (w .goes b₁ x (rw e (rw c at p)))

@@ -22,7 +22,8 @@ use Rattle.records.specs.Decode.{headerOf, zOf, sectionsOf, messageRead, Decode
 use Rattle.records.proofs.MessageLaws.{section-step, section-stop}
 use Rattle.records.proofs.Kept.{header-same}
 use Rattle.forms.specs.Putting.{Part, mapped, questionPart, recordPart, partAt, Run, ran, halted, partThen}
-use Rattle.forms.specs.Putting.{turned, sectionRun, Runs, runs, halts, octetsThen, chained, messageRun}
+use Rattle.forms.specs.Putting.{turned, sectionRun, Runs, runs, halts, octetsThen, chained, sectionsRun}
+use Rattle.forms.specs.Putting.{messageRun}
 use Rattle.forms.specs.declared.Came.{Came}
 use Rattle.forms.specs.declared.Came.the-variants as came
 use Rattle.octets.specs.declared.Outcome.the-variants as outcome
@@ -121,7 +122,7 @@ module _ (s : List ℕ) where
       (octetsThen (each recordForm (sectionsOf s .answers .entries))
       (octetsThen (each recordForm (sectionsOf s .authority .entries))
       (runOf recordPart (sectionsOf s .additional .entries) (sectionsOf s .additional .end)))))
-  unfolding messageRun sectionsOf
+  unfolding messageRun sectionsRun sectionsOf
   message-run =
       let q = sectionAt questionAt s (be16At s 4) 12 in
       let a = sectionFrom recordAt s (be16At s 6) (q .end) in

@@ -149,20 +149,19 @@ fn put_message(s: &[u8], out: &mut [u8]) -> Came
     requires { ⌜ (length (now s) ≤ 65535) × (12 ≤ length (now s)) ⌝ }
     ensures { λ r. ⌜ Runs 0 (messageRun (now (s .entry))) (now (out .entry)) 0 (now (out .exit)) r ⌝ }
 {
-    let first = put_all(out, 0, &s[0..12]);
-    let questions = put_section(s, false, be16_at(s, 4), 12, out, first);
-    let Came::To(answers_at, second, _) = questions else {
-        return questions;
-    };
-    let answers = put_section(s, true, be16_at(s, 6), answers_at, out, second);
-    let Came::To(authority_at, third, _) = answers else {
-        return answers;
-    };
-    let authority = put_section(s, true, be16_at(s, 8), authority_at, out, third);
-    let Came::To(additional_at, fourth, _) = authority else {
-        return authority;
-    };
-    put_section(s, true, be16_at(s, 10), additional_at, out, fourth)
+    let mut next = put_all(out, 0, &s[0..12]);
+    let mut at = 12;
+    let mut i = 0;
+    while i < 3 {
+        let section = put_section(s, i > 0, be16_at(s, 4 + 2 * i), at, out, next);
+        let Came::To(after, end, _) = section else {
+            return section;
+        };
+        at = after;
+        next = end;
+        i += 1;
+    }
+    put_section(s, true, be16_at(s, 10), at, out, next)
 }
 
 // The length of the form or the refusal, and the number of TYPE 41 records of the additional section.
