@@ -6,7 +6,7 @@ use Prim.Native.Nat.{ℕ, zero, suc, _+_, _-_, _*_, _≤_, _<_}
 use native.Mathlib.Omega.{arith}
 use borrow.Author.Tests.{ne-eqb}
 use lib.Dec.{eqb, ltb}
-use lib.ListN.{length, take, length-take}
+use lib.ListN.{length, take}
 use Rattle.octets.specs.Fields.{be16, be32, be16At}
 use Rattle.octets.specs.Overlay.{Wrote, then, nothing}
 use Rattle.octets.specs.Overlay as overlay
@@ -18,16 +18,18 @@ use Rattle.records.specs.Layout.{Laid, laid, misfit, rdataAt}
 use Rattle.records.specs.Message.{Question, Record, questionForm, recordForm}
 use Rattle.records.specs.Read.{Entry, entry, bad, filled, questionAt, recordAt}
 use Rattle.records.specs.Parts.{HeadOf, recordHeadAt, withRdata, with-rdata, record-head, head-next}
-use Rattle.records.specs.Answer.{padded, askedOf, questionRead, headRead, recordRead}
-use Rattle.records.proofs.Told.{form-part, asked, headed}
+use Rattle.records.specs.Answer.{padded, askedOf, questionRead, Asks, headRead, recordRead, Heads}
+use Rattle.records.proofs.Told.{form-part, asked, headed, asks-name, asks-after, heads-after}
 use Rattle.records.specs.declared.Asked.{Asked}
+use Rattle.records.specs.declared.Question.{Question as QuestionAnswer}
 use Rattle.records.specs.declared.Question.the-variants as question
 use Rattle.records.specs.declared.QuestionRead.{QuestionRead}
 use Rattle.records.specs.declared.Head.{Head}
+use Rattle.records.specs.declared.Record.{Record as RecordAnswer}
 use Rattle.records.specs.declared.Record.the-variants as record′
 use Rattle.records.specs.declared.RecordRead.{RecordRead}
-use Rattle.rdata.specs.Written.{digitsIf, PutsRdata}
-use Rattle.rdata.proofs.FormLaws.{puts-laid, puts-misfit}
+use Rattle.rdata.specs.Written.{digitsIf, PutsRdata, Ends}
+use Rattle.rdata.proofs.FormLaws.{puts-laid, puts-misfit, octets-place}
 use Rattle.rdata.specs.declared.RdataEnd.{RdataEnd}
 use Rattle.rdata.specs.declared.RdataEnd.the-variants as rdataEnd
 use Rattle.forms.specs.declared.Gone.{Gone}
@@ -104,77 +106,133 @@ record-part s at k next e =
     ∙ ap (λ (i : ℕ). filled (withRdata k) i (rdataAt true s (k .type) (k .rdata) (k .rdlength)))
     (head-next s at k next e))
 
--- RDATA has a fault
-missed : {x : Laid} {b b₃ : List ℕ} {to : ℕ} {fault : Fault} {f : FaultRead} (k : HeadOf) (next : ℕ) → x ≡ misfit fault
-    → f ≡ faultOf fault → Puts (mapped recordPart (filled (withRdata k) next x)) b to b₃ (gone.Faulty f)
-missed k next u v = rw (u, v) faults
+-- the record by its owner's form and its fields
+abbrev laidPart : (List ℕ → Part) → ℕ → Laid → Entry Part
+laidPart made next (laid octets) = entry (made octets) next
+laidPart made next (misfit fault) = bad fault
 
--- RDATA was written after the place of its length, and then its length
-placed : {d b b₁ b₂ b₃ b₄ : List ℕ} {to n₁ n₂ n₃ n₄ : ℕ} (k : HeadOf)
-    → Wrote b to (nameForm (k .name) ++ be16 (k .type) ++ be16 (k .class)) b₁ n₁ → Wrote b₁ n₁ (be32 (k .ttl)) b₂ n₂
-    → Wrote b₂ (n₂ + 2) d b₃ n₃ → Wrote b₃ n₂ (be16 (n₃ - (n₂ + 2))) b₄ n₄
-    → Wrote b to (recordForm (withRdata k d)) b₄ n₃
-unfolding recordForm
-placed {d = d} {b₃ = b₃} {b₄ = b₄} {n₂ = n₂} {n₃ = n₃} {n₄ = n₄} k p q v w =
-    let e : n₃ - (n₂ + 2) ≡ length d = omega (arith, v .place) in
-    let w′ = subst (λ (n : ℕ). Wrote b₃ n₂ (be16 n) b₄ n₄) e w in
-    rw (append-assoc (nameForm (k .name) ++ be16 (k .type) ++ be16 (k .class) ++ be32 (k .ttl)) (be16 (length d)) d)
-    (then (then p q) (overlay.before refl v w′))
+abbrev withFields : List ℕ → Head → List ℕ → Part
+withFields form h rdata = record {
+  form = form ++ be16 (h .kind) ++ be16 (h .class) ++ be32 (h .ttl) ++ be16 (length rdata) ++ rdata;
+  type = h .kind;
+}
 
-module _ (s : List ℕ) (at : ℕ) {r : RecordRead} (e : r ≡ recordRead (recordHeadAt s at)) where
-  pub record-faults : {f : FaultRead} {b b′ : List ℕ} {to : ℕ} → r .answer ≡ record′.Faulty f
-      → Puts (partAt true s at) b to b′ (gone.Faulty f)
+unfoldable pub fieldsPart : List ℕ → List ℕ → Head → Entry Part
+fieldsPart s form h =
+    laidPart (withFields form h) (h .rdata + h .rdlength) (rdataAt true s (h .kind) (h .rdata) (h .rdlength))
+
+fields-same : (s : List ℕ) (k : HeadOf)
+    → mapped recordPart (filled (withRdata k) (k .rdata + k .rdlength)
+    (rdataAt true s (k .type) (k .rdata) (k .rdlength))) ≡ fieldsPart s (nameForm (k .name)) (headRead k)
+unfolding fieldsPart recordForm
+fields-same s k = go (rdataAt true s (k .type) (k .rdata) (k .rdlength))
+  where
+    go : (x : Laid) → mapped recordPart (filled (withRdata k) (k .rdata + k .rdlength) x)
+        ≡ laidPart (withFields (nameForm (k .name)) (headRead k)) (k .rdata + k .rdlength) x
+    go (laid octets) = refl
+    go (misfit fault) = refl
+
+-- RDATA with its length before it, as a writer's answer says
+pub data Sized : Laid → List ℕ → ℕ → List ℕ → RdataEnd → Type 0 where
+  sized : {d b b′ : List ℕ} {to r : ℕ} → Wrote b to (be16 (length d) ++ d) b′ r → Sized (laid d) b to b′ (rdataEnd.To r)
+  misfits : {fault : Fault} {b b′ : List ℕ} {to : ℕ} → Sized (misfit fault) b to b′ (rdataEnd.Misfit (faultOf fault))
+
+misfits-as : {x : Laid} {w : RdataEnd} {fault : Fault} {f : FaultRead} {b b′ : List ℕ} {to : ℕ} → x ≡ misfit fault
+    → w ≡ rdataEnd.Misfit f → f ≡ faultOf fault → Sized x b to b′ w
+misfits-as p q e = rw (p, q, e) misfits
+
+sized-as : {x : Laid} {w : RdataEnd} {d b b′ : List ℕ} {to n : ℕ} → x ≡ laid d → w ≡ rdataEnd.To n
+    → Wrote b to (be16 (length d) ++ d) b′ n → Sized x b to b′ w
+sized-as p q v = rw (p, q) (sized v)
+
+pub record PutsSized (s : List ℕ) (h : Head) (b : List ℕ) (to : ℕ) (b′ : List ℕ) (r : RdataEnd) : Type 0 where
+  pub puts : Sized (rdataAt true s (h .kind) (h .rdata) (h .rdlength)) b to b′ r
+
+-- the place after it
+abbrev pub SizedTo : RdataEnd → Head → Type 0
+SizedTo (rdataEnd.To r) h = r ≤ 255 * (h .rdata + h .rdlength)
+SizedTo (rdataEnd.Misfit fault) h = Unit {0}
+
+pub sized-none : {w : RdataEnd} {f : FaultRead} → w ≡ rdataEnd.Misfit f → (h : Head) → SizedTo w h
+sized-none e h = subst (λ (x : RdataEnd). SizedTo x h) (sym e) tt
+
+pub sized-ends : {w : RdataEnd} {n : ℕ} → w ≡ rdataEnd.To n → (to start size : ℕ) → Ends false w (to + 2) size
+    → to + 2 ≤ 255 * start → n ≤ 255 * (start + size)
+sized-ends e to start size h k = omega (arith, octets-place e (to + 2) size h)
+
+pub sized-place : {w : RdataEnd} {n : ℕ} → w ≡ rdataEnd.To n → (h : Head) → SizedTo w h
+    → n ≤ 255 * (h .rdata + h .rdlength)
+sized-place e h k = subst (λ (x : RdataEnd). SizedTo x h) e k
+
+module _ (s : List ℕ) (h : Head) {b b₁ : List ℕ} {to : ℕ} {w : RdataEnd}
+    (m : PutsRdata false s (h .kind) (h .rdata) (h .rdlength) b (to + 2) b₁ w) where
+  -- RDATA has a fault
+  pub sized-fault : {f : FaultRead} → w ≡ rdataEnd.Misfit f → PutsSized s h b to b₁ w
+  sized-fault q =
+      let (fault, x, y) = puts-misfit s (h .kind) (h .rdata) (h .rdlength) m q in
+      record { puts = misfits-as x q y }
+
+  -- RDATA was written after the place of its length, and then its length
+  pub sized-puts : {b₂ : List ℕ} {n n₁ : ℕ} → w ≡ rdataEnd.To n → Wrote b₁ to (be16 (n - (to + 2))) b₂ n₁
+      → PutsSized s h b to b₂ (rdataEnd.To n)
+  unfolding digitsIf
+  sized-puts {b₂} {n} {n₁} q z =
+      let (d, o, v) = puts-laid s (h .kind) (h .rdata) (h .rdlength) m q in
+      let e : n - (to + 2) ≡ length d = omega (arith, v .place) in
+      record { puts = sized-as o refl (overlay.before refl v (subst (λ (i : ℕ). Wrote b₁ to (be16 i) b₂ n₁) e z)) }
+
+module _ (s form : List ℕ) (h : Head) {b b₁ b₂ b₃ : List ℕ} {to n₁ n₂ : ℕ} {w : RdataEnd}
+    (p : Wrote b to (form ++ be16 (h .kind) ++ be16 (h .class)) b₁ n₁) (u : Wrote b₁ n₁ (be32 (h .ttl)) b₂ n₂)
+    (m : PutsSized s h b₂ n₂ b₃ w) where
+  pub fields-fault : {f : FaultRead} → w ≡ rdataEnd.Misfit f → Puts (fieldsPart s form h) b to b₃ (gone.Faulty f)
+  unfolding fieldsPart
+  fields-fault q = go (rw q at (m .puts))
+    where
+      go : {x : Laid} {f : FaultRead} → Sized x b₂ n₂ b₃ (rdataEnd.Misfit f)
+          → Puts (laidPart (withFields form h) (h .rdata + h .rdlength) x) b to b₃ (gone.Faulty f)
+      go misfits = faults
+
+  pub fields-put : {n : ℕ} → w ≡ rdataEnd.To n
+      → Puts (fieldsPart s form h) b to b₃ (gone.To (h .rdata + h .rdlength) n (h .kind))
+  unfolding fieldsPart
+  fields-put q = go (rw q at (m .puts))
+    where
+      go : {x : Laid} {n : ℕ} → Sized x b₂ n₂ b₃ (rdataEnd.To n)
+          → Puts (laidPart (withFields form h) (h .rdata + h .rdlength) x) b to b₃
+          (gone.To (h .rdata + h .rdlength) n (h .kind))
+      go {n = n} (sized {d = d} v) =
+          let whole : Wrote b to (withFields form h d .form) b₃ n =
+          rw (append-assoc (form ++ be16 (h .kind) ++ be16 (h .class) ++ be32 (h .ttl)) (be16 (length d)) d)
+          (then (then p u) v) in
+          puts whole
+
+module _ (s : List ℕ) (at : ℕ) {r : RecordRead} (e : r ≡ recordRead (recordHeadAt s at)) {b b′ : List ℕ} {to : ℕ} where
+  pub record-faults : {f : FaultRead} → r .answer ≡ record′.Faulty f → Puts (partAt true s at) b to b′ (gone.Faulty f)
   unfolding partAt
-  record-faults {b = b} {b′ = b′} {to = to} p = go (headed (recordHeadAt s at) e p)
+  record-faults p = go (headed (recordHeadAt s at) e p)
     where
       go : {f : FaultRead} → (x : (fault : Fault) × (recordHeadAt s at ≡ bad fault) × (f ≡ faultOf fault))
           → Puts (mapped recordPart (recordAt s at)) b to b′ (gone.Faulty f)
       go (fault, u, v) = rw (record-head s at, u, v) faults
 
-  module _ {h : Head} (p : r .answer ≡ record′.Read h) {b b₂ : List ℕ} {to n₂ : ℕ} {w : RdataEnd} where
-    -- RDATA has a fault
-    pub record-misses : {b₃ : List ℕ} {f : FaultRead}
-        → PutsRdata false s (h .kind) (h .rdata) (h .rdlength) b₂ n₂ b₃ w → w ≡ rdataEnd.Misfit f
-        → Puts (partAt true s at) b to b₃ (gone.Faulty f)
-    record-misses {b₃} {f} d q =
-        let (fault, x, y) = puts-misfit s (h .kind) (h .rdata) (h .rdlength) d q in
-        let (k, next, u, v, l) = headed (recordHeadAt s at) e p in
-        let z = sym (ap (λ (c : Head). rdataAt true s (c .kind) (c .rdata) (c .rdlength)) v) ∙ x in
-        rw (record-part s at k next u) (missed k (k .rdata + k .rdlength) z y)
+  pub record-puts : {h : Head} {x : Gone} → r .answer ≡ record′.Read h
+      → Puts (fieldsPart s (take (h .size - 0) (r .name)) h) b to b′ x → Puts (partAt true s at) b to b′ x
+  record-puts {x = x} p d =
+      let (k, next, u, v, l) = headed (recordHeadAt s at) e p in
+      let read = subst (λ (c : Head). Puts (fieldsPart s (take (c .size - 0) (r .name)) c) b to b′ x) v d in
+      rw (record-part s at k next u, fields-same s k)
+      (rw (form-part (nameForm (k .name)) (r .name) (length (nameForm (k .name))) refl l) at read)
 
-    -- all was written
-    pub record-puts : {b₁ b₃ b₄ : List ℕ} {n₁ n₃ n₄ : ℕ}
-        → Wrote b to (take (h .size - 0) (r .name) ++ be16 (h .kind) ++ be16 (h .class)) b₁ n₁
-        → Wrote b₁ n₁ (be32 (h .ttl)) b₂ n₂
-        → PutsRdata false s (h .kind) (h .rdata) (h .rdlength) b₂ (n₂ + 2) b₃ w → w ≡ rdataEnd.To n₃
-        → Wrote b₃ n₂ (be16 (n₃ - (n₂ + 2))) b₄ n₄
-        → Puts (partAt true s at) b to b₄ (gone.To (h .rdata + h .rdlength) n₃ (h .kind))
-    unfolding digitsIf
-    record-puts {b₁} {b₃} {b₄} {n₁} {n₃} {n₄} x y m q z =
-        let (d, o, i) = puts-laid s (h .kind) (h .rdata) (h .rdlength) m q in
-        go d (headed (recordHeadAt s at) e p) x y o i
-      where
-        Given : List ℕ → Head → Type 0
-        Given d c =
-            Wrote b to (take (c .size - 0) (r .name) ++ be16 (c .kind) ++ be16 (c .class)) b₁ n₁
-            → Wrote b₁ n₁ (be32 (c .ttl)) b₂ n₂
-            → rdataAt true s (c .kind) (c .rdata) (c .rdlength) ≡ laid d → Wrote b₂ (n₂ + 2) d b₃ n₃
-            → Puts (partAt true s at) b to b₄ (gone.To (c .rdata + c .rdlength) n₃ (c .kind))
+-- ---- bounds of what was written
+-- a question ends at most 255 places further on for each of its octets
+pub question-place : (x : QuestionAnswer) (at end : ℕ) {a : Asked} (l : List ℕ) {to r : ℕ} → Asks x at end
+    → x ≡ question.Read a → to ≤ 255 * at → r ≡ to + length (take (a .size - 0) l) + 4 → r ≤ 255 * a .next
+question-place x at end l h e k d = omega (arith, asks-name x at end h e l, asks-after x at end h e)
 
-        go : (d : List ℕ) (x : (k : HeadOf) × (next : ℕ) × (recordHeadAt s at ≡ entry k next) × (h ≡ headRead k)
-            × (r .name ≡ padded (nameForm (k .name)))) → Given d h
-        go d (k, next, u, v, l) =
-            subst (Given d) (sym v) λ x y o i. rw (record-part s at k next u, o)
-            (puts (placed k
-            (rw (form-part (nameForm (k .name)) (r .name) (length (nameForm (k .name))) refl l) at x) y i z))
-
--- a name and two fields were written
-pub named-within : (size : ℕ) (l : List ℕ) (to : ℕ) {r : ℕ} → r ≡ to + length (take (size - 0) l) + 4 → size ≤ 255
-    → (to + 4 ≤ r) × (r ≤ to + 259)
-named-within size l to e h = let k = length-take (size - 0) l in (omega arith, omega arith)
-
-pub part-short : (size : ℕ) (l : List ℕ) (most : ℕ) → size ≤ most → length (take (size - 0) l) ≤ most
-part-short size l most h = let k = length-take (size - 0) l in omega arith
+-- what is before a record's RDATA is shorter than its octets allow
+pub record-place : (x : RecordAnswer) (at end : ℕ) {a : Head} {to : ℕ} → Heads x at end → x ≡ record′.Read a
+    → to ≤ 255 * at → to + 265 ≤ 255 * a .rdata
+record-place x at end h e k = omega (arith, heads-after x at end h e)
 
 -- ---- sections
 -- the forms of entries one after another, the offset after them and how many have TYPE 41; or the faulty entry's offset

@@ -8,6 +8,7 @@ use octets::put_be16;
 use octets::put_be32;
 use rdata::RdataEnd;
 use rdata::put_rdata;
+use records::Head;
 use records::Question;
 use records::Record;
 use records::question_at;
@@ -21,8 +22,8 @@ ghost use Rattle.octets.specs.Fields.{be16};
 ghost use Rattle.octets.specs.Overlay.{Wrote};
 ghost use Rattle.names.specs.Answer.{faultNumber};
 ghost use Rattle.records.specs.Decode.{refused};
-ghost use Rattle.forms.specs.Putting.{partAt, Puts, Goes, optCount, sectionRun, Runs, Comes};
-ghost use Rattle.forms.specs.Putting.{messageRun};
+ghost use Rattle.forms.specs.Putting.{partAt, PutsSized, SizedTo, fieldsPart, Puts, Goes, optCount};
+ghost use Rattle.forms.specs.Putting.{sectionRun, Runs, Comes, messageRun};
 ghost use Rattle.forms.specs.Uncompressed.{scanOf, Uncompressed};
 
 // The offset after an entry, the next place of the form and the entry's TYPE, or the entry's fault.
@@ -68,7 +69,39 @@ fn put_question(s: &[u8], at: usize, out: &mut [u8], to: usize) -> Gone
     }
 }
 
-// Writes the record at an offset: RDATA two octets further on, and then its length before it.
+// Writes RDLENGTH and RDATA: RDATA two octets further on, and then its length before it.
+fn put_sized(s: &[u8], head: Head, out: &mut [u8], to: usize) -> RdataEnd
+    requires { ⌜ (length (now s) ≤ 65535) × (head .rdata + head .rdlength ≤ length (now s))
+        × (to + 2 ≤ 255 * head .rdata) ⌝ }
+    ensures { λ r. ⌜ PutsSized (now (s .entry)) head (now (out .entry)) to (now (out .exit)) r ⌝ }
+    ensures { λ r. ⌜ SizedTo r head ⌝ }
+{
+    let inside = to + 2;
+    let rdata = put_rdata(s, head.kind, head.rdata, head.rdlength, false, out, inside);
+    let RdataEnd::To(end) = rdata else {
+        return rdata;
+    };
+    let _length = put_be16(out, to, (end - inside) as u32);
+    RdataEnd::To(end)
+}
+
+// Writes a record by its owner's form and its fields.
+fn put_fields(s: &[u8], form: &[u8], head: Head, out: &mut [u8], to: usize) -> Gone
+    requires { ⌜ (length (now s) ≤ 65535) × (length (now form) ≤ 255) × (head .kind < 65536) × (head .class < 65536)
+        × (head .rdata + head .rdlength ≤ length (now s)) × (to + 265 ≤ 255 * head .rdata) ⌝ }
+    ensures { λ r. ⌜ Puts (fieldsPart (now (s .entry)) (now (form .entry)) head) (now (out .entry)) to
+        (now (out .exit)) r ⌝ }
+    ensures { λ r. ⌜ Goes r (length (now (s .entry))) ⌝ }
+{
+    let classed = put_named(out, to, form, head.kind, head.class);
+    let place = put_be32(out, classed, head.ttl);
+    match put_sized(s, head, out, place) {
+        RdataEnd::Misfit(fault) => Gone::Faulty(fault),
+        RdataEnd::To(end) => Gone::To(head.rdata + head.rdlength, end, head.kind),
+    }
+}
+
+// Writes the record at an offset.
 fn put_record(s: &[u8], at: usize, out: &mut [u8], to: usize) -> Gone
     requires { ⌜ (length (now s) ≤ 65535) × (at ≤ length (now s)) × (to ≤ 255 * at) ⌝ }
     ensures { λ r. ⌜ Puts (partAt true (now (s .entry)) at) (now (out .entry)) to (now (out .exit)) r ⌝ }
@@ -81,16 +114,7 @@ fn put_record(s: &[u8], at: usize, out: &mut [u8], to: usize) -> Gone
         Record::Faulty(fault) => Gone::Faulty(fault),
         Record::Read(head) => {
             let size = head.size;
-            let classed = put_named(out, to, &name[0..size], head.kind, head.class);
-            let place = put_be32(out, classed, head.ttl);
-            let inside = place + 2;
-            match put_rdata(s, head.kind, head.rdata, head.rdlength, false, out, inside) {
-                RdataEnd::Misfit(fault) => Gone::Faulty(fault),
-                RdataEnd::To(end) => {
-                    let _length = put_be16(out, place, (end - inside) as u32);
-                    Gone::To(head.rdata + head.rdlength, end, head.kind)
-                }
-            }
+            put_fields(s, &name[0..size], head, out, to)
         }
     }
 }

@@ -3,7 +3,7 @@
 use mathlib.Core.Path.{_≡_, refl, sym, ap, _∙_, subst}
 use mathlib.Core.Bool.{Bool, true, false, cond}
 use mathlib.Core.List.{List, [], _∷_, _++_}
-use Prim.Native.Nat.{ℕ, _+_, _-_, _*_, _≤_}
+use Prim.Native.Nat.{ℕ, _+_, _-_, _*_, _≤_, _<_}
 use native.Mathlib.Omega.{arith}
 use borrow.Author.Tests.{ltb-false}
 use lib.Dec.{ltb}
@@ -208,9 +208,21 @@ with-ends s type at size {hex} {to = to} p h k = (
     go false (misfit fault) n e = tt
     go true (misfit fault) n e = tt
 
-pub rdata-octets-end : (r : RdataEnd) (size : ℕ) {to n : ℕ} → Ends false r to size → r ≡ To n
-    → (to ≤ n) × (n ≤ to + 255 * size) × (n ≤ to + 65535)
-rdata-octets-end r size h e = rw e at h
+module _ {r : RdataEnd} {n : ℕ} (e : r ≡ To n) (to size : ℕ) (h : Ends false r to size) where
+  octets-end : (to ≤ n) × (n ≤ to + 255 * size) × (n ≤ to + 65535)
+  octets-end = rw e at h
+
+  pub octets-after : to ≤ n
+  octets-after = octets-end .0
+
+  pub octets-place : n ≤ to + 255 * size
+  octets-place = octets-end .1
+
+  pub octets-fit : n - to < 4294967296
+  octets-fit = let k = octets-end .2 in omega arith
+
+  pub octets-few : n - to < 65536
+  octets-few = let k = octets-end .2 in omega arith
 
 pub rdata-digits-end : (r : RdataEnd) (size : ℕ) {to n : ℕ} → Ends true r to size → r ≡ To n
     → (to ≤ n) × (n ≤ to + 2 * size + 1060)

@@ -4,7 +4,7 @@ use mathlib.Core.Bool.{true}
 use mathlib.Core.List.{List}
 use Prim.Native.Nat.{ℕ, _+_, _-_, _≤_, _<_}
 use native.Mathlib.Omega.{arith}
-use lib.ListN.{length, take, drop, replicate, length-append}
+use lib.ListN.{length, take, drop, replicate, length-append, length-take}
 use lib.Seq.{drop-drop, take-append-seam}
 use Rattle.names.specs.Name.{Name, nameForm, Fault}
 use Rattle.names.specs.Answer.{faultOf}
@@ -106,14 +106,49 @@ pieces-next s l start end at i q =
     ∙ ap (follow s at (λ (n : ℕ). pieces true (drop (i + 1) l) s start end n)) q
 
 -- ---- the bounds of answers
-pub asks-within : (x : QuestionAnswer) (at : ℕ) {end : ℕ} {a : Asked} → Asks x at end → x ≡ question.Read a
-    → (a .size ≤ 255) × (a .kind < 65536) × (a .class < 65536) × (at + 5 ≤ a .next) × (a .next ≤ end)
-asks-within x at {end} h e = subst (λ (y : QuestionAnswer). Asks y at end) e h
+part-short : (size : ℕ) (l : List ℕ) → size ≤ 255 → length (take (size - 0) l) ≤ 255
+part-short size l h = omega (arith, length-take (size - 0) l)
 
-pub heads-within : (x : RecordAnswer) (at : ℕ) {end : ℕ} {a : Head} → Heads x at end → x ≡ record′.Read a
-    → (a .size ≤ 255) × (a .kind < 65536) × (a .class < 65536) × (at + 11 ≤ a .rdata) × (a .rdata + a .rdlength ≤ end)
-    × (a .rdlength < 65536)
-heads-within x at {end} h e = subst (λ (y : RecordAnswer). Heads y at end) e h
+module _ (x : QuestionAnswer) (at end : ℕ) {a : Asked} (h : Asks x at end) (e : x ≡ question.Read a) where
+  asks : Asks (question.Read a) at end
+  asks = subst (λ (y : QuestionAnswer). Asks y at end) e h
+
+  pub asks-name : (l : List ℕ) → length (take (a .size - 0) l) ≤ 255
+  asks-name l = part-short (a .size) l (asks .0)
+
+  pub asks-kind : a .kind < 65536
+  asks-kind = asks .1
+
+  pub asks-class : a .class < 65536
+  asks-class = asks .2
+
+  pub asks-after : at + 5 ≤ a .next
+  asks-after = asks .3
+
+  pub asks-inside : a .next ≤ end
+  asks-inside = asks .4
+
+module _ (x : RecordAnswer) (at end : ℕ) {a : Head} (h : Heads x at end) (e : x ≡ record′.Read a) where
+  heads : Heads (record′.Read a) at end
+  heads = subst (λ (y : RecordAnswer). Heads y at end) e h
+
+  pub heads-name : (l : List ℕ) → length (take (a .size - 0) l) ≤ 255
+  heads-name l = part-short (a .size) l (heads .0)
+
+  pub heads-kind : a .kind < 65536
+  heads-kind = heads .1
+
+  pub heads-class : a .class < 65536
+  heads-class = heads .2
+
+  pub heads-after : at + 11 ≤ a .rdata
+  heads-after = heads .3
+
+  pub heads-inside : a .rdata + a .rdlength ≤ end
+  heads-inside = heads .4
+
+  pub heads-short : a .rdlength < 65536
+  heads-short = heads .5
 
 -- the arrays have room for the names
 pub question-room : (s : List ℕ) (at : ℕ) {r : QuestionRead} {a : Asked} → r ≡ questionRead (questionAt s at)

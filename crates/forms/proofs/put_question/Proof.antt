@@ -1,8 +1,7 @@
 -- `forms::put_question` meets its contract: the question's fault, or its form.
 use borrow.Author.Needs.{needs}
-use native.Mathlib.Omega.{arith}
-use Rattle.records.proofs.Told.{asks-within, question-room}
-use Rattle.forms.specs.Putting.{question-faults, question-puts, named-within, part-short}
+use Rattle.records.proofs.Told.{asks-name, asks-kind, asks-class, asks-inside, question-room}
+use Rattle.forms.specs.Putting.{question-faults, question-puts, question-place}
 use Rattle.forms.proofs.put_question.Statement.{statement}
 use Rattle.forms.proofs.put_question.Tie as tie
 
@@ -22,38 +21,24 @@ part-put-named-start : tie.Need-part-put-named-start
 part-put-named-start c = search needs
 
 part-put-named-end : tie.Need-part-put-named-end
-part-put-named-end c = question-room _ _ (c .before .before .before .before .before .before .question-at .ensures .0)
-    (c .before .before .before .answer2 .given .1)
+part-put-named-end c = search (question-room, needs)
 
 put-named-requires : tie.Need-put-named-requires
-put-named-requires c κs =
-    let m = c .before .before .before .before in
-    let k = asks-within _ (m .before .before .before .before .before .before .args .at)
-    (m .before .before .before .question-at .ensures .1) (m .answer2 .given .1) in
-    (omega arith, part-short _ _ _ (k .0), k .1, k .2)
+put-named-requires c κs = (
+  search needs,
+  search (asks-name, needs),
+  search (asks-kind, needs),
+  search (asks-class, needs),
+)
 
 returns : tie.Need-returns
-returns c =
-    let m = c .before .before .before .before in (
-      question-faults (m .before .before .before .args .s .now) (m .before .before .before .args .at)
-          (m .question-at .ensures .0) (c .before .answer .given .1),
-      tt,
-    )
+returns c = (search (question-faults, needs), tt)
 
 same-length : tie.Need-same-length
 same-length c = search needs
 
 returns-2 : tie.Need-returns-2
-returns-2 c =
-    let m = c .before .before .before .before .before .before .before in
-    let j = m .before .before .before .before .before .before in
-    let k = asks-within _ (j .args .at) (m .before .before .before .question-at .ensures .1) (m .answer2 .given .1) in
-    let n = named-within (m .answer2 .given .0 .0 .size) (m .before .before .before .question-at .result .name)
-    (j .args .to) (c .before .before .put-named .ensures .1) (k .0) in (
-      question-puts (j .args .s .now) (j .args .at) (m .before .before .before .question-at .ensures .0)
-          (m .answer2 .given .1) (c .before .before .put-named .ensures .0),
-      (k .4, omega arith),
-    )
+returns-2 c = (search (question-puts, needs), (search (asks-inside, needs), search (question-place, needs)))
 
 pub put-question-spec : {M : Type 1} → statement M
 put-question-spec =
