@@ -8,6 +8,8 @@ use borrow.Author.Tests.{le-leb, lt-leb, le-ltb, lt-ltb, ne-eqb}
 use lib.Dec.{leb, ltb, eqb}
 use lib.ListN.{length, getD, take}
 use lib.Seq.{take-suc}
+use mir.Syntax.{w8}
+use mir.Val.{Fits}
 use Rattle.octets.specs.Lists.{each, count}
 use Rattle.octets.specs.Fields.{be16, be16At, two-same, empty}
 use Rattle.octets.specs.Overlay.{Wrote, overlay-first}
@@ -274,9 +276,12 @@ told-again {b = b} {b′ = b′} {to = to} l at n (runs {r = r} q v) e =
 told-again l at n halts e = absurd (halted≢ran e)
 
 -- e is what the first run leaves of the empty part
-module _ (s b e : List ℕ) (o : (j : ℕ) → getD s j 0 < 256) (small : length s ≤ 65535) (room : 12 ≤ length s)
+module _ (s b e : List ℕ) (o : (j : ℕ) → Fits w8 (getD s j 0)) (small : length s ≤ 65535) (room : 12 ≤ length s)
     (clear : zOf s ≡ 1 → ⊥) (z : length e ≡ 0)
     {x : Came} (d : Runs 0 (messageRun s) [] 0 e x) where
+  octets : (j : ℕ) → getD s j 0 < 256
+  octets j = o j .fits
+
   same-buffer : e ++ b ≡ b
   same-buffer = ap (λ (y : List ℕ). y ++ b) (empty e z)
 
@@ -294,7 +299,7 @@ module _ (s b e : List ℕ) (o : (j : ℕ) → getD s j 0 < 256) (small : length
     pub left-over : {r : Scan} → at < length s → r ≡ scanOf (refused 8 at) → Uncompressed s b r (e ++ b)
     left-over h p =
         let (l, n, u, v, w) = told-ran (rw q at d) in
-        refusing 8 at (decode-ran s small room clear o l at n u .gives ∙ rw (lt-ltb at (length s) h)) p same-buffer
+        refusing 8 at (decode-ran s small room clear octets l at n u .gives ∙ rw (lt-ltb at (length s) h)) p same-buffer
 
     module _ (h : length s ≤ at) where
       -- the form is over 65,535 octets
@@ -302,7 +307,7 @@ module _ (s b e : List ℕ) (o : (j : ℕ) → getD s j 0 < 256) (small : length
       form-long k p =
           let (l, n, u, v, w) = told-ran (rw q at d) in
           let i : 65535 < length l = omega (arith, w .place) in
-          refusing 9 0 (decode-ran s small room clear o l at n u .gives
+          refusing 9 0 (decode-ran s small room clear octets l at n u .gives
           ∙ rw (le-ltb at (length s) h, lt-ltb 65535 (length l) i)) p same-buffer
 
       module _ (k : size ≤ 65535) where
@@ -311,7 +316,7 @@ module _ (s b e : List ℕ) (o : (j : ℕ) → getD s j 0 < 256) (small : length
             → b′ ≡ cond (leb (length l) (length b)) (overwritten l b) b
             → Uncompressed s b (record { outcome = outcome.Length size; opts = m }) b′
         accepts l n u v w b′ f =
-            let y = decode-ran s small room clear o l at n u in
+            let y = decode-ran s small room clear octets l at n u in
             let i : length l ≤ 65535 = omega arith in
             let c : m ≡ n = omega arith in
             let j : size ≡ length l = omega arith in

@@ -54,12 +54,7 @@ same-length : tie.Need-same-length
 same-length c = search needs
 
 returns-4 : tie.Need-returns-4
-returns-4 c =
-    let m = c .before .before .before .before .before .before .before in
-    left-over _ _ _ (λ i. m .before .before .before .before .before .before .before .shared-slice-known .given i .fits)
-    (m .before .before .before .before .before .if1 .left) (m .before .before .before .before .if2 .left)
-    (m .before .before .if3 .left) (m .put-message .kept .1 .0) (m .put-message .ensures)
-    (c .before .before .before .at2 .given .1) (c .before .if4 .taken) (c .refuse5 .ensures)
+returns-4 c = search (left-over, needs)
 
 refuse-requires-6 : tie.Need-refuse-requires-6
 refuse-requires-6 c κs = search needs
@@ -68,13 +63,7 @@ same-length-2 : tie.Need-same-length-2
 same-length-2 c = search needs
 
 returns-5 : tie.Need-returns-5
-returns-5 c =
-    let m = c .before .before .before .before .before .before .before .before in
-    form-long _ _ _ (λ i. m .before .before .before .before .before .before .before .shared-slice-known .given i .fits)
-    (m .before .before .before .before .before .if1 .left) (m .before .before .before .before .if2 .left)
-    (m .before .before .if3 .left) (m .put-message .kept .1 .0) (m .put-message .ensures)
-    (c .before .before .before .before .at2 .given .1) (c .before .before .if4 .left) (c .before .if5 .taken)
-    (c .refuse6 .ensures)
+returns-5 c = search (form-long, needs)
 
 put-message-requires-2 : tie.Need-put-message-requires-2
 put-message-requires-2 c κs = search needs
@@ -83,37 +72,19 @@ same-length-3 : tie.Need-same-length-3
 same-length-3 c = search needs
 
 returns-6 : tie.Need-returns-6
-returns-6 c =
-    let m = c .before .before .before .before .before .before .before in
-    at-fault _ _ _ (λ i. m .before .before .before .before .before .before .before .shared-slice-known .given i .fits)
-    (m .before .before .before .before .before .if1 .left) (m .before .before .before .before .if2 .left)
-    (m .before .before .if3 .left) (m .put-message .kept .1 .0) (m .put-message .ensures)
-    (c .before .before .before .at .given .1) (c .before .number-of .ensures) (c .refuse4 .ensures)
+returns-6 c = search (at-fault, needs)
 
 same-length-4 : tie.Need-same-length-4
 same-length-4 c = search needs
 
 returns-7 : tie.Need-returns-7
-returns-7 c =
-    let k = c .before .before .before .before in
-    let m = k .before .before .before .before .before .before .before .before in
-    with-room _ _ _ (λ i. m .before .before .before .before .before .before .before .shared-slice-known .given i .fits)
-    (m .before .before .before .before .before .if1 .left) (m .before .before .before .before .if2 .left)
-    (m .before .before .if3 .left) (m .put-message .kept .1 .0) (m .put-message .ensures)
-    (k .before .before .before .before .at2 .given .1) (k .before .before .if4 .left) (k .before .if5 .left)
-    (k .if6 .taken) (c .before .before .put-message2 .ensures)
+returns-7 c = search (with-room, needs)
 
 same-length-5 : tie.Need-same-length-5
 same-length-5 c = search needs
 
 returns-8 : tie.Need-returns-8
-returns-8 c =
-    let m = c .before .before .before .before .before .before .before .before in
-    no-room _ _ _ (λ i. m .before .before .before .before .before .before .before .shared-slice-known .given i .fits)
-    (m .before .before .before .before .before .if1 .left) (m .before .before .before .before .if2 .left)
-    (m .before .before .if3 .left) (m .put-message .kept .1 .0) (m .put-message .ensures)
-    (c .before .before .before .before .at2 .given .1) (c .before .before .if4 .left) (c .before .if5 .left)
-    (c .if6 .left)
+returns-8 c = search (no-room, needs)
 
 pub uncompress-spec : {M : Type 1} → statement M
 uncompress-spec =
