@@ -3,17 +3,17 @@ use mathlib.Core.Path.{_≡_, refl, sym, ap, _∙_, subst}
 use mathlib.Core.Bool.{Bool, true, false, cond}
 use mathlib.Core.Option.{Option, none, some}
 use mathlib.Core.List.{List, [], _∷_, _++_, append-assoc}
-use Prim.Native.Nat.{ℕ, _+_, _-_, _≤_}
+use Prim.Native.Nat.{ℕ, _+_, _-_, _*_, _≤_, _<_}
 use native.Mathlib.Omega.{arith}
 use borrow.Author.Tests.{ne-eqb}
 use lib.Dec.{ltb}
-use lib.ListN.{length, take, length-take}
+use lib.ListN.{length, take, drop, length-take}
 use lib.Seq.{take-append-seam, drop-append-seam}
 use Rattle.octets.specs.Lists.{ascii, ended}
 use Rattle.octets.specs.Fields.{be16At, be32At}
 use Rattle.octets.specs.Overlay.{Wrote, then}
 use Rattle.octets.specs.Decimal.{decimal}
-use Rattle.records.proofs.Told.{form-part, asked}
+use Rattle.records.proofs.Told.{form-part, asked, asks-after, heads-after, heads-inside}
 use Rattle.names.specs.Name.{Name, nameForm, cut, Fault}
 use Rattle.names.specs.Walk.{message, Named, named, faulty, nameAt}
 use Rattle.names.specs.NameLaws.{Sized, read-sized, named-name, faulty≢named}
@@ -22,9 +22,13 @@ use Rattle.records.specs.Message.{Question}
 use Rattle.records.specs.Read.{Entry, entry, bad, with-name, firstCut, questionAt}
 use Rattle.records.specs.RecordLaws.{bad≢entry, entry-value}
 use Rattle.records.specs.Parts.{fitted, begun, begunAt, question-begun, HeadOf, recordHeadAt, headed}
-use Rattle.records.specs.Answer.{padded, askedOf, questionRead}
+use Rattle.records.specs.Answer.{padded, askedOf, questionRead, Asks, Heads}
 use Rattle.records.specs.declared.Asked.{Asked}
+use Rattle.records.specs.declared.Head.{Head}
+use Rattle.records.specs.declared.Question.{Question as QuestionAnswer}
 use Rattle.records.specs.declared.Question.the-variants as question
+use Rattle.records.specs.declared.Record.{Record as RecordAnswer}
+use Rattle.records.specs.declared.Record.the-variants as record′
 use Rattle.records.specs.declared.QuestionRead.{QuestionRead}
 use Rattle.spelling.specs.Spelling.{labelText, nameText, signed, signedText}
 use Rattle.spelling.specs.Form.{labels, formText, within-label}
@@ -158,6 +162,37 @@ module _ (s : List ℕ) (at : ℕ) {r : QuestionRead} (e : r ≡ questionRead (q
           λ x. prints-text (rw (question-parts q (question-sized s at q next u))
           (then (rw (form-part (nameForm (q .name)) (r .name) (length (nameForm (q .name))) refl l) at x) y)))
 
--- a part of at most m octets
-pub part-short : (n : ℕ) (l : List ℕ) (m : ℕ) → n ≤ m → length (take n l) ≤ m
-part-short n l m h = let e = length-take n l in omega arith
+-- ---- bounds
+-- a question's text, by the offset after it
+module _ (x : QuestionAnswer) (at end : ℕ) {a : Asked} (h : Asks x at end) (e : x ≡ question.Read a) where
+  pub question-later : at < a .next
+  question-later = omega (arith, asks-after x at end h e)
+
+  pub question-place : (to : ℕ) {b b′ : List ℕ} {n₁ n₂ : ℕ} → n₁ ≤ to + 1326 → Wrote b n₁ (125 ∷ []) b′ n₂
+      → n₂ + 4096 * at < to + 4096 * a .next
+  question-place to k w = omega (arith, w .place, asks-after x at end h e)
+
+-- a record's
+module _ (x : RecordAnswer) (at end : ℕ) {a : Head} (h : Heads x at end) (e : x ≡ record′.Read a) where
+  pub record-fits : end ≤ 65535 → a .rdata + a .rdlength < 18446744073709551616
+  record-fits k = omega (arith, heads-inside x at end h e)
+
+  pub record-later : at < a .rdata + a .rdlength
+  record-later = omega (arith, heads-after x at end h e)
+
+  pub record-place : (to : ℕ) {n : ℕ} → n ≤ to + 2419 + 64 * a .rdlength
+      → n + 4096 * at < to + 4096 * (a .rdata + a .rdlength)
+  record-place to k = omega (arith, heads-after x at end h e)
+
+-- RDATA as a part of the message
+module _ (s : List ℕ) (start size : ℕ) where
+  rdata-long : length (take (start + size - start) (drop start s)) ≤ size
+  rdata-long = omega (arith, length-take (start + size - start) (drop start s))
+
+  pub rdata-short : start + size ≤ length s → length s ≤ 65535
+      → length (take (start + size - start) (drop start s)) < 65536
+  rdata-short h k = omega (arith, rdata-long)
+
+  pub element-place : (to : ℕ) {n : ℕ} → n ≤ to + 128 + 64 * length (take (start + size - start) (drop start s))
+      → n ≤ to + 2419 + 64 * size
+  element-place to h = omega (arith, rdata-long)

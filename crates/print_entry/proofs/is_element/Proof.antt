@@ -1,10 +1,7 @@
 -- `print_entry::is_element` meets its contract: each test in order.
-use Prim.Native.Nat.{_+_, _-_}
-use native.Mathlib.Omega.{arith}
 use borrow.Author.Needs.{needs}
-use lib.ListN.{drop}
 use Rattle.print_entry.proofs.Showing.{shows-many, shows-other, shows-lone}
-use Rattle.print_entry.proofs.Writing.{part-short}
+use Rattle.print_entry.proofs.Writing.{rdata-short}
 use Rattle.print_entry.proofs.is_element.Statement.{statement}
 use Rattle.print_entry.proofs.is_element.Tie as tie
 
@@ -30,17 +27,7 @@ part-is-edns-end : tie.Need-part-is-edns-end
 part-is-edns-end c = search needs
 
 is-edns-requires : tie.Need-is-edns-requires
-is-edns-requires c κs =
-    let m = c .before .before .before .before in
-    let a = m .before .before .before .before in
-    let h = a .args .head in (
-      search needs,
-      omega (
-        arith,
-        part-short (h .rdata + h .rdlength - h .rdata) (drop (h .rdata) (a .args .s .now)) 65535
-            (omega (arith, a .pre)),
-      ),
-    )
+is-edns-requires c κs = (search needs, search (rdata-short, needs))
 
 returns-3 : tie.Need-returns-3
 returns-3 c = search (shows-lone, needs)

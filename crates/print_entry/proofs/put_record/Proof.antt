@@ -1,10 +1,8 @@
 -- `print_entry::put_record` meets its contract: the record by what was read of it; there is no fault.
-use Prim.Native.Nat.{_-_}
-use native.Mathlib.Omega.{arith}
 use borrow.Author.Needs.{needs}
-use Rattle.records.proofs.Told.{heads-within, record-room}
+use Rattle.records.proofs.Told.{heads-name, heads-inside, record-room}
 use Rattle.print_entry.proofs.Showing.{record-faultless, record-readable, record-prints}
-use Rattle.print_entry.proofs.Writing.{part-short}
+use Rattle.print_entry.proofs.Writing.{record-fits, record-later, record-place}
 use Rattle.print_entry.proofs.put_record.Statement.{statement}
 use Rattle.print_entry.proofs.put_record.Tie as tie
 
@@ -18,10 +16,7 @@ enum-told : tie.Need-enum-told
 enum-told c = search needs
 
 returns : tie.Need-returns
-returns c =
-    let m = c .before .before .before in
-    absurd (record-faultless _ _ _ (m .record-at .ensures .0) (m .before .before .before .pre .3)
-    (c .enum-told .given .1))
+returns c = absurd (search (record-faultless, needs))
 
 sub-put-shown : tie.Need-sub-put-shown
 sub-put-shown c = search needs
@@ -30,44 +25,29 @@ part-put-shown-start : tie.Need-part-put-shown-start
 part-put-shown-start c = search needs
 
 part-put-shown-end : tie.Need-part-put-shown-end
-part-put-shown-end c =
-    let m = c .before .before in
-    record-room _ _ (m .before .before .before .record-at .ensures .0) (m .answer .given .1)
+part-put-shown-end c = search (record-room, needs)
 
 put-shown-requires : tie.Need-put-shown-requires
-put-shown-requires c κs =
-    let m = c .before .before .before .before in
-    let q = m .before .before .before in
-    let a = q .before .before .before in
-    let k = heads-within _ (a .args .at) (q .record-at .ensures .1) (m .answer .given .1) in (
-      search needs,
-      search needs,
-      part-short (m .answer .given .0 .0 .size - 0) (q .record-at .result .name) 255 (omega arith),
-      k .4,
-      search needs,
-      record-readable _ _ _ (q .record-at .ensures .0) (m .answer .given .1) (a .pre .3),
-    )
+put-shown-requires c κs = (
+  search needs,
+  search needs,
+  search (heads-name, needs),
+  search (heads-inside, needs),
+  search needs,
+  search (record-readable, needs),
+)
 
 add-t14 : tie.Need-add-t14
-add-t14 c =
-    let p = c .before .before .before in
-    let m = p .before .before .before .before .before in
-    let q = m .before .before .before in
-    let k = heads-within _ (q .before .before .before .args .at) (q .record-at .ensures .1) (m .answer .given .1) in
-    search needs
+add-t14 c = search (record-fits, needs)
 
 same-length : tie.Need-same-length
 same-length c = search needs
 
 returns-2 : tie.Need-returns-2
-returns-2 c =
-    let p = c .before .before .before in
-    let m = p .before .before .before .before .before in
-    let q = m .before .before .before in
-    let k = heads-within _ (q .before .before .before .args .at) (q .record-at .ensures .1) (m .answer .given .1) in (
-      record-prints _ _ _ (q .record-at .ensures .0) (m .answer .given .1) (p .put-shown .ensures .0),
-      (omega arith, omega arith, omega (arith, p .put-shown .ensures .1)),
-    )
+returns-2 c = (
+  search (record-prints, needs),
+  (search (record-later, needs), search (heads-inside, needs), search (record-place, needs)),
+)
 
 pub put-record-spec : {M : Type 1} → statement M
 put-record-spec =

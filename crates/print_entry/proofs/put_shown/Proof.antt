@@ -1,10 +1,7 @@
 -- `print_entry::put_shown` meets its contract: the EDNS element, or the record as it is.
-use Prim.Native.Nat.{_+_, _-_}
-use native.Mathlib.Omega.{arith}
 use borrow.Author.Needs.{needs}
-use lib.ListN.{drop}
 use Rattle.print_entry.proofs.Showing.{element-shows, shown-element, shown-readable, shown-ordinary}
-use Rattle.print_entry.proofs.Writing.{part-short}
+use Rattle.print_entry.proofs.Writing.{rdata-short, element-place}
 use Rattle.print_entry.proofs.put_shown.Statement.{statement}
 use Rattle.print_entry.proofs.put_shown.Tie as tie
 
@@ -27,37 +24,13 @@ part-put-edns-end : tie.Need-part-put-edns-end
 part-put-edns-end c = search needs
 
 put-edns-requires : tie.Need-put-edns-requires
-put-edns-requires c κs =
-    let m = c .before .before .before .before .before in
-    let a = m .before .before .before .before in
-    let h = a .args .head in (
-      search needs,
-      search needs,
-      omega (
-        arith,
-        part-short (h .rdata + h .rdlength - h .rdata) (drop (h .rdata) (a .args .s .now)) 65535
-            (omega (arith, a .pre)),
-      ),
-      element-shows _ _ _ (m .is-element .ensures) (c .before .before .before .before .if1 .taken)
-          (c .before .before .before .rcode-of .ensures .0),
-    )
+put-edns-requires c κs = (search needs, search needs, search (rdata-short, needs), search (element-shows, needs))
 
 same-length : tie.Need-same-length
 same-length c = search needs
 
 returns : tie.Need-returns
-returns c =
-    let m = c .before .before .before .before .before .before in
-    let a = m .before .before .before .before .before .before in
-    let h = a .args .head in (
-      search (shown-element, needs),
-      omega (
-        arith,
-        c .before .before .put-edns .ensures .1,
-        part-short (h .rdata + h .rdlength - h .rdata) (drop (h .rdata) (a .args .s .now)) (h .rdlength)
-            (omega arith),
-      ),
-    )
+returns c = (search (shown-element, needs), search (element-place, needs))
 
 put-ordinary-requires : tie.Need-put-ordinary-requires
 put-ordinary-requires c κs = (search needs, search needs, search needs, search needs, search (shown-readable, needs))
