@@ -1,5 +1,5 @@
 -- What a writer of entries promises, and how one writer follows another.
-use mathlib.Core.Path.{_≡_, refl, ap, subst}
+use mathlib.Core.Path.{_≡_, refl, sym, ap, subst}
 use mathlib.Core.List.{List, _++_}
 use Prim.Native.Nat.{ℕ, _+_, _*_, _≤_, _<_}
 use Rattle.octets.specs.Overlay.{Wrote, then}
@@ -56,6 +56,17 @@ module _ {b b₁ : List ℕ} {to n₁ : ℕ} {t : List ℕ} (w : Wrote b to t b�
       reads = ap (texts (λ u. t ++ u)) (p .reads);
       wrote = then w (p .wrote);
     }
+
+-- an entry is written, and then what is read from the offset after it
+module _ (e : Entry (List ℕ)) (f : ℕ → Entry (List ℕ)) {b b₁ : List ℕ} {to at n₁ : ℕ} (p : Prints e b to b₁ at n₁) where
+  pub readable-then : Readable (entryThen e f) → Readable (f at)
+  readable-then h =
+      readable-value (λ u. p .text ++ u) (f at) (subst (λ (x : Entry (List ℕ)). Readable (entryThen x f)) (p .reads) h)
+
+  pub prints-then : {b₂ : List ℕ} {next n₂ : ℕ} → Prints (f at) b₁ n₁ b₂ next n₂
+      → Prints (entryThen e f) b to b₂ next n₂
+  prints-then {b₂} {next} {n₂} q =
+      subst (λ (x : Entry (List ℕ)). Prints (entryThen x f) b to b₂ next n₂) (sym (p .reads)) (prints-after (p .wrote) q)
 
 -- ---- what is left to write
 -- the buffer and the position after the text of an entry

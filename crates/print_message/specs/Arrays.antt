@@ -1,7 +1,7 @@
 -- Arrays, sections and the whole text of a message by its octets, and the ways of their writers.
-use mathlib.Core.Path.{_≡_, refl, sym, ap}
+use mathlib.Core.Path.{_≡_, refl, sym, ap, _∙_}
 use mathlib.Core.Bool.{Bool, true, false}
-use mathlib.Core.List.{List, [], _∷_, _++_}
+use mathlib.Core.List.{List, [], _∷_, _++_, append-assoc}
 use Prim.Native.Nat.{ℕ, zero, suc, _+_, _-_, _*_, _≤_, _<_}
 use native.Mathlib.Omega.{arith}
 use borrow.Author.Tests.{ne-eqb, eq-eqb}
@@ -9,9 +9,10 @@ use lib.Dec.{eqb}
 use Rattle.octets.specs.Lists.{ascii}
 use Rattle.octets.specs.Fields.{be16At}
 use Rattle.octets.specs.Overlay.{Wrote, nothing}
-use Rattle.records.specs.Read.{Entry, entry}
-use Rattle.print_entry.specs.Prints.{texts, entryThen, Readable, readable-value, readable-first, Prints, prints-after}
-use Rattle.print_entry.specs.Prints.{PrintLoop, rest-all, rest-same, rest-text, rest-then, rest-end}
+use Rattle.records.specs.Read.{Entry, entry, bad}
+use Rattle.print_entry.specs.Prints.{texts, entryThen, Readable, readable-value, readable-first, readable-then}
+use Rattle.print_entry.specs.Prints.{Prints, prints-text, prints-after, prints-then}
+use Rattle.print_entry.specs.Prints.{PrintLoop, rest-all, rest-same, rest-then, rest-end}
 use Rattle.print_entry.specs.Elements.{textAt}
 use Rattle.print_entry.specs.declared.Element.{Element}
 use Rattle.print_entry.specs.declared.Element.the-variants as element
@@ -54,7 +55,7 @@ additionalText lone s = sectionText (ascii ",\"additionalRRs\":") (element.Recor
 abbrev pub fromAdditional : Bool → List ℕ → ℕ → Entry (List ℕ)
 fromAdditional lone s at = entryThen (additionalText lone s at) (λ next. entry (ascii "}") next)
 
-abbrev pub fromAuthority : Bool → List ℕ → ℕ → Entry (List ℕ)
+unfoldable pub fromAuthority : Bool → List ℕ → ℕ → Entry (List ℕ)
 fromAuthority lone s at = entryThen (authorityText s at) (fromAdditional lone s)
 
 abbrev pub fromAnswers : Bool → List ℕ → ℕ → Entry (List ℕ)
@@ -62,6 +63,10 @@ fromAnswers lone s at = entryThen (answersText s at) (fromAuthority lone s)
 
 abbrev pub fromQuestions : Bool → List ℕ → ℕ → Entry (List ℕ)
 fromQuestions lone s at = entryThen (questionsText s at) (fromAnswers lone s)
+
+-- the sections before authority
+unfoldable pub frontText : List ℕ → ℕ → Entry (List ℕ)
+frontText s at = entryThen (questionsText s at) (answersText s)
 
 -- `lone` says whether the additional section has one TYPE 41 record
 unfoldable pub wholeText : Bool → List ℕ → Entry (List ℕ)
@@ -94,11 +99,6 @@ module _ (e : Element) (s : List ℕ) (count at : ℕ) where
       rest-same (ap (λ (first : Bool). restText e s first count at) (sym (eq-eqb count count refl)))
       (rest-all (readable-value (λ t. (91 ∷ []) ++ t) (restText e s true count at) h))
 
-  pub array-prints : {b b₁ b₂ : List ℕ} {to n₁ n₂ next : ℕ} → Wrote b to (91 ∷ []) b₁ n₁
-      → Prints (restText e s true count at) b₁ n₁ b₂ next n₂ → Prints (arrayText e s count at) b to b₂ next n₂
-  unfolding arrayText
-  array-prints p d = prints-after p d
-
 -- the first of the rest
 first-rest : (e : Element) (s : List ℕ) (first : Bool) (left from : ℕ) → 0 < left
     → restText e s first left from ≡ entryThen (texts (λ t. comma first ++ t) (textAt e s from))
@@ -107,14 +107,15 @@ unfolding restText
 first-rest e s first zero from h = absurd (omega arith)
 first-rest e s first (suc n) from h = let z : suc n - 1 ≡ n = omega arith in rw z
 
-module _ (e : Element) (s : List ℕ) (count left from : ℕ) {whole : Entry (List ℕ)} {b₀ b : List ℕ} {to next : ℕ}
-    (r : PrintLoop whole b₀ to (restText e s (eqb left count) left from) b next) where
-  -- no element is left
-  pub left-none : {b₁ : List ℕ} {n : ℕ} → left ≤ 0 → Wrote b next (93 ∷ []) b₁ n → Prints whole b₀ to b₁ from n
-  unfolding restText
-  left-none h p =
+module _ (e : Element) (s : List ℕ) (count at left from : ℕ) {b₀ b : List ℕ} {to next : ℕ}
+    (r : PrintLoop (restText e s true count at) b₀ to (restText e s (eqb left count) left from) b next) where
+  -- no element is left, and the bracket is there from before the loop
+  pub left-none : {b₋ b₁ : List ℕ} {n₋ n : ℕ} → left ≤ 0 → Wrote b₋ n₋ (91 ∷ []) b₀ to → Wrote b next (93 ∷ []) b₁ n
+      → Prints (arrayText e s count at) b₋ n₋ b₁ from n
+  unfolding restText arrayText
+  left-none h p q =
       let z : left ≡ 0 = omega arith in
-      rest-end (rest-same (ap (λ (l : ℕ). restText e s (eqb left count) l from) z) r) p
+      prints-after p (rest-end (rest-same (ap (λ (l : ℕ). restText e s (eqb left count) l from) z) r) q)
 
   module _ (h : 0 < left) where
     -- the next element has no fault
@@ -127,7 +128,7 @@ module _ (e : Element) (s : List ℕ) (count left from : ℕ) {whole : Entry (Li
     -- one less is left
     pub left-less : {b₁ b₂ : List ℕ} {n₁ n₂ after : ℕ} → left ≤ count → Wrote b next (comma (eqb left count)) b₁ n₁
         → Prints (textAt e s from) b₁ n₁ b₂ after n₂
-        → PrintLoop whole b₀ to (restText e s (eqb (left - 1) count) (left - 1) after) b₂ n₂
+        → PrintLoop (restText e s true count at) b₀ to (restText e s (eqb (left - 1) count) (left - 1) after) b₂ n₂
     left-less {after = after} k p d =
         let z : eqb (left - 1) count ≡ false = ne-eqb (left - 1) count (λ x. omega arith) in
         rest-same (ap (λ (first : Bool). restText e s first (left - 1) after) (sym z))
@@ -146,36 +147,62 @@ module _ (s title : List ℕ) (e : Element) (at : ℕ) {n count : ℕ} (c : coun
   section-prints p d = prints-after p (rw c at d)
 
 -- ---- writing the whole
-module _ (lone : Bool) (s : List ℕ) {b b₁ : List ℕ} {n₁ : ℕ} (h : Readable (wholeText lone s))
-    (p : Wrote b 0 (headTextAt s) b₁ n₁) where
-  after-head : PrintLoop (wholeText lone s) b 0 (fromQuestions lone s 12) b₁ n₁
-  unfolding wholeText
-  after-head = rest-text (rest-all h) p
+-- the sections before authority
+module _ (s : List ℕ) (at : ℕ) where
+  module _ (h : Readable (frontText s at)) where
+    pub questions-readable : Readable (questionsText s at)
+    unfolding frontText
+    questions-readable = readable-first (questionsText s at) (answersText s) h
 
-  pub questions-readable : Readable (questionsText s 12)
-  questions-readable = readable-first _ (fromAnswers lone s) (after-head .readable)
+    pub answers-readable : {b b₁ : List ℕ} {to i n : ℕ} → Prints (questionsText s at) b to b₁ i n
+        → Readable (answersText s i)
+    unfolding frontText
+    answers-readable q = readable-then (questionsText s at) (answersText s) q h
 
-  module _ {b₂ : List ℕ} {i₂ n₂ : ℕ} (q : Prints (questionsText s 12) b₁ n₁ b₂ i₂ n₂) where
-    after-questions : PrintLoop (wholeText lone s) b 0 (fromAnswers lone s i₂) b₂ n₂
-    after-questions = rest-then (fromAnswers lone s) after-head q
+  pub front-prints : {b b₁ b₂ : List ℕ} {to i₁ n₁ i₂ n₂ : ℕ} → Prints (questionsText s at) b to b₁ i₁ n₁
+      → Prints (answersText s i₁) b₁ n₁ b₂ i₂ n₂ → Prints (frontText s at) b to b₂ i₂ n₂
+  unfolding frontText
+  front-prints q a = prints-then (questionsText s at) (answersText s) q a
 
-    pub answers-readable : Readable (answersText s i₂)
-    answers-readable = readable-first _ (fromAuthority lone s) (after-questions .readable)
+-- the sections from authority on, and the brace
+module _ (lone : Bool) (s : List ℕ) (at : ℕ) where
+  module _ (h : Readable (fromAuthority lone s at)) where
+    pub authority-readable : Readable (authorityText s at)
+    unfolding fromAuthority
+    authority-readable = readable-first (authorityText s at) (fromAdditional lone s) h
 
-    module _ {b₃ : List ℕ} {i₃ n₃ : ℕ} (a : Prints (answersText s i₂) b₂ n₂ b₃ i₃ n₃) where
-      after-answers : PrintLoop (wholeText lone s) b 0 (fromAuthority lone s i₃) b₃ n₃
-      after-answers = rest-then (fromAuthority lone s) after-questions a
+    pub additional-readable : {b b₁ : List ℕ} {to i n : ℕ} → Prints (authorityText s at) b to b₁ i n
+        → Readable (additionalText lone s i)
+    unfolding fromAuthority
+    additional-readable {i = i} u =
+        readable-first (additionalText lone s i) (λ next. entry (ascii "}") next)
+        (readable-then (authorityText s at) (fromAdditional lone s) u h)
 
-      pub authority-readable : Readable (authorityText s i₃)
-      authority-readable = readable-first _ (fromAdditional lone s) (after-answers .readable)
+  pub back-prints : {b b₁ b₂ b₃ : List ℕ} {to i₁ n₁ i₂ n₂ n₃ : ℕ} → Prints (authorityText s at) b to b₁ i₁ n₁
+      → Prints (additionalText lone s i₁) b₁ n₁ b₂ i₂ n₂ → Wrote b₂ n₂ (125 ∷ []) b₃ n₃
+      → Prints (fromAuthority lone s at) b to b₃ i₂ n₃
+  unfolding fromAuthority
+  back-prints {i₁ = i₁} u d z =
+      prints-then (authorityText s at) (fromAdditional lone s) u
+      (prints-then (additionalText lone s i₁) (λ next. entry (ascii "}") next) d (prints-text z))
 
-      module _ {b₄ : List ℕ} {i₄ n₄ : ℕ} (u : Prints (authorityText s i₃) b₃ n₃ b₄ i₄ n₄) where
-        after-authority : PrintLoop (wholeText lone s) b 0 (fromAdditional lone s i₄) b₄ n₄
-        after-authority = rest-then (fromAdditional lone s) after-answers u
+-- both after the head are the whole
+entries-assoc : (e : Entry (List ℕ)) (f g : ℕ → Entry (List ℕ))
+    → entryThen e (λ i. entryThen (f i) g) ≡ entryThen (entryThen e f) g
+entries-assoc (bad fault) f g = refl
+entries-assoc (entry t at) f g = go (f at)
+  where
+    go : (x : Entry (List ℕ)) → texts (λ u. t ++ u) (entryThen x g) ≡ entryThen (texts (λ u. t ++ u) x) g
+    go (bad fault) = refl
+    go (entry u next) = last (g next)
+      where
+        last : (y : Entry (List ℕ))
+            → texts (λ w. t ++ w) (texts (λ w. u ++ w) y) ≡ texts (λ w. (t ++ u) ++ w) y
+        last (bad fault) = refl
+        last (entry w i) = ap (λ (l : List ℕ). entry l i) (sym (append-assoc t u w))
 
-        pub additional-readable : Readable (additionalText lone s i₄)
-        additional-readable = readable-first _ (λ next. entry (ascii "}") next) (after-authority .readable)
-
-        pub whole-prints : {b₅ b₆ : List ℕ} {i₅ n₅ n₆ : ℕ} → Prints (additionalText lone s i₄) b₄ n₄ b₅ i₅ n₅
-            → Wrote b₅ n₅ (125 ∷ []) b₆ n₆ → Prints (wholeText lone s) b 0 b₆ i₅ n₆
-        whole-prints d z = rest-end (rest-then (λ next. entry (ascii "}") next) after-authority d) z
+pub whole-parts : (lone : Bool) (s : List ℕ)
+    → wholeText lone s ≡ texts (λ t. headTextAt s ++ t) (entryThen (frontText s 12) (fromAuthority lone s))
+unfolding wholeText frontText
+whole-parts lone s =
+    ap (texts (λ t. headTextAt s ++ t)) (entries-assoc (questionsText s 12) (answersText s) (fromAuthority lone s))

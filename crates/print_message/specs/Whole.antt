@@ -19,13 +19,14 @@ use Rattle.json.specs.View.{Additional, additionalOf, viewOf}
 use Rattle.json.proofs.ViewLaws.{entryOf, map-long, additional-map}
 use Rattle.json.specs.Document.{Document, questionText, recordText, itemText, documentText}
 use Rattle.json.specs.Text.{recordItem, item, documentOf, viewText, text}
-use Rattle.print_entry.specs.Prints.{texts, entryThen, Readable, Prints}
+use Rattle.print_entry.specs.Prints.{texts, entryThen, Readable, readable-value, readable-first, readable-then}
+use Rattle.print_entry.specs.Prints.{Prints, prints-after, prints-then}
 use Rattle.print_entry.specs.Elements.{rcodeOf, questionTextAt, entryText, recordTextAt, textAt}
 use Rattle.print_entry.specs.declared.Element.{Element}
 use Rattle.print_entry.specs.declared.Element.the-variants as element
 use Rattle.print_message.specs.Head.{headTextAt, head-at}
 use Rattle.print_message.specs.Arrays.{comma, restText, arrayText, sectionText, fromAdditional, fromAuthority}
-use Rattle.print_message.specs.Arrays.{fromAnswers, wholeText}
+use Rattle.print_message.specs.Arrays.{fromAnswers, frontText, wholeText, whole-parts}
 
 -- ---- sections
 abbrev offset : Reached → ℕ
@@ -157,7 +158,7 @@ on-text f {t} p q = ap (λ (x : Entry (List ℕ)). entryThen x f) p ∙ ap (text
 -- octets whose sections are read to their end
 sections-text : (s : List ℕ) (i : ℕ) → sectionsOf s .additional .end ≡ reached i
     → wholeText (eqb (count opt? (messageRead s .additional)) 1) s ≡ entry (text (messageRead s)) i
-unfolding sectionsOf messageRead wholeText text viewText documentOf viewOf headerOf
+unfolding sectionsOf messageRead wholeText fromAuthority text viewText documentOf viewOf headerOf
 sections-text s i e =
     let lone = eqb (count opt? (messageRead s .additional)) 1 in
     let f₁ = sectionAt questionAt s (be16At s 4) 12 in
@@ -213,8 +214,11 @@ pub record AcceptedMessage (s : List ℕ) (lone : Bool) : Type 0 where
   pub alone : lone ≡ eqb (count opt? (message .additional)) 1
 
 module _ {s : List ℕ} {lone : Bool} (a : AcceptedMessage s lone) where
-  pub accepted-limits : (12 ≤ length s) × (length s ≤ 65535)
-  accepted-limits = let k = decode-back s (a .message) (a .decodes) in (k .room, k .small)
+  pub accepted-room : 12 ≤ length s
+  accepted-room = decode-back s (a .message) (a .decodes) .room
+
+  pub accepted-small : length s ≤ 65535
+  accepted-small = decode-back s (a .message) (a .decodes) .small
 
   -- the text by the octets is the text of the message
   whole-text : (last : ℕ) × (wholeText lone s ≡ entry (profileText s) last)
@@ -228,10 +232,25 @@ module _ {s : List ℕ} {lone : Bool} (a : AcceptedMessage s lone) where
             (k .same) (sections-text s (k .last) (k .came))),
       )
 
-  pub accepted-readable : Readable (wholeText lone s)
-  accepted-readable = record { value = profileText s; next = whole-text .0; reads = whole-text .1 }
+  whole-readable : Readable (wholeText lone s)
+  whole-readable = record { value = profileText s; next = whole-text .0; reads = whole-text .1 }
 
-  pub accepted-text : {b b′ : List ℕ} {at n : ℕ} → Prints (wholeText lone s) b 0 b′ at n
-      → Wrote b 0 (profileText s) b′ n
-  accepted-text {b} {b′} {n = n} p =
-      subst (λ (t : List ℕ). Wrote b 0 t b′ n) (entry-value (sym (p .reads) ∙ whole-text .1)) (p .wrote)
+  sections-readable : Readable (entryThen (frontText s 12) (fromAuthority lone s))
+  sections-readable =
+      readable-value (λ t. headTextAt s ++ t) (entryThen (frontText s 12) (fromAuthority lone s))
+      (rw (whole-parts lone s) at whole-readable)
+
+  pub front-readable : Readable (frontText s 12)
+  front-readable = readable-first (frontText s 12) (fromAuthority lone s) sections-readable
+
+  -- two sections are written, and then the rest
+  module _ {b₁ b₂ : List ℕ} {at n₁ n₂ : ℕ} (p : Prints (frontText s 12) b₁ n₁ b₂ at n₂) where
+    pub back-readable : Readable (fromAuthority lone s at)
+    back-readable = readable-then (frontText s 12) (fromAuthority lone s) p sections-readable
+
+    pub accepted-text : {b b₃ : List ℕ} {next n₃ : ℕ} → Wrote b 0 (headTextAt s) b₁ n₁
+        → Prints (fromAuthority lone s at) b₂ n₂ b₃ next n₃ → Wrote b 0 (profileText s) b₃ n₃
+    accepted-text {b} {b₃} {next} {n₃} h q =
+        let w : Prints (wholeText lone s) b 0 b₃ next n₃ =
+        rw (whole-parts lone s) (prints-after h (prints-then (frontText s 12) (fromAuthority lone s) p q)) in
+        subst (λ (t : List ℕ). Wrote b 0 t b₃ n₃) (entry-value (sym (w .reads) ∙ whole-text .1)) (w .wrote)

@@ -4,7 +4,8 @@ ghost use lib.ListN.{length};
 ghost use Rattle.octets.specs.Fields.{be16At};
 ghost use Rattle.octets.specs.Overlay.{Wrote};
 ghost use Rattle.print_entry.specs.Prints.{Readable, Prints};
-ghost use Rattle.print_message.specs.Arrays.{comma, arrayText, sectionText, Arrives, Placed};
+ghost use Rattle.print_message.specs.Arrays.{comma, arrayText, sectionText, frontText, fromAuthority};
+ghost use Rattle.print_message.specs.Arrays.{Arrives, Placed};
 ghost use Rattle.print_message.specs.Whole.{profileText, AcceptedMessage};
 use head::put_head;
 use octets::be16_at;
@@ -81,27 +82,35 @@ fn put_section(
     put_array(s, element, count, start.at, out, next)
 }
 
-// Writes the text of an accepted message; `lone` says whether its additional section has one TYPE 41 record.
-pub fn put_text(s: &[u8], lone: bool, out: &mut [u8]) -> usize
-    requires { ⌜ AcceptedMessage (now s) lone ⌝ }
-    ensures { λ r. ⌜ Wrote (now (out .entry)) 0 (profileText (now (s .entry))) (now (out .exit)) r ⌝ }
+// Writes the question and the answer section, without a fault.
+fn put_front(s: &[u8], start: Position, out: &mut [u8]) -> Position
+    requires { ⌜ (12 ≤ length (now s)) × (length (now s) ≤ 65535) × Placed start (length (now s)) 4
+        × Readable (frontText (now s) (start .at)) ⌝ }
+    ensures { λ r. ⌜ Prints (frontText (now (s .entry)) (start .at)) (now (out .entry)) (start .to)
+        (now (out .exit)) (r .at) (r .to) ⌝ }
+    ensures { λ r. ⌜ Placed r (length (now (s .entry))) 8 ⌝ }
 {
-    let head = Position {
-        at: 12,
-        to: put_head(out, 0, s),
-    };
-    let questions = put_section(s, head, b",\"questionRRs\":", Element::Question, 4, out);
-    let answers = put_section(
+    let questions = put_section(s, start, b",\"questionRRs\":", Element::Question, 4, out);
+    put_section(
         s,
         questions,
         b",\"answerRRs\":",
         Element::Record(false),
         6,
         out,
-    );
+    )
+}
+
+// Writes the authority and the additional section, without a fault, and the brace.
+fn put_back(s: &[u8], start: Position, lone: bool, out: &mut [u8]) -> Position
+    requires { ⌜ (12 ≤ length (now s)) × (length (now s) ≤ 65535) × Placed start (length (now s)) 8
+        × Readable (fromAuthority lone (now s) (start .at)) ⌝ }
+    ensures { λ r. ⌜ Prints (fromAuthority lone (now (s .entry)) (start .at)) (now (out .entry)) (start .to)
+        (now (out .exit)) (r .at) (r .to) ⌝ }
+{
     let authority = put_section(
         s,
-        answers,
+        start,
         b",\"authorityRRs\":",
         Element::Record(false),
         8,
@@ -115,5 +124,22 @@ pub fn put_text(s: &[u8], lone: bool, out: &mut [u8]) -> usize
         10,
         out,
     );
-    put(out, additional.to, b'}')
+    Position {
+        at: additional.at,
+        to: put(out, additional.to, b'}'),
+    }
+}
+
+// Writes the text of an accepted message; `lone` says whether its additional section has one TYPE 41 record.
+pub fn put_text(s: &[u8], lone: bool, out: &mut [u8]) -> usize
+    requires { ⌜ AcceptedMessage (now s) lone ⌝ }
+    ensures { λ r. ⌜ Wrote (now (out .entry)) 0 (profileText (now (s .entry))) (now (out .exit)) r ⌝ }
+{
+    let head = Position {
+        at: 12,
+        to: put_head(out, 0, s),
+    };
+    let front = put_front(s, head, out);
+    let back = put_back(s, front, lone, out);
+    back.to
 }

@@ -6,7 +6,7 @@ use borrow.Author.Needs.{needs}
 use lib.Dec.{eqb}
 use lib.ListN.{length}
 use Rattle.print_entry.specs.Prints.{PrintLoop}
-use Rattle.print_message.specs.Arrays.{restText, left-all, left-none, left-readable, left-less, array-prints}
+use Rattle.print_message.specs.Arrays.{restText, left-all, left-none, left-readable, left-less}
 use Rattle.print_message.proofs.put_array.Statement.{statement}
 use Rattle.print_message.proofs.put_array.Tie as tie
 
@@ -30,8 +30,13 @@ put-comma-requires c κs = search needs
 
 put-element-requires : tie.Need-put-element-requires Inv-loop μ-loop
 put-element-requires c κs =
-    let m = c .before .before .before .before .before in
-    (search needs, search needs, search needs, left-readable _ _ _ _ _ (m .before .loop .inv .5) (m .loop-test .taken))
+    let comma = c .before .before .before in
+    let turn = comma .before .before in (
+      search needs,
+      search needs,
+      search needs,
+      left-readable _ _ _ _ _ _ (turn .before .loop .inv .5) (turn .loop-test .taken),
+    )
 
 sub-left : tie.Need-sub-left Inv-loop μ-loop
 sub-left c = search needs
@@ -41,16 +46,16 @@ loop-less c = search needs
 
 loop-again : tie.Need-loop-again Inv-loop μ-loop
 loop-again c =
-    let p = c .before .before .before .before .before .before in
-    let m = p .before .before in
-    let k = c .before .before .put-element in (
+    let element = c .before .before in
+    let comma = element .before .before .before .before in
+    let turn = comma .before .before in (
       search needs,
       search needs,
       search needs,
       search needs,
       search needs,
-      left-less _ _ _ _ _ (m .before .loop .inv .5) (m .loop-test .taken) (m .before .loop .inv .0)
-          (p .put-comma .ensures .0) (k .ensures .0),
+      left-less _ _ _ _ _ _ (turn .before .loop .inv .5) (turn .loop-test .taken) (turn .before .loop .inv .0)
+          (comma .put-comma .ensures .0) (element .put-element .ensures .0),
     )
 
 put-requires-2 : tie.Need-put-requires-2 Inv-loop μ-loop
@@ -60,9 +65,7 @@ same-length : tie.Need-same-length Inv-loop μ-loop
 same-length c = search needs
 
 returns : tie.Need-returns Inv-loop μ-loop
-returns c =
-    let m = c .before .before .before .before .before in
-    (array-prints _ _ _ _ (m .before .before .before .put .ensures) (search (left-none, needs)), search needs)
+returns c = (search (left-none, needs), search needs)
 
 pub put-array-spec : {M : Type 1} → statement M
 put-array-spec =
