@@ -1,11 +1,13 @@
 -- The readers' ways through the code: a name and its fields, a question, a record's head.
-use mathlib.Core.Path.{_≡_, refl, sym, ap, _∙_, subst}
+use mathlib.Core.Path.{_≡_, refl, sym, ap, ap₂, _∙_, subst}
+use mathlib.Core.Bool.{Bool, true, false}
 use mathlib.Core.Option.{none, some}
 use mathlib.Core.List.{List, [], _∷_}
-use Prim.Native.Nat.{ℕ, _+_, _≤_, _<_}
+use Prim.Native.Nat.{ℕ, _+_, _-_, _≤_, _<_}
 use native.Mathlib.Numerals.{add-one}
 use native.Mathlib.Omega.{arith}
 use borrow.Author.Tests.{le-leb, lt-leb, le-ltb, lt-ltb}
+use lib.Dec.{ltb}
 use lib.ListN.{length, getD, drop, replicate, drop-of-length-le}
 use lib.Seq.{drop-cons}
 use Rattle.octets.specs.Fields.{be16At, be32At}
@@ -24,8 +26,11 @@ use Rattle.records.specs.Read.{firstCut, questionAt}
 use Rattle.records.specs.RecordLaws.{sum}
 use Rattle.records.specs.Parts.{begunAt, question-begun, recordHeadAt}
 use Rattle.records.specs.declared.Question.the-variants as question
+use Rattle.records.specs.declared.Head.{Head}
+use Rattle.records.specs.declared.Record.{Record}
 use Rattle.records.specs.declared.Record.the-variants as record′
-use Rattle.records.specs.Answer.{padded, Begins, questionRead, recordRead}
+use Rattle.records.specs.declared.RecordRead.{RecordRead}
+use Rattle.records.specs.Answer.{padded, Begins, questionRead, recordRead, fieldsRead, Heads}
 
 -- ---- what a name's answer says
 -- the parts of an answer
@@ -182,6 +187,21 @@ module _ (s : List ℕ) (at : ℕ) {r : NameRead} (e : r ≡ nameRead (begunAt s
       go (n, q, a, b) = rw (question-begun s at, q, a, b, k, c)
 
 -- ---- heads of records
+-- an answer by its fields: a fault leaves no name
+abbrev withName : List ℕ → Record → RecordRead
+withName l (record′.Faulty f) = record { answer = record′.Faulty f; name = replicate 255 0 }
+withName l (record′.Read h) = record { answer = record′.Read h; name = l }
+
+by-fields : (s : List ℕ) (at next : ℕ) (n : Name) → begunAt s at (2 ∷ 2 ∷ 4 ∷ 2 ∷ []) ≡ named n next
+    → withName (padded (nameForm n)) (fieldsRead s next (length (nameForm n))) ≡ recordRead (recordHeadAt s at)
+unfolding fieldsRead recordRead recordHeadAt
+by-fields s at next n q = go (ltb (length s) (next + 10 + be16At s (next + 8))) refl
+  where
+    go : (t : Bool) → ltb (length s) (next + 10 + be16At s (next + 8)) ≡ t
+        → withName (padded (nameForm n)) (fieldsRead s next (length (nameForm n))) ≡ recordRead (recordHeadAt s at)
+    go true z = rw (q, z)
+    go false z = rw (q, z)
+
 module _ (s : List ℕ) (at : ℕ) {r : NameRead} (e : r ≡ nameRead (begunAt s at (2 ∷ 2 ∷ 4 ∷ 2 ∷ []))) where
   pub head-faulty : {f : Fault} → r .answer ≡ Faulty f
       → record { answer = record′.Faulty f; name = r .octets } ≡ recordRead (recordHeadAt s at)
@@ -193,38 +213,47 @@ module _ (s : List ℕ) (at : ℕ) {r : NameRead} (e : r ≡ nameRead (begunAt s
           → record { answer = record′.Faulty f; name = r .octets } ≡ recordRead (recordHeadAt s at)
       go (fault, q, a, b) = rw (q, a, b)
 
-  module _ {next size : ℕ} (p : r .answer ≡ Read next size) {rdlength : ℕ} (l : rdlength ≡ be16At s (next + 8)) where
-    pub head-cut : length s < next + 10 + rdlength
-        → record { answer = record′.Faulty (Cut (next + 10)); name = replicate 255 0 } ≡ recordRead (recordHeadAt s at)
-    unfolding recordRead recordHeadAt
-    head-cut h =
+  module _ {next size : ℕ} (p : r .answer ≡ Read next size) {x : Record} (d : x ≡ fieldsRead s next size) where
+    with-fields : withName (r .octets) x ≡ recordRead (recordHeadAt s at)
+    with-fields =
         let (n, q, a, b) = name-read (begunAt s at (2 ∷ 2 ∷ 4 ∷ 2 ∷ [])) e p in
-        rw (q, ← l, lt-ltb (length s) (next + 10 + rdlength) h)
+        ap₂ withName b (d ∙ ap (fieldsRead s next) a) ∙ by-fields s at next n q
 
-    pub head-whole : {kind class ttl : ℕ} → next + 10 + rdlength ≤ length s → kind ≡ be16At s next
-        → class ≡ be16At s (next + 2) → ttl ≡ be32At s (next + 4)
-        → record {
-          answer = record′.Read
-              (record { size = size; kind = kind; class = class; ttl = ttl; rdata = next + 10; rdlength = rdlength });
-          name = r .octets;
-        }
-        ≡ recordRead (recordHeadAt s at)
-    unfolding recordRead recordHeadAt
-    head-whole {kind} {class} {ttl} h k c t = go (name-read (begunAt s at (2 ∷ 2 ∷ 4 ∷ 2 ∷ [])) e p)
-      where
-        go : (x : (n : Name) × (begunAt s at (2 ∷ 2 ∷ 4 ∷ 2 ∷ []) ≡ named n next) × (size ≡ length (nameForm n))
-            × (r .octets ≡ padded (nameForm n)))
-            → record {
-              answer = record′.Read
-                  (record {
-                    size = size;
-                    kind = kind;
-                    class = class;
-                    ttl = ttl;
-                    rdata = next + 10;
-                    rdlength = rdlength;
-                  });
-              name = r .octets;
-            }
-            ≡ recordRead (recordHeadAt s at)
-        go (n, q, a, b) = rw (q, a, b, k, c, t, ← l, le-ltb (length s) (next + 10 + rdlength) h)
+    pub head-cut : {f : Fault} → x ≡ record′.Faulty f
+        → record { answer = record′.Faulty f; name = replicate 255 0 } ≡ recordRead (recordHeadAt s at)
+    head-cut q = ap (withName (r .octets)) (sym q) ∙ with-fields
+
+    pub head-whole : {h : Head} → x ≡ record′.Read h
+        → record { answer = record′.Read h; name = r .octets } ≡ recordRead (recordHeadAt s at)
+    head-whole q = ap (withName (r .octets)) (sym q) ∙ with-fields
+
+-- the fields after the owner: RDATA is past the message's end, or not
+module _ (s : List ℕ) (next size : ℕ) {rdlength : ℕ} (l : rdlength ≡ be16At s (next + 8)) where
+  pub rdata-cut : length s < next + 10 + rdlength → record′.Faulty (Cut (next + 10)) ≡ fieldsRead s next size
+  unfolding fieldsRead
+  rdata-cut h = rw (← l, lt-ltb (length s) (next + 10 + rdlength) h)
+
+  pub rdata-whole : {kind class ttl : ℕ} → next + 10 + rdlength ≤ length s → kind ≡ be16At s next
+      → class ≡ be16At s (next + 2) → ttl ≡ be32At s (next + 4)
+      → record′.Read
+      (record { size = size; kind = kind; class = class; ttl = ttl; rdata = next + 10; rdlength = rdlength })
+      ≡ fieldsRead s next size
+  unfolding fieldsRead
+  rdata-whole h k c t = rw (k, c, t, ← l, le-ltb (length s) (next + 10 + rdlength) h)
+
+-- the bounds of an owner that is read
+module _ {w : Named} {next size : ℕ} (e : w ≡ Read next size) (at end : ℕ) (h : Begins w at (2 ∷ 2 ∷ 4 ∷ 2 ∷ []) end) where
+  pub owner-some : 1 ≤ next
+  owner-some = let k = begins w (2 ∷ 2 ∷ 4 ∷ 2 ∷ []) h e in omega arith
+
+  pub owner-room : next + 10 ≤ end
+  owner-room = begins w (2 ∷ 2 ∷ 4 ∷ 2 ∷ []) h e .1
+
+  pub owner-size : size ≤ 255
+  owner-size = begins w (2 ∷ 2 ∷ 4 ∷ 2 ∷ []) h e .2
+
+  -- RDATA starts 11 octets or more after the owner's start
+  pub rdata-after : {x : Record} {a : Head} → x ≡ record′.Read a → Heads x (next - 1) end → at + 11 ≤ a .rdata
+  rdata-after q k =
+      let b = begins w (2 ∷ 2 ∷ 4 ∷ 2 ∷ []) h e in
+      omega (arith, subst (λ (y : Record). Heads y (next - 1) end) q k)

@@ -135,6 +135,9 @@ module _ (x : RecordAnswer) (at end : ℕ) {a : Head} (h : Heads x at end) (e : 
   pub heads-name : (l : List ℕ) → length (take (a .size - 0) l) ≤ 255
   heads-name l = part-short (a .size) l (heads .0)
 
+  pub heads-size : a .size ≤ 255
+  heads-size = heads .0
+
   pub heads-kind : a .kind < 65536
   heads-kind = heads .1
 

@@ -3,10 +3,12 @@ use mathlib.Core.Path.{_≡_}
 use mathlib.Core.Bool.{cond}
 use mathlib.Core.List.{List, [], _∷_, _++_}
 use Prim.Native.Nat.{ℕ, _+_, _-_, _≤_, _<_}
-use lib.Dec.{eqb}
+use lib.Dec.{eqb, ltb}
 use lib.ListN.{length, replicate}
+use Rattle.octets.specs.Fields.{be16At, be32At}
 use Rattle.names.specs.Name.{nameForm}
 use Rattle.names.specs.Answer.{faultOf}
+use Rattle.names.specs.declared.Fault.the-variants.{Cut}
 use Rattle.names.specs.declared.Named.{Named}
 use Rattle.names.specs.declared.Named.the-variants as named
 use Rattle.records.specs.Layout.{fixed, name}
@@ -65,6 +67,20 @@ headRead h = record {
 unfoldable pub recordRead : Entry HeadOf → RecordRead
 recordRead (entry h next) = record { answer = record′.Read (headRead h); name = padded (nameForm (h .name)) }
 recordRead (bad fault) = record { answer = record′.Faulty (faultOf fault); name = replicate 255 0 }
+
+-- the fields after an owner whose form has `size` octets, `fieldsRead s next size`
+unfoldable pub fieldsRead : List ℕ → ℕ → ℕ → Record
+fieldsRead s next size =
+    cond (ltb (length s) (next + 10 + be16At s (next + 8))) (record′.Faulty (Cut (next + 10)))
+    (record′.Read
+    (record {
+      size = size;
+      kind = be16At s next;
+      class = be16At s (next + 2);
+      ttl = be32At s (next + 4);
+      rdata = next + 10;
+      rdlength = be16At s (next + 8);
+    }))
 
 abbrev pub Heads : Record → ℕ → ℕ → Type 0
 Heads (record′.Read h) at end =

@@ -1,4 +1,4 @@
--- `records::begun_at` meets its contract: the fields before the i-th fit and end at `place`.
+-- `records::owner_at` meets its contract: the fields before the i-th fit and end at `place`.
 use borrow.Author.Needs.{needs}
 use Prim.Native.Nat.{_≤_, _-_}
 use lib.ListN.{length}
@@ -45,14 +45,7 @@ add-if1 : tie.Need-add-if1 Inv-loop μ-loop
 add-if1 c = search needs
 
 returns-2 : tie.Need-returns-2 Inv-loop μ-loop
-returns-2 c =
-    let p = c .before .before .before .before .before .before .before .before .name-at in
-    let e = c .before .before .before .before .before .before .answer .given .1 in
-    let i = c .before .before .before .before .loop .inv in (
-      begun-cut _ _ _ (p .ensures) e (i .2) (c .before .before .before .loop-test .taken) (c .before .wide .ensures .0)
-          (c .if1 .taken),
-      tt,
-    )
+returns-2 c = (search (begun-cut, needs), tt)
 
 add-place : tie.Need-add-place Inv-loop μ-loop
 add-place c = search needs
@@ -67,18 +60,11 @@ loop-again : tie.Need-loop-again Inv-loop μ-loop
 loop-again c = (
   search needs,
   search needs,
-  fields-more (c .before .before .before .before .loop .inv .2)
-      (c .before .before .before .loop-test .taken) (c .before .wide .ensures .0) (c .if1 .left),
+  search (fields-more, needs),
 )
 
 returns-3 : tie.Need-returns-3 Inv-loop μ-loop
-returns-3 c =
-    let p = c .before .before .before .before .before .name-at in
-    let e = c .before .before .before .answer .given .1 in
-    let i = c .before .loop .inv in (
-      begun-whole _ _ _ (p .ensures) e (i .2) (c .loop-test .left),
-      begun-fits _ _ _ (p .ensures) e (i .2) (c .loop-test .left) (i .1),
-    )
+returns-3 c = (search (begun-whole, needs), search (begun-fits, needs))
 
 pub owner-at-spec : {M : Type 1} → statement M
 owner-at-spec =

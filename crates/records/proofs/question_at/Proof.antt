@@ -27,33 +27,22 @@ be16-at-requires c κs =
     )
 
 add-be16-at : tie.Need-add-be16-at
-add-be16-at c = omega (
-  arith,
-  begins _ (2 ∷ 2 ∷ []) (c .before .before .before .before .before .owner-at .ensures .1)
-      (c .before .before .answer2 .given .1),
-)
+add-be16-at c =
+    let read = c .before .before in
+    omega (arith, begins _ (2 ∷ 2 ∷ []) (read .before .before .before .owner-at .ensures .1) (read .answer2 .given .1))
 
 be16-at-requires-2 : tie.Need-be16-at-requires-2
 be16-at-requires-2 c κs =
-    omega (
-      arith,
-      begins _ (2 ∷ 2 ∷ []) (c .before .before .before .before .before .owner-at .ensures .1)
-          (c .before .before .answer2 .given .1),
-    )
+    let read = c .before .before in
+    omega (arith, begins _ (2 ∷ 2 ∷ []) (read .before .before .before .owner-at .ensures .1) (read .answer2 .given .1))
 
 add-t16 : tie.Need-add-t16
-add-t16 c = omega (
-  arith,
-  begins _ (2 ∷ 2 ∷ []) (c .before .before .before .before .before .before .owner-at .ensures .1)
-      (c .before .before .before .answer2 .given .1),
-)
+add-t16 c =
+    let read = c .before .before .before in
+    omega (arith, begins _ (2 ∷ 2 ∷ []) (read .before .before .before .owner-at .ensures .1) (read .answer2 .given .1))
 
 returns : tie.Need-returns
-returns c = (
-  question-faulty _ _ (c .before .before .before .before .owner-at .ensures .0)
-      (c .before .answer .given .1),
-  tt,
-)
+returns c = (search (question-faulty, needs), tt)
 
 returns-2 : tie.Need-returns-2
 returns-2 c =
