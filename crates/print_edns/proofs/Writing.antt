@@ -89,6 +89,13 @@ module _ {s b : List ℕ} {at : ℕ} {out : List ℕ} {to from : ℕ} (f : Optio
             let none-here = options-none s from h (leb-false (from + 4 + be16At s (from + 2)) (length s) e) in
             absurd (subst (λ o. T (present? o)) none-here (f .divides))
 
+    -- it ends within RDATA, and further on
+    pub left-inside : {size : ℕ} → size ≡ be16At s (from + 2) → from + 4 + size ≤ length s
+    left-inside e = rw e left-room
+
+    pub left-fewer : {size : ℕ} → size ≡ be16At s (from + 2) → length s - (from + 4 + size) < length s - from
+    left-fewer e = omega (arith, left-inside e)
+
     -- it is written
     pub left-more : {code size : ℕ} → code ≡ be16At s from → size ≡ be16At s (from + 2)
         → {out₁ out₂ : List ℕ} {r₁ r₂ : ℕ}

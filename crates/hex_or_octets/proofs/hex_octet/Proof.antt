@@ -35,9 +35,7 @@ add-result : tie.Need-add-result
 add-result c = search needs
 
 returns : tie.Need-returns
-returns c = octet-is (c .before .before .before .before .before .args .s .now)
-    (c .before .before .before .before .before .args .i) (search needs) (c .before .before .digit-value .ensures .0)
-    (c .digit-value2 .ensures .0)
+returns c = search (octet-is, needs)
 
 pub hex-octet-spec : {M : Type 1} → statement M
 hex-octet-spec =

@@ -41,15 +41,7 @@ loop-less : tie.Need-loop-less Inv-loop μ-loop
 loop-less c = search needs
 
 loop-again : tie.Need-loop-again Inv-loop μ-loop
-loop-again c =
-    let d = c .before .before .before .before .before .before in
-    let e = d .before .before in
-    let s = paired (e .before .before .before .args .hex .now) in (
-      search needs,
-      search needs,
-      octets-step s (e .count .ensures .0) (c .before .before .before .before .before .loop-test .taken)
-          (c .before .before .before .octet .ensures) (d .loop .inv .2) (c .before .before .put .ensures),
-    )
+loop-again c = (search needs, search needs, search (octets-step, needs))
 
 same-length : tie.Need-same-length Inv-loop μ-loop
 same-length c = same-long (c .before .loop .inv .2)

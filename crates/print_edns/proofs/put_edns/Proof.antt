@@ -37,10 +37,12 @@ same-length c = search needs
 returns : tie.Need-returns
 returns c =
     let tail = c .before .before in
-    let options = tail .before .before .before .before .before in
+    let before-tail = tail .before .before .before in
+    let options = before-tail .before .before in
     let size = options .before .before .before .before in
     let title = size .before .before .before .before in
-    let head = title .before .before .before .before .before in (
+    let before-title = title .before .before .before in
+    let head = before-title .before .before in (
       wrote-element _ _ _ _ (head .put-head .ensures .0) (title .put-all .ensures) (size .put-decimal .ensures .0)
           (options .put-options .ensures .0) (tail .put-all2 .ensures),
       search needs,

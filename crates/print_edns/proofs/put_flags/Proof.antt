@@ -18,11 +18,9 @@ same-length c = search needs
 
 returns : tie.Need-returns
 unfolding rowText flags
-returns c = (
-  text-is 0 flags (c .before .before .before .before .before .if1 .taken)
-      (c .before .before .put-all .ensures),
-  search needs,
-)
+returns c =
+    let all = c .before .before in
+    (text-is 0 flags (all .before .before .before .if1 .taken) (all .put-all .ensures), search needs)
 
 slice-aggregate-put-all-2 : tie.Need-slice-aggregate-put-all-2
 slice-aggregate-put-all-2 c = search needs
@@ -35,11 +33,10 @@ same-length-2 c = search needs
 
 returns-2 : tie.Need-returns-2
 unfolding rowText flags
-returns-2 c = (
-  text-is 1 flags {n = c .before .before .before .before .before .before .before .args .bit} (omega arith)
-      (c .before .before .put-all2 .ensures),
-  search needs,
-)
+returns-2 c =
+    let all = c .before .before in
+    let start = all .before .before .before .before in
+    (text-is 1 flags {n = start .before .args .bit} (omega arith) (all .put-all2 .ensures), search needs)
 
 pub put-flags-spec : {M : Type 1} → statement M
 put-flags-spec =

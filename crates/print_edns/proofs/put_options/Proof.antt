@@ -3,7 +3,8 @@ use Prim.Native.Nat.{_+_, _*_, _-_, _≤_}
 use native.Mathlib.Omega.{arith}
 use lib.ListN.{length}
 use Rattle.octets.specs.Overlay.{same-long}
-use Rattle.print_edns.proofs.Writing.{OptionsLoop, left-start, left-room, left-more, left-end}
+use Rattle.print_edns.proofs.Writing.{OptionsLoop, left-start, left-room, left-inside, left-fewer, left-more}
+use Rattle.print_edns.proofs.Writing.{left-end}
 use borrow.Author.Needs.{needs}
 use Rattle.print_edns.proofs.put_options.Statement.{statement}
 use Rattle.print_edns.proofs.put_options.Tie as tie
@@ -46,28 +47,16 @@ part-put-member-start : tie.Need-part-put-member-start Inv-loop μ-loop
 part-put-member-start c = search needs
 
 part-put-member-end : tie.Need-part-put-member-end Inv-loop μ-loop
-part-put-member-end c =
-    omega (
-      arith,
-      left-room (c .before .before .before .before .before .before .before .before .loop .inv .2)
-          (c .before .before .before .before .before .before .before .loop-test .taken),
-    )
+part-put-member-end c = search (left-inside, needs)
 
 put-member-requires : tie.Need-put-member-requires Inv-loop μ-loop
 put-member-requires c κs = search needs
 
 loop-less : tie.Need-loop-less Inv-loop μ-loop
-loop-less c =
-    let m = c .before .before .before .before .before .before .before .before .before .before .before in
-    omega (arith, left-room (m .before .loop .inv .2) (m .loop-test .taken))
+loop-less c = search (left-fewer, needs)
 
 loop-again : tie.Need-loop-again Inv-loop μ-loop
-loop-again c =
-    let m = c .before .before .before .before .before .before .before .before .before .before .before in (
-      omega (arith, left-room (m .before .loop .inv .2) (m .loop-test .taken)),
-      omega (arith, left-room (m .before .loop .inv .2) (m .loop-test .taken)),
-      search (left-more, needs),
-    )
+loop-again c = (search (left-inside, needs), search needs, search (left-more, needs))
 
 same-length : tie.Need-same-length Inv-loop μ-loop
 same-length c = same-long (left-end (c .before .loop .inv .2) (c .loop-test .left))

@@ -62,7 +62,8 @@ same-length c = search needs
 returns-2 : tie.Need-returns-2
 unfolding each rcodes
 returns-2 c =
-    let d = c .before .before .before .before .before .before in
+    let all = c .before .before in
+    let d = all .before .before .before .before in
     let e = d .before .before in
     let w = rcode-is _ (e .before .rcode-names .ensures) (e .rcode-row .ensures) (d .before .if1 .left)
     (d .wide .ensures .0) (c .before .before .put-all .ensures) in

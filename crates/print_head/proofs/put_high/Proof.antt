@@ -58,10 +58,14 @@ returns : tie.Need-returns
 unfolding withHigh
 returns c =
     let rd = c .before .before in
-    let tc = rd .before .before .before .before .before in
-    let aa = tc .before .before .before .before .before in
-    let opcode = aa .before .before .before .before .before in
-    let qr = opcode .before .before .before .before .before in (
+    let before-rd = rd .before .before .before in
+    let tc = before-rd .before .before in
+    let before-tc = tc .before .before .before in
+    let aa = before-tc .before .before in
+    let before-aa = aa .before .before .before in
+    let opcode = before-aa .before .before in
+    let before-opcode = opcode .before .before .before in
+    let qr = before-opcode .before .before in (
       number-after _ refl
           (number-after _ refl
           (number-after _ refl

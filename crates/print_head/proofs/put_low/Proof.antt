@@ -49,9 +49,12 @@ returns : tie.Need-returns
 unfolding withLow
 returns c =
     let rcode = c .before .before in
-    let cd = rcode .before .before .before .before .before in
-    let ad = cd .before .before .before .before .before in
-    let ra = ad .before .before .before .before .before in (
+    let before-rcode = rcode .before .before .before in
+    let cd = before-rcode .before .before in
+    let before-cd = cd .before .before .before in
+    let ad = before-cd .before .before in
+    let before-ad = ad .before .before .before in
+    let ra = before-ad .before .before in (
       number-after _ refl
           (number-after _ refl
           (number-after _ refl

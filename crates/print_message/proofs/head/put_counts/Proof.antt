@@ -49,9 +49,12 @@ returns : tie.Need-returns
 unfolding withCounts
 returns c =
     let additional = c .before .before in
-    let authority = additional .before .before .before .before .before .before in
-    let answers = authority .before .before .before .before .before .before in
-    let questions = answers .before .before .before .before .before .before in (
+    let before-additional = additional .before .before .before in
+    let authority = before-additional .before .before .before in
+    let before-authority = authority .before .before .before in
+    let answers = before-authority .before .before .before in
+    let before-answers = answers .before .before .before in
+    let questions = before-answers .before .before .before in (
       number-after _ (additional .before .be16-at4 .ensures .0)
           (number-after _ (authority .before .be16-at3 .ensures .0)
           (number-after _ (answers .before .be16-at2 .ensures .0)

@@ -35,8 +35,10 @@ returns : tie.Need-returns
 returns c =
     let counts = c .before .before in
     let low = counts .before .before .before .before in
-    let high = low .before .before .before .before .before in
-    let id = high .before .before .before .before .before in (
+    let before-low = low .before .before .before in
+    let high = before-low .before .before in
+    let before-high = high .before .before .before in
+    let id = before-high .before .before in (
       wrote-head _ (id .before .be16-at .ensures .0) (id .put-number .ensures .0) (high .put-high .ensures .0)
           (low .put-low .ensures .0) (counts .put-counts .ensures .0),
       search needs,
