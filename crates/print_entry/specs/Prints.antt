@@ -66,7 +66,8 @@ module _ (e : Entry (List ℕ)) (f : ℕ → Entry (List ℕ)) {b b₁ : List �
   pub prints-then : {b₂ : List ℕ} {next n₂ : ℕ} → Prints (f at) b₁ n₁ b₂ next n₂
       → Prints (entryThen e f) b to b₂ next n₂
   prints-then {b₂} {next} {n₂} q =
-      subst (λ (x : Entry (List ℕ)). Prints (entryThen x f) b to b₂ next n₂) (sym (p .reads)) (prints-after (p .wrote) q)
+      subst (λ (x : Entry (List ℕ)). Prints (entryThen x f) b to b₂ next n₂) (sym (p .reads))
+      (prints-after (p .wrote) q)
 
 -- ---- what is left to write
 -- the buffer and the position after the text of an entry

@@ -242,7 +242,8 @@ module _ (s : List ℕ) (next size : ℕ) {rdlength : ℕ} (l : rdlength ≡ be1
   rdata-whole h k c t = rw (k, c, t, ← l, le-ltb (length s) (next + 10 + rdlength) h)
 
 -- the bounds of an owner that is read
-module _ {w : Named} {next size : ℕ} (e : w ≡ Read next size) (at end : ℕ) (h : Begins w at (2 ∷ 2 ∷ 4 ∷ 2 ∷ []) end) where
+module _ {w : Named} {next size : ℕ} (e : w ≡ Read next size) (at end : ℕ)
+    (h : Begins w at (2 ∷ 2 ∷ 4 ∷ 2 ∷ []) end) where
   pub owner-some : 1 ≤ next
   owner-some = let k = begins w (2 ∷ 2 ∷ 4 ∷ 2 ∷ []) h e in omega arith
 

@@ -1,7 +1,7 @@
 -- `forms::put_section` meets its contract: to write the entries that are left is to write the whole section.
 use borrow.Author.Needs.{needs}
 use Prim.Native.Nat.{_+_, _*_, _≤_}
-use mathlib.Core.Path.{_≡_, _∙_}
+use mathlib.Core.Path.{_≡_}
 use native.Mathlib.Omega.{arith}
 use lib.ListN.{length}
 use Rattle.octets.specs.Loops.{Continues, continues-start}

@@ -1,4 +1,4 @@
--- `records::record_at` meets its contract: the name's fault, RDATA past the message's end, or the fields after the name.
+-- `records::record_at` meets its contract: the name's fault, RDATA past the message's end, or the fields.
 use borrow.Author.Needs.{needs}
 use Rattle.records.proofs.Reading.{head-faulty, head-cut, head-whole, owner-some, owner-room, owner-size}
 use Rattle.records.proofs.Reading.{rdata-after}
