@@ -275,22 +275,28 @@ told-again {b = b} {b′ = b′} {to = to} l at n (runs {r = r} q v) e =
     (r, subst (λ (x : List ℕ). Wrote b to x b′ r) (ap textOf e) v)
 told-again l at n halts e = absurd (halted≢ran e)
 
--- e is what the first run leaves of the empty part
-module _ (s b e : List ℕ) (o : (j : ℕ) → Fits w8 (getD s j 0)) (small : length s ≤ 65535) (room : 12 ≤ length s)
-    (clear : zOf s ≡ 1 → ⊥) (z : length e ≡ 0)
-    {x : Came} (d : Runs 0 (messageRun s) [] 0 e x) where
-  octets : (j : ℕ) → getD s j 0 < 256
-  octets j = o j .fits
+-- The first run: over octets within the limits of size, with Z clear, it leaves e of the empty part and answers x.
+pub record FirstRun (s e : List ℕ) (x : Came) : Type 0 where
+  pub ran : Runs 0 (messageRun s) [] 0 e x
+  pub none : length e ≡ 0
+  pub octets : (j : ℕ) → Fits w8 (getD s j 0)
+  pub small : length s ≤ 65535
+  pub room : 12 ≤ length s
+  pub clear : zOf s ≡ 1 → ⊥
+
+module _ (s b e : List ℕ) {x : Came} (f : FirstRun s e x) where
+  decoded : (l : List ℕ) (at n : ℕ) → messageRun s ≡ ran l at n → Whole s (f .small) (f .room) (f .clear) l at n
+  decoded l at n u = decode-ran s (f .small) (f .room) (f .clear) (λ j. f .octets j .fits) l at n u
 
   same-buffer : e ++ b ≡ b
-  same-buffer = ap (λ (y : List ℕ). y ++ b) (empty e z)
+  same-buffer = ap (λ (y : List ℕ). y ++ b) (empty e (f .none))
 
   -- an entry has a fault
   pub at-fault : {at k : ℕ} {g : FaultRead} {r : Scan} → x ≡ came.Stopped at g → k ≡ faultNumber g
       → r ≡ scanOf (refused k at) → Uncompressed s b r (e ++ b)
   at-fault {at} {k} q i p =
-      let (fault, u, v) = told-halted (rw q at d) in
-      refusing (refusalNumber (fault .kind)) at (decode-halted s small room clear at fault u)
+      let (fault, u, v) = told-halted (rw q at (f .ran)) in
+      refusing (refusalNumber (fault .kind)) at (decode-halted s (f .small) (f .room) (f .clear) at fault u)
       (p ∙ ap (λ (n : ℕ). scanOf (refused n at)) (i ∙ ap faultNumber v ∙ number-same (fault .kind) (fault .octet)))
       same-buffer
 
@@ -298,16 +304,16 @@ module _ (s b e : List ℕ) (o : (j : ℕ) → Fits w8 (getD s j 0)) (small : le
     -- octets after the last record
     pub left-over : {r : Scan} → at < length s → r ≡ scanOf (refused 8 at) → Uncompressed s b r (e ++ b)
     left-over h p =
-        let (l, n, u, v, w) = told-ran (rw q at d) in
-        refusing 8 at (decode-ran s small room clear octets l at n u .gives ∙ rw (lt-ltb at (length s) h)) p same-buffer
+        let (l, n, u, v, w) = told-ran (rw q at (f .ran)) in
+        refusing 8 at (decoded l at n u .gives ∙ rw (lt-ltb at (length s) h)) p same-buffer
 
     module _ (h : length s ≤ at) where
       -- the form is over 65,535 octets
       pub form-long : {r : Scan} → 65535 < size → r ≡ scanOf (refused 9 0) → Uncompressed s b r (e ++ b)
       form-long k p =
-          let (l, n, u, v, w) = told-ran (rw q at d) in
+          let (l, n, u, v, w) = told-ran (rw q at (f .ran)) in
           let i : 65535 < length l = omega (arith, w .place) in
-          refusing 9 0 (decode-ran s small room clear octets l at n u .gives
+          refusing 9 0 (decoded l at n u .gives
           ∙ rw (le-ltb at (length s) h, lt-ltb 65535 (length l) i)) p same-buffer
 
       module _ (k : size ≤ 65535) where
@@ -316,7 +322,7 @@ module _ (s b e : List ℕ) (o : (j : ℕ) → Fits w8 (getD s j 0)) (small : le
             → b′ ≡ cond (leb (length l) (length b)) (overwritten l b) b
             → Uncompressed s b (record { outcome = outcome.Length size; opts = m }) b′
         accepts l n u v w b′ f =
-            let y = decode-ran s small room clear octets l at n u in
+            let y = decoded l at n u in
             let i : length l ≤ 65535 = omega arith in
             let c : m ≡ n = omega arith in
             let j : size ≡ length l = omega arith in
@@ -333,17 +339,19 @@ module _ (s b e : List ℕ) (o : (j : ℕ) → Fits w8 (getD s j 0)) (small : le
         pub no-room : length (e ++ b) < size
             → Uncompressed s b (record { outcome = outcome.Length size; opts = m }) (e ++ b)
         no-room i =
-            let (l, n, u, v, w) = told-ran (rw q at d) in
+            let (l, n, u, v, w) = told-ran (rw q at (f .ran)) in
             let j : length (e ++ b) ≡ length b = ap length same-buffer in
             accepts l n u v (w .place) (e ++ b) (same-buffer
             ∙ rw (lt-leb (length l) (length b) (omega (arith, w .place))))
 
-        -- it fits, and is written by the second run
-        pub with-room : {b′ : List ℕ} {y : Came} → size ≤ length (e ++ b) → Runs 0 (messageRun s) (e ++ b) 0 b′ y
-            → Uncompressed s b (record { outcome = outcome.Length size; opts = m }) b′
-        with-room {b′} i c =
-            let (l, n, u, v, w) = told-ran (rw q at d) in
-            let (r, t) = told-again l at n (rw same-buffer at c) u in
-            let j : length (e ++ b) ≡ length b = ap length same-buffer in
-            let k : length l ≤ length b = omega (arith, w .place) in
-            accepts l n u v (w .place) b′ (t .text ∙ overlay-first b l k ∙ rw (le-leb (length l) (length b) k))
+-- it fits, and is written by the second run
+pub with-room : (s b e : List ℕ) {b′ : List ℕ} {y : Came} → Runs 0 (messageRun s) (e ++ b) 0 b′ y
+    → {x : Came} (f : FirstRun s e x) {at size m : ℕ} → x ≡ came.To at size m → length s ≤ at → size ≤ 65535
+    → size ≤ length (e ++ b) → Uncompressed s b (record { outcome = outcome.Length size; opts = m }) b′
+with-room s b e {b′} c f {at} q h k i =
+    let same = same-buffer s b e f in
+    let (l, n, u, v, w) = told-ran (rw q at (f .ran)) in
+    let (r, t) = told-again l at n (rw same at c) u in
+    let j : length (e ++ b) ≡ length b = ap length same in
+    let o : length l ≤ length b = omega (arith, w .place) in
+    accepts s b e f q h k l n u v (w .place) b′ (t .text ∙ overlay-first b l o ∙ rw (le-leb (length l) (length b) o))
