@@ -8,4 +8,5 @@ pub mod Decimal
 pub mod Hexadecimal
 pub mod Answer
 pub mod Overlay
+pub mod Loops
 pub mod Calls
