@@ -40,14 +40,14 @@ enum Came {
 }
 
 // Writes a name, TYPE and CLASS.
-fn put_named(out: &mut [u8], to: usize, name: &[u8], kind: u32, class: u32) -> usize
+fn put_named(name: &[u8], kind: u32, class: u32, out: &mut [u8], to: usize) -> usize
     requires { ⌜ (to < 2 ^ 30) × (length (now name) ≤ 255) × (kind < 65536) × (class < 65536) ⌝ }
     ensures { λ r. ⌜ Wrote (now (out .entry)) to (now (name .entry) ++ be16 kind ++ be16 class) (now (out .exit)) r ⌝ }
     ensures { λ r. ⌜ r ≡ to + length (now (name .entry)) + 4 ⌝ }
 {
-    let typed = put_all(out, to, name);
-    let classed = put_be16(out, typed, kind);
-    put_be16(out, classed, class)
+    let typed = put_all(name, out, to);
+    let classed = put_be16(kind, out, typed);
+    put_be16(class, out, classed)
 }
 
 // Writes the question at an offset.
@@ -63,7 +63,7 @@ fn put_question(s: &[u8], at: usize, out: &mut [u8], to: usize) -> Gone
         Question::Faulty(fault) => Gone::Faulty(fault),
         Question::Read(asked) => {
             let size = asked.size;
-            let end = put_named(out, to, &name[0..size], asked.kind, asked.class);
+            let end = put_named(&name[0..size], asked.kind, asked.class, out, to);
             Gone::To(asked.next, end, asked.kind)
         }
     }
@@ -81,7 +81,7 @@ fn put_sized(s: &[u8], head: Head, out: &mut [u8], to: usize) -> RdataEnd
     let RdataEnd::To(end) = rdata else {
         return rdata;
     };
-    let _length = put_be16(out, to, (end - inside) as u32);
+    let _length = put_be16((end - inside) as u32, out, to);
     RdataEnd::To(end)
 }
 
@@ -93,8 +93,8 @@ fn put_fields(s: &[u8], form: &[u8], head: Head, out: &mut [u8], to: usize) -> G
         (now (out .exit)) r ⌝ }
     ensures { λ r. ⌜ Goes r (length (now (s .entry))) ⌝ }
 {
-    let classed = put_named(out, to, form, head.kind, head.class);
-    let place = put_be32(out, classed, head.ttl);
+    let classed = put_named(form, head.kind, head.class, out, to);
+    let place = put_be32(head.ttl, out, classed);
     match put_sized(s, head, out, place) {
         RdataEnd::Misfit(fault) => Gone::Faulty(fault),
         RdataEnd::To(end) => Gone::To(head.rdata + head.rdlength, end, head.kind),
@@ -173,7 +173,7 @@ fn put_message(s: &[u8], out: &mut [u8]) -> Came
     requires { ⌜ (length (now s) ≤ 65535) × (12 ≤ length (now s)) ⌝ }
     ensures { λ r. ⌜ Runs 0 (messageRun (now (s .entry))) (now (out .entry)) 0 (now (out .exit)) r ⌝ }
 {
-    let mut next = put_all(out, 0, &s[0..12]);
+    let mut next = put_all(&s[0..12], out, 0);
     let mut at = 12;
     let mut i = 0;
     while i < 3 {

@@ -16,15 +16,15 @@ ghost use Rattle.line_answers.specs.Answers.{refusalLine, answerText, as
 ghost use Rattle.line_answers.specs.Answers.{textLine, textLeft, wireLine, wireLeft};
 
 // Writes a refusal.
-pub fn put_refusal(out: &mut [u8], to: usize, number: u32, place: u32) -> usize
+pub fn put_refusal(number: u32, place: u32, out: &mut [u8], to: usize) -> usize
     requires { ⌜ to < 2 ^ 38 ⌝ }
     ensures { λ r. ⌜ Wrote (now (out .entry)) to (refusalLine number place) (now (out .exit)) r ⌝ }
     ensures { λ r. ⌜ r ≤ to + 32 ⌝ }
 {
-    let n = put_all(out, to, b"refused ");
-    let n = put_decimal(out, n, number);
-    let n = put_all(out, n, b" at ");
-    put_decimal(out, n, place)
+    let n = put_all(b"refused ", out, to);
+    let n = put_decimal(number, out, n);
+    let n = put_all(b" at ", out, n);
+    put_decimal(place, out, n)
 }
 
 // Writes the text of a message or its refusal.
@@ -36,7 +36,7 @@ fn put_message(message: &[u8], text: &mut [u8]) -> usize
 {
     match to_text::convert(message, &mut text[0..65536]) {
         Outcome::Length(size) => size,
-        Outcome::Refused(number, place) => put_refusal(text, 0, number, place as u32),
+        Outcome::Refused(number, place) => put_refusal(number, place as u32, text, 0),
     }
 }
 
@@ -48,10 +48,10 @@ fn put_answer(line: &[u8], message: &mut [u8], text: &mut [u8]) -> usize
     ensures { λ r. ⌜ now (message .exit) ≡ textLeft (now (line .entry)) (now (message .entry)) ⌝ }
 {
     if line.len() > 8192 {
-        return put_refusal(text, 0, 31, 0);
+        return put_refusal(31, 0, text, 0);
     }
     let Hex::Octets(n) = hex_lines::unhex(line, message) else {
-        return put_refusal(text, 0, 30, 0);
+        return put_refusal(30, 0, text, 0);
     };
     put_message(&message[0..n], text)
 }
@@ -64,7 +64,7 @@ pub fn text_line(line: &[u8], message: &mut [u8], text: &mut [u8]) -> usize
     ensures { λ r. ⌜ now (message .exit) ≡ textLeft (now (line .entry)) (now (message .entry)) ⌝ }
 {
     let n = put_answer(line, message, text);
-    put(text, n, b'\n')
+    put(b'\n', text, n)
 }
 
 // Writes the message of a text in hexadecimal, or its refusal.
@@ -76,8 +76,8 @@ fn put_wire(line: &[u8], message: &mut [u8], text: &mut [u8]) -> usize
     ensures { λ r. ⌜ now (message .exit) ≡ toWire (now (line .entry)) (now (message .entry)) .buffer ⌝ }
 {
     match to_wire::read(line, message) {
-        Outcome::Length(n) => put_hex(text, 0, &message[0..n]),
-        Outcome::Refused(number, place) => put_refusal(text, 0, number, place as u32),
+        Outcome::Length(n) => put_hex(&message[0..n], text, 0),
+        Outcome::Refused(number, place) => put_refusal(number, place as u32, text, 0),
     }
 }
 
@@ -89,7 +89,7 @@ fn put_reading(line: &[u8], message: &mut [u8], text: &mut [u8]) -> usize
     ensures { λ r. ⌜ now (message .exit) ≡ wireLeft (now (line .entry)) (now (message .entry)) ⌝ }
 {
     if line.len() > 65536 {
-        return put_refusal(text, 0, 31, 0);
+        return put_refusal(31, 0, text, 0);
     }
     put_wire(line, message, text)
 }
@@ -102,5 +102,5 @@ pub fn wire_line(line: &[u8], message: &mut [u8], text: &mut [u8]) -> usize
     ensures { λ r. ⌜ now (message .exit) ≡ wireLeft (now (line .entry)) (now (message .entry)) ⌝ }
 {
     let n = put_reading(line, message, text);
-    put(text, n, b'\n')
+    put(b'\n', text, n)
 }

@@ -23,72 +23,72 @@ pub fn wide(x: u8) -> usize
 }
 
 // Writes an octet where there is room, and returns the next place.
-pub fn put(out: &mut [u8], at: usize, b: u8) -> usize
-    requires { ⌜ at < 2 ^ 40 ⌝ }
-    ensures { λ r. ⌜ Wrote (now (out .entry)) at (b ∷ []) (now (out .exit)) r ⌝ }
+pub fn put(b: u8, out: &mut [u8], to: usize) -> usize
+    requires { ⌜ to < 2 ^ 40 ⌝ }
+    ensures { λ r. ⌜ Wrote (now (out .entry)) to (b ∷ []) (now (out .exit)) r ⌝ }
 {
-    let next = at + 1;
-    if at < out.len() {
-        out[at] = b;
+    let next = to + 1;
+    if to < out.len() {
+        out[to] = b;
     }
     next
 }
 
 // Writes an octet that there is room for, and returns the next place.
-fn store(out: &mut [u8], at: usize, b: u8) -> usize
-    requires { ⌜ at < length (now out) ⌝ }
-    ensures { λ r. ⌜ Wrote (now (out .entry)) at (b ∷ []) (now (out .exit)) r ⌝ }
+fn store(b: u8, out: &mut [u8], to: usize) -> usize
+    requires { ⌜ to < length (now out) ⌝ }
+    ensures { λ r. ⌜ Wrote (now (out .entry)) to (b ∷ []) (now (out .exit)) r ⌝ }
 {
-    out[at] = b;
-    at + 1
+    out[to] = b;
+    to + 1
 }
 
 // Writes all of src, for which there is room: no octet is tested.
-fn copy(out: &mut [u8], at: usize, src: &[u8]) -> usize
-    requires { ⌜ at + length (now src) ≤ length (now out) ⌝ }
-    ensures { λ r. ⌜ Wrote (now (out .entry)) at (now (src .entry)) (now (out .exit)) r ⌝ }
+fn copy(src: &[u8], out: &mut [u8], to: usize) -> usize
+    requires { ⌜ to + length (now src) ≤ length (now out) ⌝ }
+    ensures { λ r. ⌜ Wrote (now (out .entry)) to (now (src .entry)) (now (out .exit)) r ⌝ }
 {
-    let mut to = at;
+    let mut next = to;
     let mut i = 0;
     while i < src.len() {
-        to = store(out, to, src[i]);
+        next = store(src[i], out, next);
         i += 1;
     }
-    to
+    next
 }
 
 // Writes all of src.
-pub fn put_all(out: &mut [u8], at: usize, src: &[u8]) -> usize
-    requires { ⌜ at + length (now src) < 2 ^ 40 ⌝ }
-    ensures { λ r. ⌜ Wrote (now (out .entry)) at (now (src .entry)) (now (out .exit)) r ⌝ }
+pub fn put_all(src: &[u8], out: &mut [u8], to: usize) -> usize
+    requires { ⌜ to + length (now src) < 2 ^ 40 ⌝ }
+    ensures { λ r. ⌜ Wrote (now (out .entry)) to (now (src .entry)) (now (out .exit)) r ⌝ }
 {
-    let end = at + src.len();
-    if at >= out.len() {
+    let end = to + src.len();
+    if to >= out.len() {
         return end;
     }
     if end <= out.len() {
-        return copy(out, at, src);
+        return copy(src, out, to);
     }
-    let mut to = at;
+    let mut next = to;
     let mut i = 0;
     while i < src.len() {
-        to = put(out, to, src[i]);
+        next = put(src[i], out, next);
         i += 1;
     }
-    to
+    next
 }
 
 // Writes a number in decimal.
-pub fn put_decimal(out: &mut [u8], at: usize, n: u32) -> usize
-    requires { ⌜ at < 2 ^ 39 ⌝ }
-    ensures { λ r. ⌜ Wrote (now (out .entry)) at (decimal n) (now (out .exit)) r ⌝ }
-    ensures { λ r. ⌜ r ≤ at + 10 ⌝ }
+pub fn put_decimal(n: u32, out: &mut [u8], to: usize) -> usize
+    requires { ⌜ to < 2 ^ 39 ⌝ }
+    ensures { λ r. ⌜ Wrote (now (out .entry)) to (decimal n) (now (out .exit)) r ⌝ }
+    ensures { λ r. ⌜ r ≤ to + 10 ⌝ }
 {
     if n < 10 {
-        return put(out, at, 48 + n as u8);
+        return put(48 + n as u8, out, to);
     }
-    let next = put_decimal(out, at, n / 10);
-    put(out, next, 48 + (n % 10) as u8)
+    let next = put_decimal(n / 10, out, to);
+    put(48 + (n % 10) as u8, out, next)
 }
 
 // A hexadecimal digit.
@@ -103,61 +103,61 @@ fn hex_digit(n: u8) -> u8
 }
 
 // Writes an octet as two hexadecimal digits.
-fn put_octet(out: &mut [u8], at: usize, b: u8) -> usize
-    requires { ⌜ at + 1 < 2 ^ 40 ⌝ }
-    ensures { λ r. ⌜ Wrote (now (out .entry)) at (hexOctet b) (now (out .exit)) r ⌝ }
+fn put_octet(b: u8, out: &mut [u8], to: usize) -> usize
+    requires { ⌜ to + 1 < 2 ^ 40 ⌝ }
+    ensures { λ r. ⌜ Wrote (now (out .entry)) to (hexOctet b) (now (out .exit)) r ⌝ }
 {
-    let next = put(out, at, hex_digit(b / 16));
-    put(out, next, hex_digit(b % 16))
+    let next = put(hex_digit(b / 16), out, to);
+    put(hex_digit(b % 16), out, next)
 }
 
 // Writes an octet as two hexadecimal digits, for which there is room.
-fn store_octet(out: &mut [u8], at: usize, b: u8) -> usize
-    requires { ⌜ at + 2 ≤ length (now out) ⌝ }
-    ensures { λ r. ⌜ Wrote (now (out .entry)) at (hexOctet b) (now (out .exit)) r ⌝ }
+fn store_octet(b: u8, out: &mut [u8], to: usize) -> usize
+    requires { ⌜ to + 2 ≤ length (now out) ⌝ }
+    ensures { λ r. ⌜ Wrote (now (out .entry)) to (hexOctet b) (now (out .exit)) r ⌝ }
 {
-    let next = store(out, at, hex_digit(b / 16));
-    store(out, next, hex_digit(b % 16))
+    let next = store(hex_digit(b / 16), out, to);
+    store(hex_digit(b % 16), out, next)
 }
 
 // Writes each octet of src as two hexadecimal digits, for which there is room.
-fn copy_hex(out: &mut [u8], at: usize, src: &[u8]) -> usize
-    requires { ⌜ at + 2 * length (now src) ≤ length (now out) ⌝ }
-    ensures { λ r. ⌜ Wrote (now (out .entry)) at (each hexOctet (now (src .entry))) (now (out .exit)) r ⌝ }
-    ensures { λ r. ⌜ r ≡ at + 2 * length (now (src .entry)) ⌝ }
+fn copy_hex(src: &[u8], out: &mut [u8], to: usize) -> usize
+    requires { ⌜ to + 2 * length (now src) ≤ length (now out) ⌝ }
+    ensures { λ r. ⌜ Wrote (now (out .entry)) to (each hexOctet (now (src .entry))) (now (out .exit)) r ⌝ }
+    ensures { λ r. ⌜ r ≡ to + 2 * length (now (src .entry)) ⌝ }
 {
-    let mut to = at;
+    let mut next = to;
     let mut i = 0;
     while i < src.len() {
-        to = store_octet(out, to, src[i]);
+        next = store_octet(src[i], out, next);
         i += 1;
     }
-    to
+    next
 }
 
 // Writes each octet of src as two hexadecimal digits.
-pub fn put_hex(out: &mut [u8], at: usize, src: &[u8]) -> usize
-    requires { ⌜ at + 2 * length (now src) < 2 ^ 40 ⌝ }
-    ensures { λ r. ⌜ Wrote (now (out .entry)) at (each hexOctet (now (src .entry))) (now (out .exit)) r ⌝ }
-    ensures { λ r. ⌜ r ≡ at + 2 * length (now (src .entry)) ⌝ }
+pub fn put_hex(src: &[u8], out: &mut [u8], to: usize) -> usize
+    requires { ⌜ to + 2 * length (now src) < 2 ^ 40 ⌝ }
+    ensures { λ r. ⌜ Wrote (now (out .entry)) to (each hexOctet (now (src .entry))) (now (out .exit)) r ⌝ }
+    ensures { λ r. ⌜ r ≡ to + 2 * length (now (src .entry)) ⌝ }
 {
-    let end = at + 2 * src.len();
-    if at >= out.len() {
+    let end = to + 2 * src.len();
+    if to >= out.len() {
         return end;
     }
     if end <= out.len() {
-        return copy_hex(out, at, src);
+        return copy_hex(src, out, to);
     }
-    let mut to = at;
+    let mut next = to;
     let mut i = 0;
     while i < src.len() {
-        to = put_octet(out, to, src[i]);
+        next = put_octet(src[i], out, next);
         i += 1;
     }
-    to
+    next
 }
 
-// The number in the two octets at `at`, the high one first.
+// The number in the two octets to `to`, the high one first.
 pub fn be16_at(s: &[u8], at: usize) -> u32
     requires { ⌜ at + 2 ≤ length (now s) ⌝ }
     ensures { λ r. ⌜ r ≡ be16At (now (s .entry)) at ⌝ }
@@ -176,19 +176,19 @@ pub fn be32_at(s: &[u8], at: usize) -> u32
 }
 
 // Writes a number in two octets, the high one first.
-pub fn put_be16(out: &mut [u8], at: usize, n: u32) -> usize
-    requires { ⌜ (at + 1 < 2 ^ 40) × (n < 65536) ⌝ }
-    ensures { λ r. ⌜ Wrote (now (out .entry)) at (be16 n) (now (out .exit)) r ⌝ }
+pub fn put_be16(n: u32, out: &mut [u8], to: usize) -> usize
+    requires { ⌜ (to + 1 < 2 ^ 40) × (n < 65536) ⌝ }
+    ensures { λ r. ⌜ Wrote (now (out .entry)) to (be16 n) (now (out .exit)) r ⌝ }
 {
-    let next = put(out, at, (n / 256) as u8);
-    put(out, next, (n % 256) as u8)
+    let next = put((n / 256) as u8, out, to);
+    put((n % 256) as u8, out, next)
 }
 
 // Writes a number in four octets, the high ones first.
-pub fn put_be32(out: &mut [u8], at: usize, n: u32) -> usize
-    requires { ⌜ at < 2 ^ 39 ⌝ }
-    ensures { λ r. ⌜ Wrote (now (out .entry)) at (be32 n) (now (out .exit)) r ⌝ }
+pub fn put_be32(n: u32, out: &mut [u8], to: usize) -> usize
+    requires { ⌜ to < 2 ^ 39 ⌝ }
+    ensures { λ r. ⌜ Wrote (now (out .entry)) to (be32 n) (now (out .exit)) r ⌝ }
 {
-    let next = put_be16(out, at, n / 65536);
-    put_be16(out, next, n % 65536)
+    let next = put_be16(n / 65536, out, to);
+    put_be16(n % 65536, out, next)
 }

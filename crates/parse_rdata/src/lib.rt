@@ -15,22 +15,22 @@ ghost use Rattle.records.specs.Layout.{rdataFits?};
 ghost use Rattle.parse_rdata.specs.Skipping.{nameEnd};
 
 // Writes the octets.
-pub fn put_octets(out: &mut [u8], at: usize, hex: &[u8]) -> usize
-    requires { ⌜ Hexes (now hex) × (at + length (now hex) < 2 ^ 40) ⌝ }
-    ensures { λ r. ⌜ Wrote (now (out .entry)) at (paired (now (hex .entry))) (now (out .exit)) r ⌝ }
+pub fn put_octets(hex: &[u8], out: &mut [u8], to: usize) -> usize
+    requires { ⌜ Hexes (now hex) × (to + length (now hex) < 2 ^ 40) ⌝ }
+    ensures { λ r. ⌜ Wrote (now (out .entry)) to (paired (now (hex .entry))) (now (out .exit)) r ⌝ }
 {
     let size = count(hex, true);
-    let end = at + size;
-    if at >= out.len() {
+    let end = to + size;
+    if to >= out.len() {
         return end;
     }
-    let mut to = at;
+    let mut next = to;
     let mut i = 0;
     while i < size {
-        to = put(out, to, octet(hex, true, i));
+        next = put(octet(hex, true, i), out, next);
         i += 1;
     }
-    to
+    next
 }
 
 // ---- RDATA
@@ -40,7 +40,7 @@ enum Skipped {
     Unfit,
 }
 
-// The end of the name at a place: pointers are not taken. `place` is the length octet, and `total` counts the octets of
+// The end of the name to a place: pointers are not taken. `place` is the length octet, and `total` counts the octets of
 // the labels so far.
 fn skip_name(hex: &[u8], at: usize) -> Skipped
     requires { ⌜ Hexes (now hex) ⌝ }

@@ -144,7 +144,7 @@ pub fn emit(c: Cursor, octets: &[u8], out: &mut [u8]) -> Cursor
         return r;
     }
     let to = c.to;
-    let _end = put_all(out, to, octets);
+    let _end = put_all(octets, out, to);
     r
 }
 

@@ -36,27 +36,27 @@ pub enum Element {
 }
 
 // Writes the members that a question and a record begin with: NAME by the name's form, TYPE, CLASS.
-fn put_start(out: &mut [u8], to: usize, form: &[u8], kind: u32, class: u32) -> usize
+fn put_start(form: &[u8], kind: u32, class: u32, out: &mut [u8], to: usize) -> usize
     requires { ⌜ (to < 2 ^ 37) × (length (now form) ≤ 255) ⌝ }
     ensures { λ r. ⌜ Wrote (now (out .entry)) to (startText (now (form .entry)) kind class) (now (out .exit)) r ⌝ }
     ensures { λ r. ⌜ r ≤ to + 1326 ⌝ }
 {
-    let title = put_all(out, to, b"{\"NAME\":");
-    let name = put_name(out, title, form);
-    let number = put_number(out, name, b",\"TYPE\":", kind);
-    put_number(out, number, b",\"CLASS\":", class)
+    let title = put_all(b"{\"NAME\":", out, to);
+    let name = put_name(form, out, title);
+    let number = put_number(b",\"TYPE\":", kind, out, name);
+    put_number(b",\"CLASS\":", class, out, number)
 }
 
 // Writes a record up to its RDATA.
-fn put_fields(out: &mut [u8], to: usize, form: &[u8], kind: u32, class: u32, ttl: u32) -> usize
+fn put_fields(form: &[u8], kind: u32, class: u32, ttl: u32, out: &mut [u8], to: usize) -> usize
     requires { ⌜ (to < 2 ^ 36) × (length (now form) ≤ 255) ⌝ }
     ensures { λ r. ⌜ Wrote (now (out .entry)) to (fieldsText (now (form .entry)) kind class ttl) (now (out .exit)) r ⌝ }
     ensures { λ r. ⌜ r ≤ to + 1356 ⌝ }
 {
-    let start = put_start(out, to, form, kind, class);
-    let title = put_all(out, start, b",\"TTL\":");
-    let number = put_signed(out, title, ttl);
-    put_all(out, number, b",\"RDATAHEX\":")
+    let start = put_start(form, kind, class, out, to);
+    let title = put_all(b",\"TTL\":", out, start);
+    let number = put_signed(ttl, out, title);
+    put_all(b",\"RDATAHEX\":", out, number)
 }
 
 // Writes a record as it is, by its owner's form and its fields.
@@ -67,14 +67,14 @@ fn put_ordinary(s: &[u8], form: &[u8], head: Head, out: &mut [u8], to: usize) ->
         (now (out .exit)) (head .rdata + head .rdlength) r ⌝ }
     ensures { λ r. ⌜ r ≤ to + 2419 + 2 * head .rdlength ⌝ }
 {
-    let fields = put_fields(out, to, form, head.kind, head.class, head.ttl);
-    let open = put(out, fields, b'"');
+    let fields = put_fields(form, head.kind, head.class, head.ttl, out, to);
+    let open = put(b'"', out, fields);
     let rdata = put_rdata(s, head.kind, head.rdata, head.rdlength, true, out, open);
     let RdataEnd::To(end) = rdata else {
         // not reached
         return to;
     };
-    put_all(out, end, b"\"}")
+    put_all(b"\"}", out, end)
 }
 
 // The header's RCODE.
@@ -119,10 +119,10 @@ fn put_question(s: &[u8], at: usize, out: &mut [u8], to: usize) -> Position
         return Position { at, to };
     };
     let size = asked.size;
-    let end = put_start(out, to, &name[0..size], asked.kind, asked.class);
+    let end = put_start(&name[0..size], asked.kind, asked.class, out, to);
     Position {
         at: asked.next,
-        to: put(out, end, b'}'),
+        to: put(b'}', out, end),
     }
 }
 
@@ -139,7 +139,7 @@ fn put_shown(s: &[u8], form: &[u8], head: Head, lone: bool, out: &mut [u8], to: 
         let rcode = rcode_of(s);
         let start = head.rdata;
         let end = start + head.rdlength;
-        return put_edns(out, to, head.class, head.ttl, rcode, &s[start..end]);
+        return put_edns(head.class, head.ttl, rcode, &s[start..end], out, to);
     }
     put_ordinary(s, form, head, out, to)
 }

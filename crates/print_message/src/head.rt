@@ -9,25 +9,25 @@ use print_head::put_low;
 use print_head::put_number;
 
 // Writes the counts of the sections.
-fn put_counts(out: &mut [u8], to: usize, s: &[u8]) -> usize
+fn put_counts(s: &[u8], out: &mut [u8], to: usize) -> usize
     requires { ⌜ (to + 100 < 2 ^ 39) × (12 ≤ length (now s)) ⌝ }
     ensures { λ r. ⌜ Wrote (now (out .entry)) to (countsText (now (s .entry))) (now (out .exit)) r ⌝ }
     ensures { λ r. ⌜ r ≤ to + 84 ⌝ }
 {
-    let questions = put_number(out, to, b",\"QDCOUNT\":", be16_at(s, 4));
-    let answers = put_number(out, questions, b",\"ANCOUNT\":", be16_at(s, 6));
-    let authority = put_number(out, answers, b",\"NSCOUNT\":", be16_at(s, 8));
-    put_number(out, authority, b",\"ARCOUNT\":", be16_at(s, 10))
+    let questions = put_number(b",\"QDCOUNT\":", be16_at(s, 4), out, to);
+    let answers = put_number(b",\"ANCOUNT\":", be16_at(s, 6), out, questions);
+    let authority = put_number(b",\"NSCOUNT\":", be16_at(s, 8), out, answers);
+    put_number(b",\"ARCOUNT\":", be16_at(s, 10), out, authority)
 }
 
 // Writes the head of the text of a message, whose first 12 octets s has at least.
-pub fn put_head(out: &mut [u8], to: usize, s: &[u8]) -> usize
+pub fn put_head(s: &[u8], out: &mut [u8], to: usize) -> usize
     requires { ⌜ (to < 2 ^ 38) × (12 ≤ length (now s)) ⌝ }
     ensures { λ r. ⌜ Wrote (now (out .entry)) to (headTextAt (now (s .entry))) (now (out .exit)) r ⌝ }
     ensures { λ r. ⌜ r ≤ to + 251 ⌝ }
 {
-    let id = put_number(out, to, b"{\"ID\":", be16_at(s, 0));
-    let high = put_high(out, id, s[2]);
-    let low = put_low(out, high, s[3]);
-    put_counts(out, low, s)
+    let id = put_number(b"{\"ID\":", be16_at(s, 0), out, to);
+    let high = put_high(s[2], out, id);
+    let low = put_low(s[3], out, high);
+    put_counts(s, out, low)
 }

@@ -18,7 +18,7 @@ use print_entry::put_element;
 mod head;
 
 // Writes what is before an element.
-fn put_comma(out: &mut [u8], to: usize, first: bool) -> usize
+fn put_comma(first: bool, out: &mut [u8], to: usize) -> usize
     requires { ⌜ to < 2 ^ 37 ⌝ }
     ensures { λ r. ⌜ Wrote (now (out .entry)) to (comma first) (now (out .exit)) r ⌝ }
     ensures { λ r. ⌜ r ≤ to + 1 ⌝ }
@@ -26,7 +26,7 @@ fn put_comma(out: &mut [u8], to: usize, first: bool) -> usize
     if first {
         return to;
     }
-    put(out, to, b',')
+    put(b',', out, to)
 }
 
 // Writes an array of `count` elements without a fault, from the one at an offset on.
@@ -46,9 +46,9 @@ fn put_array(
 {
     let mut left = count;
     let mut from = at;
-    let mut next = put(out, to, b'[');
+    let mut next = put(b'[', out, to);
     while left > 0 {
-        let place = put_comma(out, next, left == count);
+        let place = put_comma(left == count, out, next);
         let end = put_element(s, element, from, out, place);
         from = end.at;
         next = end.to;
@@ -56,7 +56,7 @@ fn put_array(
     }
     Position {
         at: from,
-        to: put(out, next, b']'),
+        to: put(b']', out, next),
     }
 }
 
@@ -78,7 +78,7 @@ fn put_section(
     ensures { λ r. ⌜ Placed r (length (now (s .entry))) (place + 2) ⌝ }
 {
     let count = be16_at(s, place);
-    let next = put_all(out, start.to, title);
+    let next = put_all(title, out, start.to);
     put_array(s, element, count, start.at, out, next)
 }
 
@@ -126,7 +126,7 @@ fn put_back(s: &[u8], start: Position, lone: bool, out: &mut [u8]) -> Position
     );
     Position {
         at: additional.at,
-        to: put(out, additional.to, b'}'),
+        to: put(b'}', out, additional.to),
     }
 }
 
@@ -137,7 +137,7 @@ pub fn put_text(s: &[u8], lone: bool, out: &mut [u8]) -> usize
 {
     let head = Position {
         at: 12,
-        to: put_head(out, 0, s),
+        to: put_head(s, out, 0),
     };
     let front = put_front(s, head, out);
     let back = put_back(s, front, lone, out);

@@ -18,60 +18,60 @@ ghost use Rattle.options.specs.Options.{present, errorTail};
 ghost use Rattle.print_values.specs.Entries.{Width, numbers, numberAt};
 
 // Writes `head`, and after it octets in hexadecimal, in quotes.
-pub fn put_hex_text(out: &mut [u8], at: usize, head: &[u8], src: &[u8]) -> usize
-    requires { ⌜ (at < 2 ^ 39) × (length (now head) < 32) × (length (now src) < 65536) ⌝ }
-    ensures { λ r. ⌜ Wrote (now (out .entry)) at (now (head .entry) ++ hexText (now (src .entry))) (now (out .exit)) r ⌝ }
-    ensures { λ r. ⌜ r ≡ at + length (now (head .entry)) + 2 * length (now (src .entry)) + 2 ⌝ }
+pub fn put_hex_text(head: &[u8], src: &[u8], out: &mut [u8], to: usize) -> usize
+    requires { ⌜ (to < 2 ^ 39) × (length (now head) < 32) × (length (now src) < 65536) ⌝ }
+    ensures { λ r. ⌜ Wrote (now (out .entry)) to (now (head .entry) ++ hexText (now (src .entry))) (now (out .exit)) r ⌝ }
+    ensures { λ r. ⌜ r ≡ to + length (now (head .entry)) + 2 * length (now (src .entry)) + 2 ⌝ }
 {
-    let mut next = put_all(out, at, head);
-    next = put(out, next, b'"');
-    next = put_hex(out, next, src);
-    put(out, next, b'"')
+    let mut next = put_all(head, out, to);
+    next = put(b'"', out, next);
+    next = put_hex(src, out, next);
+    put(b'"', out, next)
 }
 
-// Writes the number at `i` of a list, of one or two octets, and before it the bracket or the comma.
-fn put_entry(out: &mut [u8], at: usize, mark: u8, value: &[u8], i: usize, width: usize) -> usize
-    requires { ⌜ (at + 1 < 2 ^ 39) × Width width × (i + width ≤ length (now value)) ⌝ }
-    ensures { λ r. ⌜ Wrote (now (out .entry)) at (mark ∷ decimal (numberAt width (now (value .entry)) i))
+// Writes the number to `i` of a list, of one or two octets, and before it the bracket or the comma.
+fn put_entry(mark: u8, value: &[u8], i: usize, width: usize, out: &mut [u8], to: usize) -> usize
+    requires { ⌜ (to + 1 < 2 ^ 39) × Width width × (i + width ≤ length (now value)) ⌝ }
+    ensures { λ r. ⌜ Wrote (now (out .entry)) to (mark ∷ decimal (numberAt width (now (value .entry)) i))
         (now (out .exit)) r ⌝ }
-    ensures { λ r. ⌜ r ≤ at + 4 * width ⌝ }
+    ensures { λ r. ⌜ r ≤ to + 4 * width ⌝ }
 {
-    let next = put(out, at, mark);
+    let next = put(mark, out, to);
     if width == 2 {
-        return put_decimal(out, next, be16_at(value, i));
+        return put_decimal(be16_at(value, i), out, next);
     }
-    put_decimal(out, next, wide(value[i]) as u32)
+    put_decimal(wide(value[i]) as u32, out, next)
 }
 
 // Writes the octets as a list of numbers, of one or two octets each.
-pub fn put_list(out: &mut [u8], at: usize, value: &[u8], width: usize) -> usize
-    requires { ⌜ (at < 2 ^ 38 + 32) × (length (now value) < 65536) × Width width ⌝ }
-    ensures { λ r. ⌜ Wrote (now (out .entry)) at (listed decimal (numbers width (now (value .entry))))
+pub fn put_list(value: &[u8], width: usize, out: &mut [u8], to: usize) -> usize
+    requires { ⌜ (to < 2 ^ 38 + 32) × (length (now value) < 65536) × Width width ⌝ }
+    ensures { λ r. ⌜ Wrote (now (out .entry)) to (listed decimal (numbers width (now (value .entry))))
         (now (out .exit)) r ⌝ }
-    ensures { λ r. ⌜ r ≤ at + 4 * length (now (value .entry)) + 2 ⌝ }
+    ensures { λ r. ⌜ r ≤ to + 4 * length (now (value .entry)) + 2 ⌝ }
 {
     if value.len() < width {
-        return put_all(out, at, b"[]");
+        return put_all(b"[]", out, to);
     }
-    let mut to = put_entry(out, at, b'[', value, 0, width);
+    let mut next = put_entry(b'[', value, 0, width, out, to);
     let mut i = width;
     while i + width <= value.len() {
-        to = put_entry(out, to, b',', value, i, width);
+        next = put_entry(b',', value, i, width, out, next);
         i += width;
     }
-    put(out, to, b']')
+    put(b']', out, next)
 }
 
 // The end of EDE: its text, unless there is none
-pub fn put_error_tail(out: &mut [u8], at: usize, text: &[u8]) -> usize
-    requires { ⌜ (at < 2 ^ 39) × (length (now text) < 65536) ⌝ }
-    ensures { λ r. ⌜ Wrote (now (out .entry)) at (errorTail (present (now (text .entry)))) (now (out .exit)) r ⌝ }
-    ensures { λ r. ⌜ r ≤ at + 2 * length (now (text .entry)) + 11 ⌝ }
+pub fn put_error_tail(text: &[u8], out: &mut [u8], to: usize) -> usize
+    requires { ⌜ (to < 2 ^ 39) × (length (now text) < 65536) ⌝ }
+    ensures { λ r. ⌜ Wrote (now (out .entry)) to (errorTail (present (now (text .entry)))) (now (out .exit)) r ⌝ }
+    ensures { λ r. ⌜ r ≤ to + 2 * length (now (text .entry)) + 11 ⌝ }
 {
     if text.len() == 0 {
-        return put(out, at, b'}');
+        return put(b'}', out, to);
     }
-    let mut next = put_all(out, at, b",\"TEXT\":");
-    next = put_string(out, next, text);
-    put(out, next, b'}')
+    let mut next = put_all(b",\"TEXT\":", out, to);
+    next = put_string(text, out, next);
+    put(b'}', out, next)
 }

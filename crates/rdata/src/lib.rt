@@ -17,15 +17,15 @@ pub enum RdataEnd {
 }
 
 // Writes octets as they are, or each as two hexadecimal digits.
-fn put_piece(out: &mut [u8], to: usize, hex: bool, octets: &[u8]) -> usize
+fn put_piece(hex: bool, octets: &[u8], out: &mut [u8], to: usize) -> usize
     requires { ⌜ to + 2 * length (now octets) < 2 ^ 40 ⌝ }
     ensures { λ r. ⌜ Wrote (now (out .entry)) to (digitsIf hex (now (octets .entry))) (now (out .exit)) r ⌝ }
     ensures { λ r. ⌜ r ≤ to + 2 * length (now (octets .entry)) ⌝ }
 {
     if hex {
-        return put_hex(out, to, octets);
+        return put_hex(octets, out, to);
     }
-    put_all(out, to, octets)
+    put_all(octets, out, to)
 }
 
 // Writes RDATA piece by piece, each name without pointers. Where RDATA does not fit its layout, the pieces before the
@@ -52,12 +52,12 @@ pub fn put_rdata(
         let octets = stepped.octets;
         match step {
             Step::Part(end) => {
-                next = put_piece(out, next, hex, &s[at..end]);
+                next = put_piece(hex, &s[at..end], out, next);
                 at = end;
                 i += 1;
             }
             Step::Name(length, end) => {
-                next = put_piece(out, next, hex, &octets[0..length]);
+                next = put_piece(hex, &octets[0..length], out, next);
                 at = end;
                 i += 1;
             }

@@ -18,124 +18,124 @@ use widths::widths;
 mod widths;
 
 // Writes an octet as `\\DDD`, DDD three decimal digits.
-fn put_digits(out: &mut [u8], at: usize, x: u8) -> usize
-    requires { ⌜ at < 2 ^ 39 ⌝ }
-    ensures { λ r. ⌜ Wrote (now (out .entry)) at (92 ∷ 92 ∷ three-digits x) (now (out .exit)) r ⌝ }
+fn put_digits(x: u8, out: &mut [u8], to: usize) -> usize
+    requires { ⌜ to < 2 ^ 39 ⌝ }
+    ensures { λ r. ⌜ Wrote (now (out .entry)) to (92 ∷ 92 ∷ three-digits x) (now (out .exit)) r ⌝ }
 {
-    let first = put_all(out, at, b"\\\\");
-    let second = put(out, first, 48 + x / 100);
-    let third = put(out, second, 48 + x / 10 % 10);
-    put(out, third, 48 + x % 10)
+    let first = put_all(b"\\\\", out, to);
+    let second = put(48 + x / 100, out, first);
+    let third = put(48 + x / 10 % 10, out, second);
+    put(48 + x % 10, out, third)
 }
 
 // Writes an octet of a label, by the table of widths.
-fn put_spelled(out: &mut [u8], at: usize, x: u8, table: &[u8; 256]) -> usize
-    requires { ⌜ (at < 2 ^ 39) × (now table ≡ widthTable) ⌝ }
-    ensures { λ r. ⌜ Wrote (now (out .entry)) at (spelled x) (now (out .exit)) r ⌝ }
-    ensures { λ r. ⌜ r ≤ at + 5 ⌝ }
+fn put_spelled(x: u8, table: &[u8; 256], out: &mut [u8], to: usize) -> usize
+    requires { ⌜ (to < 2 ^ 39) × (now table ≡ widthTable) ⌝ }
+    ensures { λ r. ⌜ Wrote (now (out .entry)) to (spelled x) (now (out .exit)) r ⌝ }
+    ensures { λ r. ⌜ r ≤ to + 5 ⌝ }
 {
     let w = width(table, x);
-    if at >= out.len() {
-        return at + w;
+    if to >= out.len() {
+        return to + w;
     }
     if w == 1 {
-        return put(out, at, x);
+        return put(x, out, to);
     }
     if x == 46 {
-        return put_all(out, at, b"\\\\.");
+        return put_all(b"\\\\.", out, to);
     }
     if x == 92 {
-        return put_all(out, at, b"\\\\\\\\");
+        return put_all(b"\\\\\\\\", out, to);
     }
-    put_digits(out, at, x)
+    put_digits(x, out, to)
 }
 
 // Writes a label and its dot, by the table of widths.
-fn put_label(out: &mut [u8], at: usize, label: &[u8], table: &[u8; 256]) -> usize
-    requires { ⌜ (at + 5 * length (now label) < 2 ^ 39) × (now table ≡ widthTable) ⌝ }
-    ensures { λ r. ⌜ Wrote (now (out .entry)) at (labelText (now (label .entry))) (now (out .exit)) r ⌝ }
-    ensures { λ r. ⌜ r ≤ at + 5 * length (now (label .entry)) + 1 ⌝ }
+fn put_label(label: &[u8], table: &[u8; 256], out: &mut [u8], to: usize) -> usize
+    requires { ⌜ (to + 5 * length (now label) < 2 ^ 39) × (now table ≡ widthTable) ⌝ }
+    ensures { λ r. ⌜ Wrote (now (out .entry)) to (labelText (now (label .entry))) (now (out .exit)) r ⌝ }
+    ensures { λ r. ⌜ r ≤ to + 5 * length (now (label .entry)) + 1 ⌝ }
 {
-    let mut to = at;
+    let mut next = to;
     let mut i = 0;
     while i < label.len() {
-        to = put_spelled(out, to, label[i], table);
+        next = put_spelled(label[i], table, out, next);
         i += 1;
     }
-    put(out, to, 46)
+    put(46, out, next)
 }
 
 // Writes the name whose octets without pointers are `form`, in quotes.
-pub fn put_name(out: &mut [u8], at: usize, form: &[u8]) -> usize
-    requires { ⌜ (at < 2 ^ 38) × (length (now form) ≤ 255) ⌝ }
-    ensures { λ r. ⌜ Wrote (now (out .entry)) at (formText (now (form .entry))) (now (out .exit)) r ⌝ }
-    ensures { λ r. ⌜ r ≤ at + 1281 ⌝ }
+pub fn put_name(form: &[u8], out: &mut [u8], to: usize) -> usize
+    requires { ⌜ (to < 2 ^ 38) × (length (now form) ≤ 255) ⌝ }
+    ensures { λ r. ⌜ Wrote (now (out .entry)) to (formText (now (form .entry))) (now (out .exit)) r ⌝ }
+    ensures { λ r. ⌜ r ≤ to + 1281 ⌝ }
 {
-    let mut to = put(out, at, 34);
+    let mut next = put(34, out, to);
     if form.len() == 0 {
-        return put(out, to, 34);
+        return put(34, out, next);
     }
     if form[0] == 0 {
-        return put_all(out, to, b".\"");
+        return put_all(b".\"", out, next);
     }
     let table = widths();
     let mut i = 0;
     while i < form.len() {
         let n = wide(form[i]);
         if n == 0 {
-            return put(out, to, 34);
+            return put(34, out, next);
         }
         let start = i + 1;
         if n > form.len() - start {
-            let next = put_label(out, to, &form[start..form.len()], &table);
-            return put(out, next, 34);
+            let last = put_label(&form[start..form.len()], &table, out, next);
+            return put(34, out, last);
         }
         let end = start + n;
-        to = put_label(out, to, &form[start..end], &table);
+        next = put_label(&form[start..end], &table, out, next);
         i = end;
     }
-    put(out, to, 34)
+    put(34, out, next)
 }
 
 // Writes the 32 bits of a TTL as the number that they are in two's complement.
-pub fn put_signed(out: &mut [u8], at: usize, n: u32) -> usize
-    requires { ⌜ at < 2 ^ 38 ⌝ }
-    ensures { λ r. ⌜ Wrote (now (out .entry)) at (signedText (signed n)) (now (out .exit)) r ⌝ }
-    ensures { λ r. ⌜ r ≤ at + 11 ⌝ }
+pub fn put_signed(n: u32, out: &mut [u8], to: usize) -> usize
+    requires { ⌜ to < 2 ^ 38 ⌝ }
+    ensures { λ r. ⌜ Wrote (now (out .entry)) to (signedText (signed n)) (now (out .exit)) r ⌝ }
+    ensures { λ r. ⌜ r ≤ to + 11 ⌝ }
 {
     if n < 2147483648 {
-        return put_decimal(out, at, n);
+        return put_decimal(n, out, to);
     }
-    let next = put(out, at, 45);
-    put_decimal(out, next, 4294967295 - n + 1)
+    let next = put(45, out, to);
+    put_decimal(4294967295 - n + 1, out, next)
 }
 
 // Writes an octet of a string.
-fn put_string_octet(out: &mut [u8], at: usize, x: u8) -> usize
-    requires { ⌜ at + 2 < 2 ^ 40 ⌝ }
-    ensures { λ r. ⌜ Wrote (now (out .entry)) at (stringOctet x) (now (out .exit)) r ⌝ }
-    ensures { λ r. ⌜ r ≤ at + 2 ⌝ }
+fn put_string_octet(x: u8, out: &mut [u8], to: usize) -> usize
+    requires { ⌜ to + 2 < 2 ^ 40 ⌝ }
+    ensures { λ r. ⌜ Wrote (now (out .entry)) to (stringOctet x) (now (out .exit)) r ⌝ }
+    ensures { λ r. ⌜ r ≤ to + 2 ⌝ }
 {
     if x == 34 {
-        return put_all(out, at, b"\\\"");
+        return put_all(b"\\\"", out, to);
     }
     if x == 92 {
-        return put_all(out, at, b"\\\\");
+        return put_all(b"\\\\", out, to);
     }
-    put(out, at, x)
+    put(x, out, to)
 }
 
 // Writes a string in quotes.
-pub fn put_string(out: &mut [u8], at: usize, src: &[u8]) -> usize
-    requires { ⌜ at + 2 * length (now src) + 2 < 2 ^ 40 ⌝ }
-    ensures { λ r. ⌜ Wrote (now (out .entry)) at (stringText (now (src .entry))) (now (out .exit)) r ⌝ }
-    ensures { λ r. ⌜ r ≤ at + 2 * length (now (src .entry)) + 2 ⌝ }
+pub fn put_string(src: &[u8], out: &mut [u8], to: usize) -> usize
+    requires { ⌜ to + 2 * length (now src) + 2 < 2 ^ 40 ⌝ }
+    ensures { λ r. ⌜ Wrote (now (out .entry)) to (stringText (now (src .entry))) (now (out .exit)) r ⌝ }
+    ensures { λ r. ⌜ r ≤ to + 2 * length (now (src .entry)) + 2 ⌝ }
 {
-    let mut to = put(out, at, 34);
+    let mut next = put(34, out, to);
     let mut i = 0;
     while i < src.len() {
-        to = put_string_octet(out, to, src[i]);
+        next = put_string_octet(src[i], out, next);
         i += 1;
     }
-    put(out, to, 34)
+    put(34, out, next)
 }

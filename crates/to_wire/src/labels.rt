@@ -28,14 +28,14 @@ struct Part {
 }
 
 // Writes `v` at the place `n` after `to`, unless n is more than 63.
-fn store(out: &mut [u8], to: usize, n: usize, v: u8) -> usize
+fn store(n: usize, v: u8, out: &mut [u8], to: usize) -> usize
     requires { ⌜ to < 2 ^ 32 ⌝ }
     ensures { λ r. ⌜ Stored (now (out .entry)) to n v (now (out .exit)) ⌝ }
 {
     if n > 63 {
         return 0;
     }
-    put(out, to + n, v)
+    put(v, out, to + n)
 }
 
 // A label and the dot after it. Its length and its octets are written from `to` on, unless it is too long.
@@ -63,7 +63,7 @@ fn label_at(text: &[u8], start: usize, out: &mut [u8], to: usize) -> Part
                     size: n,
                 };
             }
-            let _next = put(out, to, n as u8);
+            let _next = put(n as u8, out, to);
             return Part {
                 at: at + 1,
                 found: true,
@@ -78,7 +78,7 @@ fn label_at(text: &[u8], start: usize, out: &mut [u8], to: usize) -> Part
                 size: 0,
             };
         }
-        let _next = store(out, to, n + 1, o.value);
+        let _next = store(n + 1, o.value, out, to);
         n += 1;
         at = o.at;
     }
@@ -118,7 +118,7 @@ fn labels_at(text: &[u8], start: usize, out: &mut [u8], to: usize) -> Part
     loop {
         let y = octet_at(text, at);
         if y == b'"' {
-            let _end = put(out, to + size, 0);
+            let _end = put(0, out, to + size);
             return Part {
                 at: at + 1,
                 found: true,

@@ -73,7 +73,7 @@ pub fn put_hex(text: &[u8], h: Span, c: Cursor, out: &mut [u8]) -> Cursor
     let from = h.from;
     let end = h.end;
     let to = c.to;
-    let _end = put_octets(out, to, &text[from..end]);
+    let _end = put_octets(&text[from..end], out, to);
     r
 }
 
@@ -233,17 +233,17 @@ fn cookie(text: &[u8], c: Cursor, out: &mut [u8]) -> Cursor
 
 // ---- PADDING
 // Writes n zero octets.
-fn put_zeros(out: &mut [u8], at: usize, n: usize) -> usize
-    requires { ⌜ at + n < 2 ^ 40 ⌝ }
-    ensures { λ r. ⌜ Wrote (now (out .entry)) at (replicate n 0) (now (out .exit)) r ⌝ }
+fn put_zeros(n: usize, out: &mut [u8], to: usize) -> usize
+    requires { ⌜ to + n < 2 ^ 40 ⌝ }
+    ensures { λ r. ⌜ Wrote (now (out .entry)) to (replicate n 0) (now (out .exit)) r ⌝ }
 {
-    let mut to = at;
+    let mut next = to;
     let mut i = 0;
     while i < n {
-        to = put(out, to, 0);
+        next = put(0, out, next);
         i += 1;
     }
-    to
+    next
 }
 
 // Writes n zero octets, unless they go past the limit.
@@ -256,7 +256,7 @@ fn zeros(c: Cursor, n: u64, out: &mut [u8]) -> Cursor
         return r;
     }
     let to = c.to;
-    let _end = put_zeros(out, to, n as usize);
+    let _end = put_zeros(n as usize, out, to);
     r
 }
 
@@ -379,7 +379,7 @@ fn member_name(text: &[u8], c: Cursor) -> Row
 }
 
 // Writes an option's code and the length of its value before the value, which ends at `to`.
-fn put_option_head(out: &mut [u8], start: usize, to: usize, code: u32) -> usize
+fn put_option_head(code: u32, out: &mut [u8], start: usize, to: usize) -> usize
     requires { ⌜ (start ≤ 65535) × (to ≤ 65535) ⌝ }
     ensures { λ r. ⌜ Fronted code start to (now (out .entry)) (now (out .exit)) r ⌝ }
 {
@@ -387,8 +387,8 @@ fn put_option_head(out: &mut [u8], start: usize, to: usize, code: u32) -> usize
         return start;
     }
     let size = to - (start + 4);
-    let next = put_be16(out, start, code % 65536);
-    put_be16(out, next, size as u32)
+    let next = put_be16(code % 65536, out, start);
+    put_be16(size as u32, out, next)
 }
 
 // The value of a member of the table.
@@ -398,7 +398,7 @@ fn listed_option(text: &[u8], c: Cursor, code: u32, out: &mut [u8]) -> Cursor
 {
     let held = reserve(c, 4);
     let v = value(text, held, code, out);
-    let _end = put_option_head(out, c.to, v.to, code);
+    let _end = put_option_head(code, out, c.to, v.to);
     v
 }
 
@@ -435,7 +435,7 @@ fn other_hex(text: &[u8], c: Cursor, n: u64, out: &mut [u8]) -> Cursor
     let held = reserve(d, 4);
     let v = put_hex(text, h, held, out);
     let r = demand(v, other_fits(text, h, n));
-    let _end = put_option_head(out, d.to, r.to, code_of(n));
+    let _end = put_option_head(code_of(n), out, d.to, r.to);
     r
 }
 
@@ -552,7 +552,7 @@ fn edns_fits(version: u64, full: u32, rcode: u32, size: u64) -> bool
 }
 
 // Writes what comes before the options, which end at `to`: the root, TYPE 41, CLASS, TTL and RDLENGTH.
-fn put_edns_head(out: &mut [u8], start: usize, to: usize, size: u64, full: u32, flags: u32) -> usize
+fn put_edns_head(size: u64, full: u32, flags: u32, out: &mut [u8], start: usize, to: usize) -> usize
     requires { ⌜ (start ≤ 65535) × (to ≤ 65535) ⌝ }
     ensures { λ r. ⌜ OptFronted size full flags start to (now (out .entry)) (now (out .exit)) r ⌝ }
 {
@@ -562,11 +562,11 @@ fn put_edns_head(out: &mut [u8], start: usize, to: usize, size: u64, full: u32, 
     let length = to - (start + 11);
     let class = (size % 65536) as u32;
     let ttl = full / 16 % 256 * 16777216 + flags % 2 * 32768;
-    let mut next = put(out, start, 0);
-    next = put_be16(out, next, 41);
-    next = put_be16(out, next, class);
-    next = put_be32(out, next, ttl);
-    put_be16(out, next, length as u32)
+    let mut next = put(0, out, start);
+    next = put_be16(41, out, next);
+    next = put_be16(class, out, next);
+    next = put_be32(ttl, out, next);
+    put_be16(length as u32, out, next)
 }
 
 // The element after the title of its first member, Version. `rcode` is the header's.
@@ -583,6 +583,6 @@ pub fn edns(text: &[u8], c: Cursor, rcode: u32, out: &mut [u8]) -> Cursor
     let o = options(text, held, out);
     let ok = edns_fits(v.value, x.key, rcode, s.value);
     let r = demand(o, ok);
-    let _end = put_edns_head(out, d.to, r.to, s.value, x.key, f.key);
+    let _end = put_edns_head(s.value, x.key, f.key, out, d.to, r.to);
     r
 }

@@ -9,11 +9,11 @@ use Rattle.octets.proofs.copy.Statement.{statement}
 use Rattle.octets.proofs.copy.Tie as tie
 
 abbrev Inv-loop : tie.InvT-loop
-Inv-loop out₀ at src to₀ i₀ out to i = (i ≤ length src) × (to ≡ at + i) × (length out ≡ length out₀)
-    × Wrote out₀ at (take i src) out to
+Inv-loop src out₀ to next₀ i₀ out next i = (i ≤ length src) × (next ≡ to + i) × (length out ≡ length out₀)
+    × Wrote out₀ to (take i src) out next
 
 abbrev μ-loop : tie.MeasureT-loop
-μ-loop out₀ at src to₀ i₀ out to i = length src - i
+μ-loop src out₀ to next₀ i₀ out next i = length src - i
 
 loop-holds : tie.Need-loop-holds Inv-loop μ-loop
 loop-holds c = (search needs, search needs, search needs, nothing _ _)

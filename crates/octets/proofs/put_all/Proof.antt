@@ -10,10 +10,10 @@ use Rattle.octets.proofs.put_all.Statement.{statement}
 use Rattle.octets.proofs.put_all.Tie as tie
 
 abbrev Inv-loop : tie.InvT-loop
-Inv-loop out₀ at src end to₀ i₀ out to i = (i ≤ length src) × (to ≡ at + i) × Wrote out₀ at (take i src) out to
+Inv-loop src out₀ to end next₀ i₀ out next i = (i ≤ length src) × (next ≡ to + i) × Wrote out₀ to (take i src) out next
 
 abbrev μ-loop : tie.MeasureT-loop
-μ-loop out₀ at src end to₀ i₀ out to i = length src - i
+μ-loop src out₀ to end next₀ i₀ out next i = length src - i
 
 add-end : tie.Need-add-end Inv-loop μ-loop
 add-end c = search needs

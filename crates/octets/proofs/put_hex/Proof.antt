@@ -13,11 +13,11 @@ use Rattle.octets.proofs.put_hex.Statement.{statement}
 use Rattle.octets.proofs.put_hex.Tie as tie
 
 abbrev Inv-loop : tie.InvT-loop
-Inv-loop out₀ at src end to₀ i₀ out to i = (i ≤ length src) × (to ≡ at + 2 * i)
-    × Wrote out₀ at (each hexOctet (take i src)) out to
+Inv-loop src out₀ to end next₀ i₀ out next i = (i ≤ length src) × (next ≡ to + 2 * i)
+    × Wrote out₀ to (each hexOctet (take i src)) out next
 
 abbrev μ-loop : tie.MeasureT-loop
-μ-loop out₀ at src end to₀ i₀ out to i = length src - i
+μ-loop src out₀ to end next₀ i₀ out next i = length src - i
 
 mul-end : tie.Need-mul-end Inv-loop μ-loop
 mul-end c = search needs

@@ -11,10 +11,10 @@ use Rattle.parse_rdata.proofs.put_octets.Statement.{statement}
 use Rattle.parse_rdata.proofs.put_octets.Tie as tie
 
 abbrev Inv-loop : tie.InvT-loop
-Inv-loop out₀ at hex size end to₀ i₀ out to i = (i ≤ size) × (to ≡ at + i) × Wrote out₀ at (take i (paired hex)) out to
+Inv-loop hex out₀ to size end next₀ i₀ out next i = (i ≤ size) × (next ≡ to + i) × Wrote out₀ to (take i (paired hex)) out next
 
 abbrev μ-loop : tie.MeasureT-loop
-μ-loop out₀ at hex size end to₀ i₀ out to i = size - i
+μ-loop hex out₀ to size end next₀ i₀ out next i = size - i
 
 count-requires : tie.Need-count-requires Inv-loop μ-loop
 count-requires c κs = search needs

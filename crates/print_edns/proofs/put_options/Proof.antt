@@ -10,11 +10,11 @@ use Rattle.print_edns.proofs.put_options.Statement.{statement}
 use Rattle.print_edns.proofs.put_options.Tie as tie
 
 abbrev Inv-loop : tie.InvT-loop
-Inv-loop out₀ at rdata to₀ from₀ out to from = (from ≤ length rdata) × (to ≤ at + 64 * from)
-    × OptionsLoop rdata out₀ at out to from
+Inv-loop rdata out₀ to next₀ from₀ out next from = (from ≤ length rdata) × (next ≤ to + 64 * from)
+    × OptionsLoop rdata out₀ to out next from
 
 abbrev μ-loop : tie.MeasureT-loop
-μ-loop out₀ at rdata to₀ from₀ out to from = length rdata - from
+μ-loop rdata out₀ to next₀ from₀ out next from = length rdata - from
 
 loop-holds : tie.Need-loop-holds Inv-loop μ-loop
 loop-holds c = (search needs, search needs, left-start _ _ _ (search needs))

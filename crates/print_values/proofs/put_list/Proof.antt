@@ -10,15 +10,15 @@ use Rattle.print_values.proofs.put_list.Statement.{statement}
 use Rattle.print_values.proofs.put_list.Tie as tie
 
 abbrev Inv-loop : tie.InvT-loop
-Inv-loop out₀ at value width to₀ i₀ out to i =
+Inv-loop value width out₀ to next₀ i₀ out next i =
     (i ≤ length value)
-    × (to ≤ at + 4 * i)
+    × (next ≤ to + 4 * i)
     × (length out ≡ length out₀)
-    × Continues (Wrote out to (entries (numbers width (drop i value))))
-    (Wrote out₀ to₀ (entries (numbers width (drop width value))))
+    × Continues (Wrote out next (entries (numbers width (drop i value))))
+    (Wrote out₀ next₀ (entries (numbers width (drop width value))))
 
 abbrev μ-loop : tie.MeasureT-loop
-μ-loop out₀ at value width to₀ i₀ out to i = length value - i
+μ-loop value width out₀ to next₀ i₀ out next i = length value - i
 
 slice-aggregate-put-all : tie.Need-slice-aggregate-put-all Inv-loop μ-loop
 slice-aggregate-put-all c = search needs

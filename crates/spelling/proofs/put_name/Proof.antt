@@ -10,11 +10,11 @@ use Rattle.spelling.proofs.put_name.Statement.{statement}
 use Rattle.spelling.proofs.put_name.Tie as tie
 
 abbrev Inv-loop : tie.InvT-loop
-Inv-loop out₀ at form to₀ table i₀ out to i = (i ≤ length form) × (to ≤ to₀ + 5 * i) × (length out ≡ length out₀)
-    × Begun form out₀ to₀ out to i
+Inv-loop form out₀ to next₀ table i₀ out next i = (i ≤ length form) × (next ≤ next₀ + 5 * i) × (length out ≡ length out₀)
+    × Begun form out₀ next₀ out next i
 
 abbrev μ-loop : tie.MeasureT-loop
-μ-loop out₀ at form to₀ table i₀ out to i = length form - i
+μ-loop form out₀ to next₀ table i₀ out next i = length form - i
 
 put-requires : tie.Need-put-requires Inv-loop μ-loop
 put-requires c κs = search needs

@@ -10,11 +10,11 @@ use Rattle.spelling.proofs.put_string.Statement.{statement}
 use Rattle.spelling.proofs.put_string.Tie as tie
 
 abbrev Inv-loop : tie.InvT-loop
-Inv-loop out₀ at src to₀ i₀ out to i = (i ≤ length src) × (to ≤ to₀ + 2 * i)
-    × Wrote out₀ to₀ (each stringOctet (take i src)) out to
+Inv-loop src out₀ to next₀ i₀ out next i = (i ≤ length src) × (next ≤ next₀ + 2 * i)
+    × Wrote out₀ next₀ (each stringOctet (take i src)) out next
 
 abbrev μ-loop : tie.MeasureT-loop
-μ-loop out₀ at src to₀ i₀ out to i = length src - i
+μ-loop src out₀ to next₀ i₀ out next i = length src - i
 
 put-requires : tie.Need-put-requires Inv-loop μ-loop
 put-requires c κs = search needs

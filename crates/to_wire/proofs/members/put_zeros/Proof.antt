@@ -8,10 +8,10 @@ use Rattle.to_wire.proofs.members.put_zeros.Statement.{statement}
 use Rattle.to_wire.proofs.members.put_zeros.Tie as tie
 
 abbrev Inv-loop : tie.InvT-loop
-Inv-loop out₀ at n to₀ i₀ out to i = Zeroed n out₀ at i out to
+Inv-loop n out₀ to next₀ i₀ out next i = Zeroed n out₀ to i out next
 
 abbrev μ-loop : tie.MeasureT-loop
-μ-loop out₀ at n to₀ i₀ out to i = n - i
+μ-loop n out₀ to next₀ i₀ out next i = n - i
 
 loop-holds : tie.Need-loop-holds Inv-loop μ-loop
 loop-holds c = search (zeroed-start, needs)
