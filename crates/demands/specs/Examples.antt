@@ -13,7 +13,7 @@ use Rattle.records.specs.Read.{firstCut, questionAt, recordAt, sectionAt, secti
 use Rattle.records.specs.Decode.{headerOf, sectionsOf, messageRead, decode}
 use Rattle.spelling.specs.Spelling.{plain?, spelled, labelText, nameText, signedText, printable?, stringOctet}
 use Rattle.spelling.specs.Spelling.{stringText, signed}
-use Rattle.options.specs.Options.{rows, members, formOf, valueText, words, shape, memberOf, memberText}
+use Rattle.options.specs.Options.{rows, members, syntaxOf, valueText, words, shape, memberOf, memberText}
 use Rattle.edns.specs.Edns.{optionForm, divided, optionsOf, rising?, rcodes, ednsOf, flags, ednsText, ednsItem}
 use Rattle.json.specs.View.{additionalOf, viewOf}
 use Rattle.json.specs.Document.{questionText, recordText, itemText, headText, documentText}
@@ -87,5 +87,5 @@ examples =
 -- every example, computed
 pub examples-hold : map (λ (e : Example). converted (hexed (e .message))) examples ≡ map
     (λ (e : Example). e .gives) examples
-unfolding examples lookup key? rowText decimal hexText nameForm walk nameFrom layouts layoutOf pieces rdataAt questionForm recordForm each headerForm form firstCut questionAt recordAt sectionAt sectionFrom headerOf sectionsOf messageRead decode plain? spelled labelText nameText signedText printable? stringOctet stringText rows members formOf valueText words shape memberOf memberText optionForm divided optionsOf rising? rcodes ednsOf additionalOf viewOf questionText recordText flags ednsText itemText headText documentText signed recordItem ednsItem item documentOf viewText text converted toText
+unfolding examples lookup key? rowText decimal hexText nameForm walk nameFrom layouts layoutOf pieces rdataAt questionForm recordForm each headerForm form firstCut questionAt recordAt sectionAt sectionFrom headerOf sectionsOf messageRead decode plain? spelled labelText nameText signedText printable? stringOctet stringText rows members syntaxOf valueText words shape memberOf memberText optionForm divided optionsOf rising? rcodes ednsOf additionalOf viewOf questionText recordText flags ednsText itemText headText documentText signed recordItem ednsItem item documentOf viewText text converted toText
 examples-hold = refl

@@ -8,7 +8,7 @@ use mathlib.Core.List.{List, [], _∷_, nil≢cons}
 use Prim.Native.Nat.{ℕ, _≤_, _<_}
 use native.Mathlib.Omega.{arith}
 use lib.ListN.{length, drop}
-use Rattle.octets.specs.Parsed.{Parsed, took, stuck, took≢stuck}
+use Rattle.octets.specs.Parsed.{Parsed, parsed, failed, parsed≢failed}
 use Rattle.octets.specs.Answer.{Output, output, refused, success, refusal, reported, delivered-room}
 use Rattle.octets.specs.Calls.{Call, writtenBy}
 use Rattle.records.specs.Message.{Message, form}
@@ -22,7 +22,7 @@ use Rattle.json.specs.Converted.{Converts}
 use Rattle.strict.specs.Meaning.{meaning}
 use Rattle.strict.proofs.MeaningLaws.{view-in}
 use Rattle.strict.specs.Parser.{parse, parse-exact, parse-ends}
-use Rattle.strict.specs.Reading.{sized, meant, parsed, reading, toWire, Reads}
+use Rattle.strict.specs.Reading.{ofView, ofMeaning, ofParsed, reading, toWire, Reads}
 use Rattle.strict.proofs.ReadingLaws.{Means, means-text, means-one, reads-text, read-only}
 use Rattle.demands.specs.FrontPage.Words.{reply, room, Length, Accepted, Spells, InGrammar, HasText}
 use Rattle.demands.specs.Delivered.{call-succeeds, call-refuses, call-leaves, call-stays, calls-same}
@@ -45,24 +45,24 @@ pub ruling : (t : List ℕ) → Ruling t (reading t)
 unfolding reading
 ruling t = go (parse t) refl
   where
-    sizes : (d : Document) (v : View) → parse t ≡ took d [] → meaning d ≡ some v → (b : Bool) → within? v ≡ b
-        → Ruling t (sized v)
-    sizes d v p m true e = rw e (read v (means-text t v .0 (record { document = d; spelled = p; meant = m })) e)
-    sizes d v p m false e = rw e (large v (means-text t v .0 (record { document = d; spelled = p; meant = m })) e)
+    sizes : (d : Document) (v : View) → parse t ≡ parsed d [] → meaning d ≡ some v → (b : Bool) → within? v ≡ b
+        → Ruling t (ofView v)
+    sizes d v p m true e = rw e (read v (means-text t v .0 (record { document = d; parses = p; means = m })) e)
+    sizes d v p m false e = rw e (large v (means-text t v .0 (record { document = d; parses = p; means = m })) e)
 
-    taken : {d e : Document} {r s : List ℕ} → took d r ≡ took e s → d ≡ e
-    taken {d} e = ap (λ (o : Parsed Document). elim o [ took a w ↦ a | stuck w ↦ d ]) e
+    taken : {d e : Document} {r s : List ℕ} → parsed d r ≡ parsed e s → d ≡ e
+    taken {d} e = ap (λ (o : Parsed Document). elim o [ parsed a w ↦ a | failed w ↦ d ]) e
 
-    means : (d : Document) → parse t ≡ took d [] → (o : Option View) → meaning d ≡ o → Ruling t (meant o)
+    means : (d : Document) → parse t ≡ parsed d [] → (o : Option View) → meaning d ≡ o → Ruling t (ofMeaning o)
     means d p none e = meaningless (d, parse-exact t d .0 p .0, parse-exact t d .0 p .1) λ v h.
         let m = means-text t v .1 h in
-        Option·none-ne-some v (sym e ∙ ap meaning (taken (sym p ∙ m .spelled)) ∙ m .meant)
+        Option·none-ne-some v (sym e ∙ ap meaning (taken (sym p ∙ m .parses)) ∙ m .means)
     means d p (some v) e = sizes d v p e (within? v) refl
 
-    go : (o : Parsed Document) → parse t ≡ o → Ruling t (parsed o)
-    go (stuck w) e = ungrammatical λ h. let (d, i, s) = h in took≢stuck (sym (parse-exact t d .1 (i, s)) ∙ e)
-    go (took d []) e = means d e (meaning d) refl
-    go (took d (x ∷ r)) e = absurd (nil≢cons (sym (parse-ends t d (x ∷ r) e)))
+    go : (o : Parsed Document) → parse t ≡ o → Ruling t (ofParsed o)
+    go (failed w) e = ungrammatical λ h. let (d, i, s) = h in parsed≢failed (sym (parse-exact t d .1 (i, s)) ∙ e)
+    go (parsed d []) e = means d e (meaning d) refl
+    go (parsed d (x ∷ r)) e = absurd (nil≢cons (sym (parse-ends t d (x ∷ r) e)))
 
 -- a message's text is within the grammar, and it is the text of one message only
 has-grammar : (t : List ℕ) (v : View) → HasText t v → InGrammar t

@@ -17,14 +17,14 @@ use Rattle.names.specs.declared.Fault.{Fault as FaultRead}
 use Rattle.records.specs.Layout.{Laid, laid, misfit, rdataAt}
 use Rattle.records.specs.Message.{Question, Record, questionForm, recordForm}
 use Rattle.records.specs.Read.{Entry, entry, bad, filled, questionAt, recordAt}
-use Rattle.records.specs.Parts.{HeadOf, recordHeadAt, withRdata, with-rdata, record-head, head-next}
-use Rattle.records.specs.Answer.{padded, askedOf, questionRead, Asks, headRead, recordRead, Heads}
-use Rattle.records.proofs.Told.{form-part, asked, headed, asks-name, asks-after, heads-after}
-use Rattle.records.specs.declared.Asked.{Asked}
+use Rattle.records.specs.Parts.{RecordHead, recordHeadAt, withRdata, with-rdata, record-head, head-next}
+use Rattle.records.specs.Answer.{padded, questionFields, questionRead, Asks, headRead, recordRead, Heads}
+use Rattle.records.proofs.Told.{form-part, question-told, head-told, asks-name, asks-after, heads-after}
+use Rattle.records.specs.declared.QuestionFields.{QuestionFields}
 use Rattle.records.specs.declared.Question.{Question as QuestionAnswer}
 use Rattle.records.specs.declared.Question.the-variants as question
 use Rattle.records.specs.declared.QuestionRead.{QuestionRead}
-use Rattle.records.specs.declared.Head.{Head}
+use Rattle.records.specs.declared.RecordFields.{RecordFields}
 use Rattle.records.specs.declared.Record.{Record as RecordAnswer}
 use Rattle.records.specs.declared.Record.the-variants as record′
 use Rattle.records.specs.declared.RecordRead.{RecordRead}
@@ -32,10 +32,10 @@ use Rattle.rdata.specs.Written.{digitsIf, PutsRdata, Ends}
 use Rattle.rdata.proofs.FormLaws.{puts-laid, puts-misfit, octets-place}
 use Rattle.rdata.specs.declared.RdataEnd.{RdataEnd}
 use Rattle.rdata.specs.declared.RdataEnd.the-variants as rdataEnd
-use Rattle.forms.specs.declared.Gone.{Gone}
-use Rattle.forms.specs.declared.Gone.the-variants as gone
-use Rattle.forms.specs.declared.Came.{Came}
-use Rattle.forms.specs.declared.Came.the-variants as came
+use Rattle.forms.specs.declared.EntryEnd.{EntryEnd}
+use Rattle.forms.specs.declared.EntryEnd.the-variants as entryEnd
+use Rattle.forms.specs.declared.SectionEnd.{SectionEnd}
+use Rattle.forms.specs.declared.SectionEnd.the-variants as sectionEnd
 
 -- ---- entries: their forms, with TYPE
 pub record Part : Type 0 where
@@ -58,46 +58,46 @@ partAt false s at = mapped questionPart (questionAt s at)
 partAt true s at = mapped recordPart (recordAt s at)
 
 -- a writer's answer and what it left
-pub data Puts : Entry Part → List ℕ → ℕ → List ℕ → Gone → Type 0 where
+pub data WritesEntry : Entry Part → List ℕ → ℕ → List ℕ → EntryEnd → Type 0 where
   puts : {p : Part} {next : ℕ} {b b′ : List ℕ} {to r : ℕ} → Wrote b to (p .form) b′ r
-      → Puts (entry p next) b to b′ (gone.To next r (p .type))
-  faults : {fault : Fault} {b b′ : List ℕ} {to : ℕ} → Puts (bad fault) b to b′ (gone.Faulty (faultOf fault))
+      → WritesEntry (entry p next) b to b′ (entryEnd.To next r (p .type))
+  faults : {fault : Fault} {b b′ : List ℕ} {to : ℕ} → WritesEntry (bad fault) b to b′ (entryEnd.Faulty (faultOf fault))
 
 -- reading stays within the message, and an octet of it gives at most 255
-abbrev pub Goes : Gone → ℕ → Type 0
-Goes (gone.To next to kind) end = (next ≤ end) × (to ≤ 255 * next)
-Goes (gone.Faulty fault) end = Unit {0}
+abbrev pub EntryBound : EntryEnd → ℕ → Type 0
+EntryBound (entryEnd.To next to rtype) end = (next ≤ end) × (to ≤ 255 * next)
+EntryBound (entryEnd.Faulty fault) end = Unit {0}
 
 -- ---- questions
 module _ (s : List ℕ) (at : ℕ) {r : QuestionRead} (e : r ≡ questionRead (questionAt s at)) where
   pub question-faults : {f : FaultRead} {b b′ : List ℕ} {to : ℕ} → r .answer ≡ question.Faulty f
-      → Puts (partAt false s at) b to b′ (gone.Faulty f)
+      → WritesEntry (partAt false s at) b to b′ (entryEnd.Faulty f)
   unfolding partAt
-  question-faults {b = b} {b′ = b′} {to = to} p = go (asked (questionAt s at) e p)
+  question-faults {b = b} {b′ = b′} {to = to} p = go (question-told (questionAt s at) e p)
     where
       go : {f : FaultRead} → (x : (fault : Fault) × (questionAt s at ≡ bad fault) × (f ≡ faultOf fault))
-          → Puts (mapped questionPart (questionAt s at)) b to b′ (gone.Faulty f)
+          → WritesEntry (mapped questionPart (questionAt s at)) b to b′ (entryEnd.Faulty f)
       go (fault, u, v) = rw (u, v) faults
 
-  pub question-puts : {a : Asked} {b b′ : List ℕ} {to n : ℕ} → r .answer ≡ question.Read a
-      → Wrote b to (take (a .size - 0) (r .name) ++ be16 (a .kind) ++ be16 (a .class)) b′ n
-      → Puts (partAt false s at) b to b′ (gone.To (a .next) n (a .kind))
+  pub question-puts : {a : QuestionFields} {b b′ : List ℕ} {to n : ℕ} → r .answer ≡ question.Read a
+      → Wrote b to (take (a .size - 0) (r .name) ++ be16 (a .rtype) ++ be16 (a .class)) b′ n
+      → WritesEntry (partAt false s at) b to b′ (entryEnd.To (a .next) n (a .rtype))
   unfolding partAt questionForm
-  question-puts {a} {b} {b′} {to} {n} p w = go (asked (questionAt s at) e p) w
+  question-puts {a} {b} {b′} {to} {n} p w = go (question-told (questionAt s at) e p) w
     where
-      go : (x : (q : Question) × (next : ℕ) × (questionAt s at ≡ entry q next) × (a ≡ askedOf q next)
+      go : (x : (q : Question) × (next : ℕ) × (questionAt s at ≡ entry q next) × (a ≡ questionFields q next)
           × (r .name ≡ padded (nameForm (q .name))))
-          → Wrote b to (take (a .size - 0) (r .name) ++ be16 (a .kind) ++ be16 (a .class)) b′ n
-          → Puts (mapped questionPart (questionAt s at)) b to b′ (gone.To (a .next) n (a .kind))
+          → Wrote b to (take (a .size - 0) (r .name) ++ be16 (a .rtype) ++ be16 (a .class)) b′ n
+          → WritesEntry (mapped questionPart (questionAt s at)) b to b′ (entryEnd.To (a .next) n (a .rtype))
       go (q, next, u, v, l) =
-          rw u (subst (λ (c : Asked). Wrote b to (take (c .size - 0) (r .name) ++ be16 (c .kind)
+          rw u (subst (λ (c : QuestionFields). Wrote b to (take (c .size - 0) (r .name) ++ be16 (c .rtype)
           ++ be16 (c .class)) b′ n
-          → Puts (entry (questionPart q) next) b to b′ (gone.To (c .next) n (c .kind)))
+          → WritesEntry (entry (questionPart q) next) b to b′ (entryEnd.To (c .next) n (c .rtype)))
           (sym v) (λ w. puts (rw (form-part (nameForm (q .name)) (r .name) (length (nameForm (q .name))) refl l) at w)))
 
 -- ---- records
 -- the record by its head and RDATA
-record-part : (s : List ℕ) (at : ℕ) (k : HeadOf) (next : ℕ) → recordHeadAt s at ≡ entry k next
+record-part : (s : List ℕ) (at : ℕ) (k : RecordHead) (next : ℕ) → recordHeadAt s at ≡ entry k next
     → partAt true s at ≡ mapped recordPart
     (filled (withRdata k) (k .rdata + k .rdlength) (rdataAt true s (k .type) (k .rdata) (k .rdlength)))
 unfolding partAt
@@ -111,17 +111,17 @@ abbrev laidPart : (List ℕ → Part) → ℕ → Laid → Entry Part
 laidPart made next (laid octets) = entry (made octets) next
 laidPart made next (misfit fault) = bad fault
 
-abbrev withFields : List ℕ → Head → List ℕ → Part
+abbrev withFields : List ℕ → RecordFields → List ℕ → Part
 withFields form h rdata = record {
-  form = form ++ be16 (h .kind) ++ be16 (h .class) ++ be32 (h .ttl) ++ be16 (length rdata) ++ rdata;
-  type = h .kind;
+  form = form ++ be16 (h .rtype) ++ be16 (h .class) ++ be32 (h .ttl) ++ be16 (length rdata) ++ rdata;
+  type = h .rtype;
 }
 
-unfoldable pub fieldsPart : List ℕ → List ℕ → Head → Entry Part
+unfoldable pub fieldsPart : List ℕ → List ℕ → RecordFields → Entry Part
 fieldsPart s form h =
-    laidPart (withFields form h) (h .rdata + h .rdlength) (rdataAt true s (h .kind) (h .rdata) (h .rdlength))
+    laidPart (withFields form h) (h .rdata + h .rdlength) (rdataAt true s (h .rtype) (h .rdata) (h .rdlength))
 
-fields-same : (s : List ℕ) (k : HeadOf)
+fields-same : (s : List ℕ) (k : RecordHead)
     → mapped recordPart (filled (withRdata k) (k .rdata + k .rdlength)
     (rdataAt true s (k .type) (k .rdata) (k .rdlength))) ≡ fieldsPart s (nameForm (k .name)) (headRead k)
 unfolding fieldsPart recordForm
@@ -145,31 +145,31 @@ sized-as : {x : Laid} {w : RdataEnd} {d b b′ : List ℕ} {to n : ℕ} → x �
     → Wrote b to (be16 (length d) ++ d) b′ n → Sized x b to b′ w
 sized-as p q v = rw (p, q) (sized v)
 
-pub record PutsSized (s : List ℕ) (h : Head) (b : List ℕ) (to : ℕ) (b′ : List ℕ) (r : RdataEnd) : Type 0 where
-  pub puts : Sized (rdataAt true s (h .kind) (h .rdata) (h .rdlength)) b to b′ r
+pub record PutsSized (s : List ℕ) (h : RecordFields) (b : List ℕ) (to : ℕ) (b′ : List ℕ) (r : RdataEnd) : Type 0 where
+  pub puts : Sized (rdataAt true s (h .rtype) (h .rdata) (h .rdlength)) b to b′ r
 
 -- the place after it
-abbrev pub SizedTo : RdataEnd → Head → Type 0
+abbrev pub SizedTo : RdataEnd → RecordFields → Type 0
 SizedTo (rdataEnd.To r) h = r ≤ 255 * (h .rdata + h .rdlength)
 SizedTo (rdataEnd.Misfit fault) h = Unit {0}
 
-pub sized-none : {w : RdataEnd} {f : FaultRead} → w ≡ rdataEnd.Misfit f → (h : Head) → SizedTo w h
+pub sized-none : {w : RdataEnd} {f : FaultRead} → w ≡ rdataEnd.Misfit f → (h : RecordFields) → SizedTo w h
 sized-none e h = subst (λ (x : RdataEnd). SizedTo x h) (sym e) tt
 
 pub sized-ends : {w : RdataEnd} {n : ℕ} → w ≡ rdataEnd.To n → (to start size : ℕ) → Ends false w (to + 2) size
     → to + 2 ≤ 255 * start → n ≤ 255 * (start + size)
 sized-ends e to start size h k = omega (arith, octets-place e (to + 2) size h)
 
-pub sized-place : {w : RdataEnd} {n : ℕ} → w ≡ rdataEnd.To n → (h : Head) → SizedTo w h
+pub sized-place : {w : RdataEnd} {n : ℕ} → w ≡ rdataEnd.To n → (h : RecordFields) → SizedTo w h
     → n ≤ 255 * (h .rdata + h .rdlength)
 sized-place e h k = subst (λ (x : RdataEnd). SizedTo x h) e k
 
-module _ (s : List ℕ) (h : Head) {b b₁ : List ℕ} {to : ℕ} {w : RdataEnd}
-    (m : PutsRdata false s (h .kind) (h .rdata) (h .rdlength) b (to + 2) b₁ w) where
+module _ (s : List ℕ) (h : RecordFields) {b b₁ : List ℕ} {to : ℕ} {w : RdataEnd}
+    (m : PutsRdata false s (h .rtype) (h .rdata) (h .rdlength) b (to + 2) b₁ w) where
   -- RDATA has a fault
   pub sized-fault : {f : FaultRead} → w ≡ rdataEnd.Misfit f → PutsSized s h b to b₁ w
   sized-fault q =
-      let (fault, x, y) = puts-misfit s (h .kind) (h .rdata) (h .rdlength) m q in
+      let (fault, x, y) = puts-misfit s (h .rtype) (h .rdata) (h .rdlength) m q in
       record { puts = misfits-as x q y }
 
   -- RDATA was written after the place of its length, and then its length
@@ -177,60 +177,65 @@ module _ (s : List ℕ) (h : Head) {b b₁ : List ℕ} {to : ℕ} {w : RdataEnd}
       → PutsSized s h b to b₂ (rdataEnd.To n)
   unfolding digitsIf
   sized-puts {b₂} {n} {n₁} q z =
-      let (d, o, v) = puts-laid s (h .kind) (h .rdata) (h .rdlength) m q in
+      let (d, o, v) = puts-laid s (h .rtype) (h .rdata) (h .rdlength) m q in
       let e : n - (to + 2) ≡ length d = omega (arith, v .place) in
-      record { puts = sized-as o refl (overlay.before refl v (subst (λ (i : ℕ). Wrote b₁ to (be16 i) b₂ n₁) e z)) }
+      record {
+        puts = sized-as o refl (overlay.wrote-before refl v (subst (λ (i : ℕ). Wrote b₁ to (be16 i) b₂ n₁) e z));
+      }
 
-module _ (s form : List ℕ) (h : Head) {b b₁ b₂ b₃ : List ℕ} {to n₁ n₂ : ℕ} {w : RdataEnd}
-    (p : Wrote b to (form ++ be16 (h .kind) ++ be16 (h .class)) b₁ n₁) (u : Wrote b₁ n₁ (be32 (h .ttl)) b₂ n₂)
+module _ (s form : List ℕ) (h : RecordFields) {b b₁ b₂ b₃ : List ℕ} {to n₁ n₂ : ℕ} {w : RdataEnd}
+    (p : Wrote b to (form ++ be16 (h .rtype) ++ be16 (h .class)) b₁ n₁) (u : Wrote b₁ n₁ (be32 (h .ttl)) b₂ n₂)
     (m : PutsSized s h b₂ n₂ b₃ w) where
-  pub fields-fault : {f : FaultRead} → w ≡ rdataEnd.Misfit f → Puts (fieldsPart s form h) b to b₃ (gone.Faulty f)
+  pub fields-fault : {f : FaultRead} → w ≡ rdataEnd.Misfit f
+      → WritesEntry (fieldsPart s form h) b to b₃ (entryEnd.Faulty f)
   unfolding fieldsPart
   fields-fault q = go (rw q at (m .puts))
     where
       go : {x : Laid} {f : FaultRead} → Sized x b₂ n₂ b₃ (rdataEnd.Misfit f)
-          → Puts (laidPart (withFields form h) (h .rdata + h .rdlength) x) b to b₃ (gone.Faulty f)
+          → WritesEntry (laidPart (withFields form h) (h .rdata + h .rdlength) x) b to b₃ (entryEnd.Faulty f)
       go misfits = faults
 
   pub fields-put : {n : ℕ} → w ≡ rdataEnd.To n
-      → Puts (fieldsPart s form h) b to b₃ (gone.To (h .rdata + h .rdlength) n (h .kind))
+      → WritesEntry (fieldsPart s form h) b to b₃ (entryEnd.To (h .rdata + h .rdlength) n (h .rtype))
   unfolding fieldsPart
   fields-put q = go (rw q at (m .puts))
     where
       go : {x : Laid} {n : ℕ} → Sized x b₂ n₂ b₃ (rdataEnd.To n)
-          → Puts (laidPart (withFields form h) (h .rdata + h .rdlength) x) b to b₃
-          (gone.To (h .rdata + h .rdlength) n (h .kind))
+          → WritesEntry (laidPart (withFields form h) (h .rdata + h .rdlength) x) b to b₃
+          (entryEnd.To (h .rdata + h .rdlength) n (h .rtype))
       go {n = n} (sized {d = d} v) =
           let whole : Wrote b to (withFields form h d .form) b₃ n =
-          rw (append-assoc (form ++ be16 (h .kind) ++ be16 (h .class) ++ be32 (h .ttl)) (be16 (length d)) d)
+          rw (append-assoc (form ++ be16 (h .rtype) ++ be16 (h .class) ++ be32 (h .ttl)) (be16 (length d)) d)
           (then (then p u) v) in
           puts whole
 
 module _ (s : List ℕ) (at : ℕ) {r : RecordRead} (e : r ≡ recordRead (recordHeadAt s at)) {b b′ : List ℕ} {to : ℕ} where
-  pub record-faults : {f : FaultRead} → r .answer ≡ record′.Faulty f → Puts (partAt true s at) b to b′ (gone.Faulty f)
+  pub record-faults : {f : FaultRead} → r .answer ≡ record′.Faulty f
+      → WritesEntry (partAt true s at) b to b′ (entryEnd.Faulty f)
   unfolding partAt
-  record-faults p = go (headed (recordHeadAt s at) e p)
+  record-faults p = go (head-told (recordHeadAt s at) e p)
     where
       go : {f : FaultRead} → (x : (fault : Fault) × (recordHeadAt s at ≡ bad fault) × (f ≡ faultOf fault))
-          → Puts (mapped recordPart (recordAt s at)) b to b′ (gone.Faulty f)
+          → WritesEntry (mapped recordPart (recordAt s at)) b to b′ (entryEnd.Faulty f)
       go (fault, u, v) = rw (record-head s at, u, v) faults
 
-  pub record-puts : {h : Head} {x : Gone} → r .answer ≡ record′.Read h
-      → Puts (fieldsPart s (take (h .size - 0) (r .name)) h) b to b′ x → Puts (partAt true s at) b to b′ x
+  pub record-puts : {h : RecordFields} {x : EntryEnd} → r .answer ≡ record′.Read h
+      → WritesEntry (fieldsPart s (take (h .size - 0) (r .name)) h) b to b′ x → WritesEntry (partAt true s at) b to b′ x
   record-puts {x = x} p d =
-      let (k, next, u, v, l) = headed (recordHeadAt s at) e p in
-      let read = subst (λ (c : Head). Puts (fieldsPart s (take (c .size - 0) (r .name)) c) b to b′ x) v d in
+      let (k, next, u, v, l) = head-told (recordHeadAt s at) e p in
+      let read = subst (λ (c : RecordFields). WritesEntry (fieldsPart s (take (c .size - 0) (r .name)) c) b to b′ x) v
+      d in
       rw (record-part s at k next u, fields-same s k)
       (rw (form-part (nameForm (k .name)) (r .name) (length (nameForm (k .name))) refl l) at read)
 
 -- ---- bounds of what was written
 -- a question ends at most 255 places further on for each of its octets
-pub question-place : (x : QuestionAnswer) (at end : ℕ) {a : Asked} (l : List ℕ) {to r : ℕ} → Asks x at end
+pub question-place : (x : QuestionAnswer) (at end : ℕ) {a : QuestionFields} (l : List ℕ) {to r : ℕ} → Asks x at end
     → x ≡ question.Read a → to ≤ 255 * at → r ≡ to + length (take (a .size - 0) l) + 4 → r ≤ 255 * a .next
 question-place x at end l h e k d = omega (arith, asks-name x at end h e l, asks-after x at end h e)
 
 -- what is before a record's RDATA is shorter than its octets allow
-pub record-place : (x : RecordAnswer) (at end : ℕ) {a : Head} {to : ℕ} → Heads x at end → x ≡ record′.Read a
+pub record-place : (x : RecordAnswer) (at end : ℕ) {a : RecordFields} {to : ℕ} → Heads x at end → x ≡ record′.Read a
     → to ≤ 255 * at → to + 265 ≤ 255 * a .rdata
 record-place x at end h e k = omega (arith, heads-after x at end h e)
 
@@ -260,19 +265,19 @@ sectionRun records s zero at = ran [] at 0
 sectionRun records s (suc n) at = turned (λ next. sectionRun records s n next) at (partAt records s at)
 
 -- a writer's answer and what it left, with k of TYPE 41 before
-pub data Runs (k : ℕ) : Run → List ℕ → ℕ → List ℕ → Came → Type 0 where
+pub data WritesSection (k : ℕ) : Run → List ℕ → ℕ → List ℕ → SectionEnd → Type 0 where
   runs : {l b b′ : List ℕ} {at n m to r : ℕ} → m ≡ k + n → Wrote b to l b′ r
-      → Runs k (ran l at n) b to b′ (came.To at r m)
+      → WritesSection k (ran l at n) b to b′ (sectionEnd.To at r m)
   halts : {at : ℕ} {fault : Fault} {b b′ : List ℕ} {to : ℕ}
-      → Runs k (halted at fault) b to b′ (came.Stopped at (faultOf fault))
+      → WritesSection k (halted at fault) b to b′ (sectionEnd.Stopped at (faultOf fault))
 
-abbrev pub Comes : Came → ℕ → Type 0
-Comes (came.To at to opts) end = (at ≤ end) × (to ≤ 255 * at)
-Comes (came.Stopped at fault) end = Unit {0}
+abbrev pub SectionBound : SectionEnd → ℕ → Type 0
+SectionBound (sectionEnd.To at to opts) end = (at ≤ end) × (to ≤ 255 * at)
+SectionBound (sectionEnd.Stopped at fault) end = Unit {0}
 
-module _ (x : Gone) (end : ℕ) {next to kind : ℕ} (h : Goes x end) (e : x ≡ gone.To next to kind) where
-  goes : Goes (gone.To next to kind) end
-  goes = subst (λ (y : Gone). Goes y end) e h
+module _ (x : EntryEnd) (end : ℕ) {next to rtype : ℕ} (h : EntryBound x end) (e : x ≡ entryEnd.To next to rtype) where
+  goes : EntryBound (entryEnd.To next to rtype) end
+  goes = subst (λ (y : EntryEnd). EntryBound y end) e h
 
   pub goes-inside : next ≤ end
   goes-inside = goes .0
@@ -280,9 +285,9 @@ module _ (x : Gone) (end : ℕ) {next to kind : ℕ} (h : Goes x end) (e : x ≡
   pub goes-short : to ≤ 255 * next
   goes-short = goes .1
 
-module _ (x : Came) (end : ℕ) {at to opts : ℕ} (h : Comes x end) (e : x ≡ came.To at to opts) where
-  comes : Comes (came.To at to opts) end
-  comes = subst (λ (y : Came). Comes y end) e h
+module _ (x : SectionEnd) (end : ℕ) {at to opts : ℕ} (h : SectionBound x end) (e : x ≡ sectionEnd.To at to opts) where
+  comes : SectionBound (sectionEnd.To at to opts) end
+  comes = subst (λ (y : SectionEnd). SectionBound y end) e h
 
   pub comes-inside : at ≤ end
   comes-inside = comes .0
@@ -291,20 +296,20 @@ module _ (x : Came) (end : ℕ) {at to opts : ℕ} (h : Comes x end) (e : x ≡ 
   comes-short = comes .1
 
 -- an entry was written, and then those after it
-run-after : {k j : ℕ} (p : Part) {u : Run} {b b₁ b₂ : List ℕ} {to n : ℕ} {r : Came} → Wrote b to (p .form) b₁ n
+run-after : {k j : ℕ} (p : Part) {u : Run} {b b₁ b₂ : List ℕ} {to n : ℕ} {r : SectionEnd} → Wrote b to (p .form) b₁ n
     → j ≡ k + optCount (p .type)
-    → Runs j u b₁ n b₂ r → Runs k (partThen p u) b to b₂ r
+    → WritesSection j u b₁ n b₂ r → WritesSection k (partThen p u) b to b₂ r
 run-after p w e (runs {n = i} {m = m} {r = r} q v) =
     runs {n = optCount (p .type) + i} {m = m} {r = r} (omega (arith, e, q)) (then w v)
 run-after p w e halts = halts
 
-runs-after : {x : Entry Part} (f : ℕ → Run) (at : ℕ) {b b₁ : List ℕ} {to n next kind k j : ℕ}
-    → Puts x b to b₁ (gone.To next n kind)
-    → j ≡ k + optCount kind → Continues (Runs j (f next) b₁ n) (Runs k (turned f at x) b to)
+runs-after : {x : Entry Part} (f : ℕ → Run) (at : ℕ) {b b₁ : List ℕ} {to n next rtype k j : ℕ}
+    → WritesEntry x b to b₁ (entryEnd.To next n rtype)
+    → j ≡ k + optCount rtype → Continues (WritesSection j (f next) b₁ n) (WritesSection k (turned f at x) b to)
 runs-after f at (puts {p = p} w) e = record { goes = λ b r d. run-after p w e d }
 
 runs-stop : {x : Entry Part} (f : ℕ → Run) {b b₁ : List ℕ} {to at k : ℕ} {g : FaultRead}
-    → Puts x b to b₁ (gone.Faulty g) → Runs k (turned f at x) b to b₁ (came.Stopped at g)
+    → WritesEntry x b to b₁ (entryEnd.Faulty g) → WritesSection k (turned f at x) b to b₁ (sectionEnd.Stopped at g)
 runs-stop f faults = halts
 
 section-next : (records : Bool) (s : List ℕ) (left at : ℕ) → 0 < left
@@ -315,32 +320,34 @@ section-next records s (suc n) at h = let e : suc n - 1 ≡ n = omega arith in r
 
 -- the loop over a section's entries
 module _ (records : Bool) (s : List ℕ) (left at : ℕ) {k next to : ℕ} {whole : Run} {b₀ b : List ℕ}
-    (w : Continues (Runs k (sectionRun records s left at) b next) (Runs 0 whole b₀ to)) where
+    (w : Continues (WritesSection k (sectionRun records s left at) b next) (WritesSection 0 whole b₀ to)) where
   -- no entry is left
-  pub section-ends : left ≤ 0 → Runs 0 whole b₀ to b (came.To at next k)
+  pub section-ends : left ≤ 0 → WritesSection 0 whole b₀ to b (sectionEnd.To at next k)
   unfolding sectionRun
   section-ends h = let z : left ≡ 0 =
-      omega arith in w .goes b (came.To at next k)
+      omega arith in w .goes b (sectionEnd.To at next k)
       (rw z (runs {l = []} {n = 0} {m = k} {r = next} (omega arith) (nothing b next)))
 
-  module _ {x : Gone} {b₁ : List ℕ} (h : 0 < left) (p : Puts (partAt records s at) b next b₁ x) where
+  module _ {x : EntryEnd} {b₁ : List ℕ} (h : 0 < left) (p : WritesEntry (partAt records s at) b next b₁ x) where
     -- one more entry
-    pub section-goes : {opts behind n kind : ℕ} → x ≡ gone.To behind n kind → opts ≡ optCount kind
-        → Continues (Runs (k + opts) (sectionRun records s (left - 1) behind) b₁ n) (Runs 0 whole b₀ to)
+    pub section-goes : {opts behind n rtype : ℕ} → x ≡ entryEnd.To behind n rtype → opts ≡ optCount rtype
+        → Continues (WritesSection (k + opts) (sectionRun records s (left - 1) behind) b₁ n)
+        (WritesSection 0 whole b₀ to)
     section-goes q e =
         continues-step w (rw (section-next records s left at h)
         (runs-after (λ i. sectionRun records s (left - 1) i) at (rw q at p) (ap (λ (o : ℕ). k + o) e)))
 
     -- a faulty one
-    pub section-stops : {g : FaultRead} → x ≡ gone.Faulty g → Runs 0 whole b₀ to b₁ (came.Stopped at g)
-    section-stops {g} q = w .goes b₁ (came.Stopped at g)
+    pub section-stops : {g : FaultRead} → x ≡ entryEnd.Faulty g
+        → WritesSection 0 whole b₀ to b₁ (sectionEnd.Stopped at g)
+    section-stops {g} q = w .goes b₁ (sectionEnd.Stopped at g)
         (rw (section-next records s left at h) (runs-stop (λ i. sectionRun records s (left - 1) i) (rw q at p)))
 
-pub opt-yes : (kind : ℕ) → kind ≡ 41 → 1 ≡ optCount kind
-opt-yes kind e = rw e
+pub opt-yes : (rtype : ℕ) → rtype ≡ 41 → 1 ≡ optCount rtype
+opt-yes rtype e = rw e
 
-pub opt-no : (kind : ℕ) → (kind ≡ 41 → ⊥) → 0 ≡ optCount kind
-opt-no kind h = rw (ne-eqb kind 41 h)
+pub opt-no : (rtype : ℕ) → (rtype ≡ 41 → ⊥) → 0 ≡ optCount rtype
+opt-no rtype h = rw (ne-eqb rtype 41 h)
 
 -- ---- the message
 -- octets before a run, and one run after another, of which the last one's count stays
@@ -362,44 +369,49 @@ sectionsRun s (suc n) i at =
 unfoldable pub messageRun : List ℕ → Run
 messageRun s = octetsThen (take 12 s) (sectionsRun s 3 0 12)
 
-runs-join : {k : ℕ} {l b b₁ b₂ : List ℕ} {to n : ℕ} {u : Run} {r : Came} → Wrote b to l b₁ n → Runs k u b₁ n b₂ r
-    → Runs k (octetsThen l u) b to b₂ r
+runs-join : {k : ℕ} {l b b₁ b₂ : List ℕ} {to n : ℕ} {u : Run} {r : SectionEnd} → Wrote b to l b₁ n
+    → WritesSection k u b₁ n b₂ r
+    → WritesSection k (octetsThen l u) b to b₂ r
 runs-join p (runs {n = i} {m = m} {r = r} q v) = runs {n = i} {m = m} {r = r} q (then p v)
 runs-join p halts = halts
 
-runs-chain : (f : ℕ → Run) {x : Run} {b b₁ : List ℕ} {to at n m : ℕ} → Runs 0 x b to b₁ (came.To at n m)
-    → Continues (Runs 0 (f at) b₁ n) (Runs 0 (chained x f) b to)
+runs-chain : (f : ℕ → Run) {x : Run} {b b₁ : List ℕ} {to at n m : ℕ} → WritesSection 0 x b to b₁ (sectionEnd.To at n m)
+    → Continues (WritesSection 0 (f at) b₁ n) (WritesSection 0 (chained x f) b to)
 runs-chain f (runs q v) = record { goes = λ b r d. runs-join v d }
 
-runs-halt : (f : ℕ → Run) {x : Run} {b b₁ : List ℕ} {to at : ℕ} {g : FaultRead} → Runs 0 x b to b₁ (came.Stopped at g)
-    → Runs 0 (chained x f) b to b₁ (came.Stopped at g)
+runs-halt : (f : ℕ → Run) {x : Run} {b b₁ : List ℕ} {to at : ℕ} {g : FaultRead}
+    → WritesSection 0 x b to b₁ (sectionEnd.Stopped at g)
+    → WritesSection 0 (chained x f) b to b₁ (sectionEnd.Stopped at g)
 runs-halt f halts = halts
 
 -- the loop over the sections before the last
 module _ (s : List ℕ) (i at : ℕ) {next to : ℕ} {b₀ b : List ℕ}
-    (w : Continues (Runs 0 (sectionsRun s (3 - i) i at) b next) (Runs 0 (sectionsRun s 3 0 12) b₀ to)) where
-  module _ (h : i < 3) {count : ℕ} (c : count ≡ be16At s (4 + 2 * i)) {b₁ : List ℕ} {x : Came}
-      (p : Runs 0 (sectionRun (ltb 0 i) s count at) b next b₁ x) where
-    sections-next : sectionsRun s (3 - i) i at
-        ≡ chained (sectionRun (ltb 0 i) s count at) (λ n. sectionsRun s (3 - (i + 1)) (i + 1) n)
-    unfolding sectionsRun
-    sections-next = let e : 3 - i ≡ suc (3 - (i + 1)) = omega arith in rw (e, c)
+    (w : Continues (WritesSection 0 (sectionsRun s (3 - i) i at) b next) (WritesSection 0 (sectionsRun s 3 0 12) b₀ to))
+  where
+    module _ (h : i < 3) {count : ℕ} (c : count ≡ be16At s (4 + 2 * i)) {b₁ : List ℕ} {x : SectionEnd}
+        (p : WritesSection 0 (sectionRun (ltb 0 i) s count at) b next b₁ x) where
+      sections-next : sectionsRun s (3 - i) i at
+          ≡ chained (sectionRun (ltb 0 i) s count at) (λ n. sectionsRun s (3 - (i + 1)) (i + 1) n)
+      unfolding sectionsRun
+      sections-next = let e : 3 - i ≡ suc (3 - (i + 1)) = omega arith in rw (e, c)
 
-    -- one more section
-    pub sections-goes : {after n m : ℕ} → x ≡ came.To after n m
-        → Continues (Runs 0 (sectionsRun s (3 - (i + 1)) (i + 1) after) b₁ n) (Runs 0 (sectionsRun s 3 0 12) b₀ to)
-    sections-goes q = continues-step w (rw sections-next (runs-chain _ (rw q at p)))
+      -- one more section
+      pub sections-goes : {after n m : ℕ} → x ≡ sectionEnd.To after n m
+          → Continues (WritesSection 0 (sectionsRun s (3 - (i + 1)) (i + 1) after) b₁ n)
+          (WritesSection 0 (sectionsRun s 3 0 12) b₀ to)
+      sections-goes q = continues-step w (rw sections-next (runs-chain _ (rw q at p)))
 
-    -- an entry of it has a fault
-    pub sections-stop : {o : List ℕ} {j : ℕ} {g : FaultRead} → Wrote o 0 (take 12 s) b₀ to → x ≡ came.Stopped j g
-        → Runs 0 (messageRun s) o 0 b₁ x
-    unfolding messageRun
-    sections-stop d q = runs-join d (w .goes b₁ x (rw (sections-next, q) (runs-halt _ (rw q at p))))
+      -- an entry of it has a fault
+      pub sections-stop : {o : List ℕ} {j : ℕ} {g : FaultRead} → Wrote o 0 (take 12 s) b₀ to → x ≡ sectionEnd.Stopped j g
+          → WritesSection 0 (messageRun s) o 0 b₁ x
+      unfolding messageRun
+      sections-stop d q = runs-join d (w .goes b₁ x (rw (sections-next, q) (runs-halt _ (rw q at p))))
 
-  -- the last section
-  pub sections-end : {o b₁ : List ℕ} {count : ℕ} {x : Came} → Wrote o 0 (take 12 s) b₀ to → i ≤ 3 → 3 ≤ i
-      → count ≡ be16At s 10 → Runs 0 (sectionRun true s count at) b next b₁ x → Runs 0 (messageRun s) o 0 b₁ x
-  unfolding messageRun sectionsRun
-  sections-end {b₁ = b₁} {x = x} d h k c p =
-      let e : i ≡ 3 = omega arith in
-      runs-join d (w .goes b₁ x (rw e (rw c at p)))
+    -- the last section
+    pub sections-end : {o b₁ : List ℕ} {count : ℕ} {x : SectionEnd} → Wrote o 0 (take 12 s) b₀ to → i ≤ 3 → 3 ≤ i
+        → count ≡ be16At s 10 → WritesSection 0 (sectionRun true s count at) b next b₁ x
+        → WritesSection 0 (messageRun s) o 0 b₁ x
+    unfolding messageRun sectionsRun
+    sections-end {b₁ = b₁} {x = x} d h k c p =
+        let e : i ≡ 3 = omega arith in
+        runs-join d (w .goes b₁ x (rw e (rw c at p)))

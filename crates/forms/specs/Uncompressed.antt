@@ -24,10 +24,10 @@ use Rattle.records.specs.Decode.{headerOf, zOf, sectionsOf, messageRead, Decode
 use Rattle.records.proofs.MessageLaws.{section-step, section-stop}
 use Rattle.records.proofs.Kept.{header-same}
 use Rattle.forms.specs.Putting.{Part, mapped, questionPart, recordPart, partAt, Run, ran, halted, partThen}
-use Rattle.forms.specs.Putting.{turned, sectionRun, Runs, runs, halts, octetsThen, chained, sectionsRun}
+use Rattle.forms.specs.Putting.{turned, sectionRun, WritesSection, runs, halts, octetsThen, chained, sectionsRun}
 use Rattle.forms.specs.Putting.{messageRun}
-use Rattle.forms.specs.declared.Came.{Came}
-use Rattle.forms.specs.declared.Came.the-variants as came
+use Rattle.forms.specs.declared.SectionEnd.{SectionEnd}
+use Rattle.forms.specs.declared.SectionEnd.the-variants as sectionEnd
 use Rattle.octets.specs.declared.Outcome.the-variants as outcome
 use Rattle.forms.specs.declared.Scan.{Scan}
 
@@ -260,31 +260,33 @@ module _ (s b : List ℕ) {r : Scan} where
   z-set h k z p = refusing 3 0 (rw (le-ltb 65535 (length s) h, le-ltb (length s) 12 k, z)) p refl
 
 -- what the answer of a run says
-told-ran : {u : Run} {b b′ : List ℕ} {to at size m : ℕ} → Runs 0 u b to b′ (came.To at size m)
+told-ran : {u : Run} {b b′ : List ℕ} {to at size m : ℕ} → WritesSection 0 u b to b′ (sectionEnd.To at size m)
     → (l : List ℕ) × (n : ℕ) × (u ≡ ran l at n) × (m ≡ 0 + n) × Wrote b to l b′ size
 told-ran (runs {l = l} {n = n} q v) = (l, n, refl, q, v)
 
-told-halted : {u : Run} {b b′ : List ℕ} {to at : ℕ} {g : FaultRead} → Runs 0 u b to b′ (came.Stopped at g)
+told-halted : {u : Run} {b b′ : List ℕ} {to at : ℕ} {g : FaultRead}
+    → WritesSection 0 u b to b′ (sectionEnd.Stopped at g)
     → (fault : Fault) × (u ≡ halted at fault) × (g ≡ faultOf fault)
 told-halted (halts {fault = fault}) = (fault, refl, refl)
 
 -- a second run that is known to meet no fault
-told-again : {u : Run} {b b′ : List ℕ} {to : ℕ} {y : Came} (l : List ℕ) (at n : ℕ) → Runs 0 u b to b′ y → u ≡ ran l at n
+told-again : {u : Run} {b b′ : List ℕ} {to : ℕ} {y : SectionEnd} (l : List ℕ) (at n : ℕ) → WritesSection 0 u b to b′ y
+    → u ≡ ran l at n
     → (r : ℕ) × Wrote b to l b′ r
 told-again {b = b} {b′ = b′} {to = to} l at n (runs {r = r} q v) e =
     (r, subst (λ (x : List ℕ). Wrote b to x b′ r) (ap textOf e) v)
 told-again l at n halts e = absurd (halted≢ran e)
 
 -- The first run: over octets within the limits of size, with Z clear, it leaves e of the empty part and answers x.
-pub record FirstRun (s e : List ℕ) (x : Came) : Type 0 where
-  pub ran : Runs 0 (messageRun s) [] 0 e x
+pub record FirstRun (s e : List ℕ) (x : SectionEnd) : Type 0 where
+  pub ran : WritesSection 0 (messageRun s) [] 0 e x
   pub none : length e ≡ 0
   pub octets : (j : ℕ) → Fits w8 (getD s j 0)
   pub small : length s ≤ 65535
   pub room : 12 ≤ length s
   pub clear : zOf s ≡ 1 → ⊥
 
-module _ (s b e : List ℕ) {x : Came} (f : FirstRun s e x) where
+module _ (s b e : List ℕ) {x : SectionEnd} (f : FirstRun s e x) where
   decoded : (l : List ℕ) (at n : ℕ) → messageRun s ≡ ran l at n → Whole s (f .small) (f .room) (f .clear) l at n
   decoded l at n u = decode-ran s (f .small) (f .room) (f .clear) (λ j. f .octets j .fits) l at n u
 
@@ -292,7 +294,7 @@ module _ (s b e : List ℕ) {x : Came} (f : FirstRun s e x) where
   same-buffer = ap (λ (y : List ℕ). y ++ b) (empty e (f .none))
 
   -- an entry has a fault
-  pub at-fault : {at k : ℕ} {g : FaultRead} {r : Scan} → x ≡ came.Stopped at g → k ≡ faultNumber g
+  pub at-fault : {at k : ℕ} {g : FaultRead} {r : Scan} → x ≡ sectionEnd.Stopped at g → k ≡ faultNumber g
       → r ≡ scanOf (refused k at) → Uncompressed s b r (e ++ b)
   at-fault {at} {k} q i p =
       let (fault, u, v) = told-halted (rw q at (f .ran)) in
@@ -300,7 +302,7 @@ module _ (s b e : List ℕ) {x : Came} (f : FirstRun s e x) where
       (p ∙ ap (λ (n : ℕ). scanOf (refused n at)) (i ∙ ap faultNumber v ∙ number-same (fault .kind) (fault .octet)))
       same-buffer
 
-  module _ {at size m : ℕ} (q : x ≡ came.To at size m) where
+  module _ {at size m : ℕ} (q : x ≡ sectionEnd.To at size m) where
     -- octets after the last record
     pub left-over : {r : Scan} → at < length s → r ≡ scanOf (refused 8 at) → Uncompressed s b r (e ++ b)
     left-over h p =
@@ -345,8 +347,8 @@ module _ (s b e : List ℕ) {x : Came} (f : FirstRun s e x) where
             ∙ rw (lt-leb (length l) (length b) (omega (arith, w .place))))
 
 -- it fits, and is written by the second run
-pub with-room : (s b e : List ℕ) {b′ : List ℕ} {y : Came} → Runs 0 (messageRun s) (e ++ b) 0 b′ y
-    → {x : Came} (f : FirstRun s e x) {at size m : ℕ} → x ≡ came.To at size m → length s ≤ at → size ≤ 65535
+pub with-room : (s b e : List ℕ) {b′ : List ℕ} {y : SectionEnd} → WritesSection 0 (messageRun s) (e ++ b) 0 b′ y
+    → {x : SectionEnd} (f : FirstRun s e x) {at size m : ℕ} → x ≡ sectionEnd.To at size m → length s ≤ at → size ≤ 65535
     → size ≤ length (e ++ b) → Uncompressed s b (record { outcome = outcome.Length size; opts = m }) b′
 with-room s b e {b′} c f {at} q h k i =
     let same = same-buffer s b e f in

@@ -8,9 +8,9 @@ use octets::put_be16;
 use octets::put_be32;
 use rdata::RdataEnd;
 use rdata::put_rdata;
-use records::Head;
 use records::Question;
 use records::Record;
+use records::RecordFields;
 use records::question_at;
 use records::record_at;
 ghost use mathlib.Core.Path.{_≡_};
@@ -22,62 +22,62 @@ ghost use Rattle.octets.specs.Fields.{be16};
 ghost use Rattle.octets.specs.Overlay.{Wrote};
 ghost use Rattle.names.specs.Answer.{faultNumber};
 ghost use Rattle.records.specs.Decode.{refused};
-ghost use Rattle.forms.specs.Putting.{partAt, PutsSized, SizedTo, fieldsPart, Puts, Goes, optCount};
-ghost use Rattle.forms.specs.Putting.{sectionRun, Runs, Comes, messageRun};
+ghost use Rattle.forms.specs.Putting.{partAt, PutsSized, SizedTo, fieldsPart, WritesEntry, EntryBound, optCount};
+ghost use Rattle.forms.specs.Putting.{sectionRun, WritesSection, SectionBound, messageRun};
 ghost use Rattle.forms.specs.Uncompressed.{scanOf, Uncompressed};
 
 // The offset after an entry, the next place of the form and the entry's TYPE, or the entry's fault.
-enum Gone {
+enum EntryEnd {
     To(usize, usize, u32),
     Faulty(Fault),
 }
 
 // The offset after a section, the next place of the form and the number of entries of TYPE 41, or the faulty entry's
 // offset with its fault.
-enum Came {
+enum SectionEnd {
     To(usize, usize, usize),
     Stopped(usize, Fault),
 }
 
 // Writes a name, TYPE and CLASS.
-fn put_named(name: &[u8], kind: u32, class: u32, out: &mut [u8], to: usize) -> usize
-    requires { ⌜ (to < 2 ^ 30) × (length (now name) ≤ 255) × (kind < 65536) × (class < 65536) ⌝ }
-    ensures { λ r. ⌜ Wrote (now (out .entry)) to (now (name .entry) ++ be16 kind ++ be16 class) (now (out .exit)) r ⌝ }
+fn put_named(name: &[u8], rtype: u32, class: u32, out: &mut [u8], to: usize) -> usize
+    requires { ⌜ (to < 2 ^ 30) × (length (now name) ≤ 255) × (rtype < 65536) × (class < 65536) ⌝ }
+    ensures { λ r. ⌜ Wrote (now (out .entry)) to (now (name .entry) ++ be16 rtype ++ be16 class) (now (out .exit)) r ⌝ }
     ensures { λ r. ⌜ r ≡ to + length (now (name .entry)) + 4 ⌝ }
 {
     let typed = put_all(name, out, to);
-    let classed = put_be16(kind, out, typed);
+    let classed = put_be16(rtype, out, typed);
     put_be16(class, out, classed)
 }
 
 // Writes the question at an offset.
-fn put_question(s: &[u8], at: usize, out: &mut [u8], to: usize) -> Gone
+fn put_question(s: &[u8], at: usize, out: &mut [u8], to: usize) -> EntryEnd
     requires { ⌜ (length (now s) ≤ 65535) × (at ≤ length (now s)) × (to ≤ 255 * at) ⌝ }
-    ensures { λ r. ⌜ Puts (partAt false (now (s .entry)) at) (now (out .entry)) to (now (out .exit)) r ⌝ }
-    ensures { λ r. ⌜ Goes r (length (now (s .entry))) ⌝ }
+    ensures { λ r. ⌜ WritesEntry (partAt false (now (s .entry)) at) (now (out .entry)) to (now (out .exit)) r ⌝ }
+    ensures { λ r. ⌜ EntryBound r (length (now (s .entry))) ⌝ }
 {
     let read = question_at(s, at);
     let answer = read.answer;
     let name = read.name;
     match answer {
-        Question::Faulty(fault) => Gone::Faulty(fault),
+        Question::Faulty(fault) => EntryEnd::Faulty(fault),
         Question::Read(asked) => {
             let size = asked.size;
-            let end = put_named(&name[0..size], asked.kind, asked.class, out, to);
-            Gone::To(asked.next, end, asked.kind)
+            let end = put_named(&name[0..size], asked.rtype, asked.class, out, to);
+            EntryEnd::To(asked.next, end, asked.rtype)
         }
     }
 }
 
 // Writes RDLENGTH and RDATA: RDATA two octets further on, and then its length before it.
-fn put_sized(s: &[u8], head: Head, out: &mut [u8], to: usize) -> RdataEnd
+fn put_sized(s: &[u8], head: RecordFields, out: &mut [u8], to: usize) -> RdataEnd
     requires { ⌜ (length (now s) ≤ 65535) × (head .rdata + head .rdlength ≤ length (now s))
         × (to + 2 ≤ 255 * head .rdata) ⌝ }
     ensures { λ r. ⌜ PutsSized (now (s .entry)) head (now (out .entry)) to (now (out .exit)) r ⌝ }
     ensures { λ r. ⌜ SizedTo r head ⌝ }
 {
     let inside = to + 2;
-    let rdata = put_rdata(s, head.kind, head.rdata, head.rdlength, false, out, inside);
+    let rdata = put_rdata(s, head.rtype, head.rdata, head.rdlength, false, out, inside);
     let RdataEnd::To(end) = rdata else {
         return rdata;
     };
@@ -86,32 +86,32 @@ fn put_sized(s: &[u8], head: Head, out: &mut [u8], to: usize) -> RdataEnd
 }
 
 // Writes a record by its owner's form and its fields.
-fn put_fields(s: &[u8], form: &[u8], head: Head, out: &mut [u8], to: usize) -> Gone
-    requires { ⌜ (length (now s) ≤ 65535) × (length (now form) ≤ 255) × (head .kind < 65536) × (head .class < 65536)
+fn put_fields(s: &[u8], form: &[u8], head: RecordFields, out: &mut [u8], to: usize) -> EntryEnd
+    requires { ⌜ (length (now s) ≤ 65535) × (length (now form) ≤ 255) × (head .rtype < 65536) × (head .class < 65536)
         × (head .rdata + head .rdlength ≤ length (now s)) × (to + 265 ≤ 255 * head .rdata) ⌝ }
-    ensures { λ r. ⌜ Puts (fieldsPart (now (s .entry)) (now (form .entry)) head) (now (out .entry)) to
+    ensures { λ r. ⌜ WritesEntry (fieldsPart (now (s .entry)) (now (form .entry)) head) (now (out .entry)) to
         (now (out .exit)) r ⌝ }
-    ensures { λ r. ⌜ Goes r (length (now (s .entry))) ⌝ }
+    ensures { λ r. ⌜ EntryBound r (length (now (s .entry))) ⌝ }
 {
-    let classed = put_named(form, head.kind, head.class, out, to);
+    let classed = put_named(form, head.rtype, head.class, out, to);
     let place = put_be32(head.ttl, out, classed);
     match put_sized(s, head, out, place) {
-        RdataEnd::Misfit(fault) => Gone::Faulty(fault),
-        RdataEnd::To(end) => Gone::To(head.rdata + head.rdlength, end, head.kind),
+        RdataEnd::Misfit(fault) => EntryEnd::Faulty(fault),
+        RdataEnd::To(end) => EntryEnd::To(head.rdata + head.rdlength, end, head.rtype),
     }
 }
 
 // Writes the record at an offset.
-fn put_record(s: &[u8], at: usize, out: &mut [u8], to: usize) -> Gone
+fn put_record(s: &[u8], at: usize, out: &mut [u8], to: usize) -> EntryEnd
     requires { ⌜ (length (now s) ≤ 65535) × (at ≤ length (now s)) × (to ≤ 255 * at) ⌝ }
-    ensures { λ r. ⌜ Puts (partAt true (now (s .entry)) at) (now (out .entry)) to (now (out .exit)) r ⌝ }
-    ensures { λ r. ⌜ Goes r (length (now (s .entry))) ⌝ }
+    ensures { λ r. ⌜ WritesEntry (partAt true (now (s .entry)) at) (now (out .entry)) to (now (out .exit)) r ⌝ }
+    ensures { λ r. ⌜ EntryBound r (length (now (s .entry))) ⌝ }
 {
     let read = record_at(s, at);
     let answer = read.answer;
     let name = read.name;
     match answer {
-        Record::Faulty(fault) => Gone::Faulty(fault),
+        Record::Faulty(fault) => EntryEnd::Faulty(fault),
         Record::Read(head) => {
             let size = head.size;
             put_fields(s, &name[0..size], head, out, to)
@@ -120,10 +120,10 @@ fn put_record(s: &[u8], at: usize, out: &mut [u8], to: usize) -> Gone
 }
 
 // Writes the record at an offset, or the question.
-fn put_entry(s: &[u8], records: bool, at: usize, out: &mut [u8], to: usize) -> Gone
+fn put_entry(s: &[u8], records: bool, at: usize, out: &mut [u8], to: usize) -> EntryEnd
     requires { ⌜ (length (now s) ≤ 65535) × (at ≤ length (now s)) × (to ≤ 255 * at) ⌝ }
-    ensures { λ r. ⌜ Puts (partAt records (now (s .entry)) at) (now (out .entry)) to (now (out .exit)) r ⌝ }
-    ensures { λ r. ⌜ Goes r (length (now (s .entry))) ⌝ }
+    ensures { λ r. ⌜ WritesEntry (partAt records (now (s .entry)) at) (now (out .entry)) to (now (out .exit)) r ⌝ }
+    ensures { λ r. ⌜ EntryBound r (length (now (s .entry))) ⌝ }
 {
     if records {
         return put_record(s, at, out, to);
@@ -132,21 +132,29 @@ fn put_entry(s: &[u8], records: bool, at: usize, out: &mut [u8], to: usize) -> G
 }
 
 // 1 for TYPE 41, else 0.
-fn opt_of(kind: u32) -> usize
-    ensures { λ r. ⌜ r ≡ optCount kind ⌝ }
+fn opt_of(rtype: u32) -> usize
+    ensures { λ r. ⌜ r ≡ optCount rtype ⌝ }
     ensures { λ r. ⌜ r ≤ 1 ⌝ }
 {
-    if kind == 41 {
+    if rtype == 41 {
         return 1;
     }
     0
 }
 
 // Writes `count` records from an offset on, or questions.
-fn put_section(s: &[u8], records: bool, count: u32, at: usize, out: &mut [u8], to: usize) -> Came
+fn put_section(
+    s: &[u8],
+    records: bool,
+    count: u32,
+    at: usize,
+    out: &mut [u8],
+    to: usize,
+) -> SectionEnd
     requires { ⌜ (length (now s) ≤ 65535) × (at ≤ length (now s)) × (to ≤ 255 * at) ⌝ }
-    ensures { λ r. ⌜ Runs 0 (sectionRun records (now (s .entry)) count at) (now (out .entry)) to (now (out .exit)) r ⌝ }
-    ensures { λ r. ⌜ Comes r (length (now (s .entry))) ⌝ }
+    ensures { λ r. ⌜ WritesSection 0 (sectionRun records (now (s .entry)) count at) (now (out .entry)) to
+        (now (out .exit)) r ⌝ }
+    ensures { λ r. ⌜ SectionBound r (length (now (s .entry))) ⌝ }
 {
     let mut left = count as usize;
     let mut place = at;
@@ -154,31 +162,31 @@ fn put_section(s: &[u8], records: bool, count: u32, at: usize, out: &mut [u8], t
     let mut opts = 0;
     while left > 0 {
         match put_entry(s, records, place, out, next) {
-            Gone::Faulty(fault) => {
-                return Came::Stopped(place, fault);
+            EntryEnd::Faulty(fault) => {
+                return SectionEnd::Stopped(place, fault);
             }
-            Gone::To(behind, end, kind) => {
-                opts += opt_of(kind);
+            EntryEnd::To(behind, end, rtype) => {
+                opts += opt_of(rtype);
                 place = behind;
                 next = end;
                 left -= 1;
             }
         }
     }
-    Came::To(place, next, opts)
+    SectionEnd::To(place, next, opts)
 }
 
 // Writes the header's octets and the sections by the header's counts.
-fn put_message(s: &[u8], out: &mut [u8]) -> Came
+fn put_message(s: &[u8], out: &mut [u8]) -> SectionEnd
     requires { ⌜ (length (now s) ≤ 65535) × (12 ≤ length (now s)) ⌝ }
-    ensures { λ r. ⌜ Runs 0 (messageRun (now (s .entry))) (now (out .entry)) 0 (now (out .exit)) r ⌝ }
+    ensures { λ r. ⌜ WritesSection 0 (messageRun (now (s .entry))) (now (out .entry)) 0 (now (out .exit)) r ⌝ }
 {
     let mut next = put_all(&s[0..12], out, 0);
     let mut at = 12;
     let mut i = 0;
     while i < 3 {
         let section = put_section(s, i > 0, be16_at(s, 4 + 2 * i), at, out, next);
-        let Came::To(after, end, _) = section else {
+        let SectionEnd::To(after, end, _) = section else {
             return section;
         };
         at = after;
@@ -234,8 +242,8 @@ pub fn uncompress(s: &[u8], out: &mut [u8]) -> Scan
         return refuse(3, 0);
     }
     match put_message(s, &mut out[..0]) {
-        Came::Stopped(at, fault) => refuse(number_of(fault), at),
-        Came::To(at, size, opts) => {
+        SectionEnd::Stopped(at, fault) => refuse(number_of(fault), at),
+        SectionEnd::To(at, size, opts) => {
             if at < s.len() {
                 return refuse(8, at);
             }

@@ -26,8 +26,8 @@ use Rattle.records.specs.RecordLaws.{question-parts, record-parts, record-long}
 use Rattle.spelling.specs.Spelling.{spelled, labelText, nameText, plus, minus, signed, signedText, printable?}
 use Rattle.spelling.specs.Spelling.{stringOctet, stringText}
 use Rattle.spelling.specs.Width.{spelled-width, width-range}
-use Rattle.options.specs.Options.{rows, members, Form, hexObject, octetList, expiry, hexList, word, padding, wordList}
-use Rattle.options.specs.Options.{extendedError, unlisted, formOf, Value}
+use Rattle.options.specs.Options.{rows, members, Syntax, hexObject, octetList, expiry, hexList, word, padding, wordList}
+use Rattle.options.specs.Options.{extendedError, unlisted, syntaxOf, Value}
 use Rattle.options.specs.Options.{zero?, words, present, shape, errorTail, valueText, EdnsOption, chosen, memberOf}
 use Rattle.options.specs.Options.{memberText}
 use Rattle.edns.specs.Edns.{rcodes, Edns, ednsItem, ednsRecord, edns?, option?, optionForm, fullRcode, rising?, flags}
@@ -204,14 +204,14 @@ error-short [] = record { short = omega arith }
 error-short (x ∷ l) = record { short = omega (arith, (quote ",\"TEXT\":" ⊕ string-short (x ∷ l) ⊕ quote "}") .short) }
 
 -- the text of a value that has its form's shape
-abbrev Holds : (form : Form) → Option (Value form) → ℕ → Type 0
+abbrev Holds : (form : Syntax) → Option (Value form) → ℕ → Type 0
 Holds form none n = Unit {0}
 Holds form (some v) n = Short (valueText form v) n
 
 within : {l : List ℕ} {a : ℕ} (b : ℕ) → a ≤ b → Short l a → Short l b
 within b h k = record { short = omega (arith, h, k .short) }
 
-shape-short : (form : Form) (l : List ℕ) → Octets l → Holds form (shape form l) (10 * length l + 27)
+shape-short : (form : Syntax) (l : List ℕ) → Octets l → Holds form (shape form l) (10 * length l + 27)
 unfolding shape valueText
 shape-short hexObject l h = within _ (omega arith) (quote "{\"HEX\":" ⊕ hex-short l ⊕ quote "}")
 shape-short octetList l h = within _ (omega arith) (numbers-short l h)
@@ -269,8 +269,8 @@ members-short : (n : ℕ) → Short (rowText n members) 9
 unfolding members rows
 members-short n = textOf-short members tt n
 
-chosen-short : (code : ℕ) (l : List ℕ) → code < 65536 → (x : Option (Value (formOf code)))
-    → Holds (formOf code) x (10 * length l + 27) → Short (memberText (chosen code l x)) (10 * length l + 39)
+chosen-short : (code : ℕ) (l : List ℕ) → code < 65536 → (x : Option (Value (syntaxOf code)))
+    → Holds (syntaxOf code) x (10 * length l + 27) → Short (memberText (chosen code l x)) (10 * length l + 39)
 unfolding memberText
 chosen-short code l h none k =
     within _ (omega arith) (quote "\"OPT" ⊕ decimal-five code h ⊕ quote "\":" ⊕ hex-short l)
@@ -281,8 +281,8 @@ unfolding memberOf option?
 member-short o h =
     let code = ltb→lt (o .code) 65536 (and-left (u16? (o .code)) _ h) in
     let octets = octets-in (o .value) (and-right (u16? (o .code)) _ h) in
-    let k = chosen-short (o .code) (o .value) code (shape (formOf (o .code)) (o .value))
-    (shape-short (formOf (o .code)) (o .value) octets) in
+    let k = chosen-short (o .code) (o .value) code (shape (syntaxOf (o .code)) (o .value))
+    (shape-short (syntaxOf (o .code)) (o .value) octets) in
     omega (arith, k .short, option-long o)
 
 -- ---- lists of what is made of the elements of a list

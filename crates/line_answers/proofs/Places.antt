@@ -12,7 +12,7 @@ use Rattle.octets.specs.Lists.{Octets}
 use Rattle.octets.specs.Fields.{be16At}
 use Rattle.octets.specs.Answer.{Output, output, Answer, success, refusal, Result, overwritten, delivered}
 use Rattle.octets.specs.Answer as answer
-use Rattle.octets.specs.Parsed.{Parsed, took, stuck}
+use Rattle.octets.specs.Parsed.{Parsed, parsed, failed}
 use Rattle.octets.specs.Calls.{answerOf, Gives}
 use Rattle.octets.specs.declared.Outcome.{Outcome}
 use Rattle.octets.specs.declared.Outcome.the-variants.{Refused}
@@ -29,7 +29,7 @@ use Rattle.json.specs.Document.{Document}
 use Rattle.json.specs.Converted.{outputOf, converted, toText}
 use Rattle.strict.specs.Meaning.{meaning}
 use Rattle.strict.specs.Parser.{parse}
-use Rattle.strict.specs.Reading.{meant, parsed, reading, toWire}
+use Rattle.strict.specs.Reading.{ofMeaning, ofParsed, reading, toWire}
 
 -- reading ended at an offset, or at a faulty entry, within `size` octets
 abbrev Inside : ℕ → Reached → Type 0
@@ -111,13 +111,13 @@ reading-at t = read (parse t)
     size true l = tt
     size false l = omega arith
 
-    mean : (o : Option View) → At 0 (meant o)
+    mean : (o : Option View) → At 0 (ofMeaning o)
     mean none = omega arith
     mean (some v) = size (within? v) (form (view.messageOf v))
 
-    read : (o : Parsed Document) → At 0 (parsed o)
-    read (took d r) = mean (meaning d)
-    read (stuck w) = omega arith
+    read : (o : Parsed Document) → At 0 (ofParsed o)
+    read (parsed d r) = mean (meaning d)
+    read (failed w) = omega arith
 
 abbrev PlacedAt : ℕ → Answer → Type 0
 PlacedAt size (success n) = Unit {0}

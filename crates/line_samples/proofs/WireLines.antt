@@ -5,7 +5,7 @@ use Prim.Native.Nat.{ℕ}
 use lib.ListN.{replicate}
 use Rattle.octets.specs.Decimal.{natural, positive, decimal}
 use Rattle.octets.specs.Hexadecimal.{hex, hexPairs, unhex, hexText}
-use Rattle.octets.specs.Codec.{tried}
+use Rattle.octets.specs.Codec.{tableParser}
 use Rattle.octets.specs.Lists.{ascii, lookup, rowText, key?, each}
 use Rattle.names.specs.Name.{name?, label?, nameForm}
 use Rattle.names.specs.Walk.{walk, nameFrom}
@@ -14,7 +14,7 @@ use Rattle.records.specs.Layout.{rdataFits?, layouts, layoutOf, pieces, rdataAt
 use Rattle.edns.specs.Edns.{rcodes, edns?, option?, rising?, divided, optionsOf, ednsOf, ednsRecord, optionForm}
 use Rattle.edns.specs.Edns.{small-option?, flags}
 use Rattle.spelling.specs.Spelling.{plain?, printable?, spelled, stringOctet}
-use Rattle.options.specs.Options.{members, rows, formOf, shape, words}
+use Rattle.options.specs.Options.{members, rows, syntaxOf, shape, words}
 use Rattle.json.specs.Sample.{textWith}
 use Rattle.json.specs.View.{view?, additionals?, additional?, settled?, opt-entry?, messageOf, recordOf}
 use Rattle.json.specs.Limits.{within?, small-rdata?, small-options?}
@@ -61,5 +61,5 @@ samples =
 
 -- every row, computed
 pub samples-hold : map (λ (s : Sample). wireLine (s .line)) samples ≡ map (λ (s : Sample). s .answer) samples
-unfolding samples withinLine wireLine answerText refusalLine parse document head natural positive questionCodec recordCodec name rootOrLabels label spelledOctet spelledAt escape ddd leads? coded-from? coded? plain? signedNumber hex hexPairs unhex string stringChars stringChar stringAt bare? printable? quoted itemCodec ednsElement optionMembers member knownMember otherMember value expiryNumber tried members rows flags rcodes formOf lookup rowText decimal spelled stringOctet hexText reading meaning documentView itemRecord itemEdns itemAdditional unsigned agrees? counts? ttl? ednsItem? item? view? additionals? additional? settled? opt-entry? edns? option? header? question? record? name? label? nameForm rdataFits? walk nameFrom layouts layoutOf pieces rdataAt rising? divided optionsOf ednsOf key? shape words value? member? optionOf octetsOf within? small-rdata? small-option? small-options? messageOf recordOf ednsRecord optionForm each form headerForm questionForm recordForm
+unfolding samples withinLine wireLine answerText refusalLine parse document head natural positive questionCodec recordCodec name rootOrLabels label spelledOctet spelledAt escape ddd leads? coded-from? coded? plain? signedNumber hex hexPairs unhex string stringChars stringChar stringAt bare? printable? quoted itemCodec ednsElement optionMembers member knownMember otherMember value expiryNumber tableParser members rows flags rcodes syntaxOf lookup rowText decimal spelled stringOctet hexText reading meaning documentView itemRecord itemEdns itemAdditional unsigned agrees? counts? ttl? ednsItem? item? view? additionals? additional? settled? opt-entry? edns? option? header? question? record? name? label? nameForm rdataFits? walk nameFrom layouts layoutOf pieces rdataAt rising? divided optionsOf ednsOf key? shape words value? member? optionOf octetsOf within? small-rdata? small-option? small-options? messageOf recordOf ednsRecord optionForm each form headerForm questionForm recordForm
 samples-hold = refl

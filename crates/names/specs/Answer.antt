@@ -76,11 +76,11 @@ octet-same short octet = refl
 octet-same surplus octet = refl
 
 -- the answer of a fault
-unfoldable pub failed : Fault → NameRead
-failed fault = record { answer = Faulty fault; octets = replicate 255 0 }
+unfoldable pub faultRead : Fault → NameRead
+faultRead fault = record { answer = Faulty fault; octets = replicate 255 0 }
 
 -- the answer of a walk: a name's form is in the first octets
 unfoldable pub nameRead : walk.Named → NameRead
 nameRead (named n next) =
     record { answer = Read next (length (nameForm n)); octets = nameForm n ++ replicate (255 - length (nameForm n)) 0 }
-nameRead (faulty fault) = failed (faultOf fault)
+nameRead (faulty fault) = faultRead (faultOf fault)

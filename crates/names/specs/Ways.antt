@@ -18,7 +18,7 @@ use Rattle.names.specs.Walk as walk
 use Rattle.names.specs.NameLaws.{part-long, read-sized}
 use Rattle.names.specs.Steps.{walkOn, name-walk, LengthOctet, step-past, step-root, step-cut, step-long}
 use Rattle.names.specs.Steps.{step-label, step-reserved, step-half, step-low, step-far, step-jump}
-use Rattle.names.specs.Answer.{limitOf, faultOf, pastOf, failed, nameRead}
+use Rattle.names.specs.Answer.{limitOf, faultOf, pastOf, faultRead, nameRead}
 use Rattle.names.specs.declared.Fault.{Fault}
 use Rattle.names.specs.declared.Fault.the-variants.{Reserved, Target, Long}
 use Rattle.names.specs.declared.Limit.{Limit}
@@ -69,7 +69,7 @@ finished next total form (named n end) =
       answer = Read (ownEnd next end) (total + length (nameForm n));
       octets = overlay form total (each labelForm n);
     }
-finished next total form (faulty fault) = failed (faultOf fault)
+finished next total form (faulty fault) = faultRead (faultOf fault)
 
 -- two answers of a name are equal by their parts
 read-same : {a b : ℕ} {m n : ℕ} {k l : List ℕ} → a ≡ b → m ≡ n → k ≡ l
@@ -151,7 +151,7 @@ keep-more {s} {at = at} l k h p q =
 module _ (s : List ℕ) {v : NameRead} (form : List ℕ) (limit : Limit) (run next total at : ℕ) {end : ℕ}
     (w : Remains v (readFrom s form limit run next total at)) (b : end ≡ endOf s (limitOf limit)) where
   -- the length octet is past the end
-  pub name-past : {f : Fault} {r : NameRead} → end ≤ at → f ≡ pastOf limit at → r ≡ failed f → r ≡ v
+  pub name-past : {f : Fault} {r : NameRead} → end ≤ at → f ≡ pastOf limit at → r ≡ faultRead f → r ≡ v
   unfolding finished
   name-past h p q = q ∙ rw (p, w .goes, step-past s (limitOf limit) run total at (omega arith))
 
@@ -168,27 +168,27 @@ module _ (s : List ℕ) {v : NameRead} (form : List ℕ) (limit : Limit) (run ne
 
     module _ (c : 63 < x) where
       -- top bits 01 or 10
-      pub bits-reserved : {r : NameRead} → x < 192 → r ≡ failed (Reserved at) → r ≡ v
+      pub bits-reserved : {r : NameRead} → x < 192 → r ≡ faultRead (Reserved at) → r ≡ v
       unfolding finished
       bits-reserved p q = q ∙ rw (w .goes, step-reserved here run total c p)
 
       -- a pointer
       module _ (d : 192 ≤ x) where
         -- its second octet is past the end
-        pub pointer-cut : {f : Fault} {r : NameRead} → end ≤ at + 1 → f ≡ pastOf limit at → r ≡ failed f → r ≡ v
+        pub pointer-cut : {f : Fault} {r : NameRead} → end ≤ at + 1 → f ≡ pastOf limit at → r ≡ faultRead f → r ≡ v
         unfolding finished
         pointer-cut i p q = q ∙ rw (p, w .goes, step-half here run total c d (omega arith))
 
         -- y is its second octet
         module _ {y : ℕ} (i : at + 1 < end) (j : y ≡ getD s (at + 1) 0) where
           -- the target is inside the header
-          pub target-low : {r : NameRead} → (x - 192) * 256 + y < 12 → r ≡ failed (Target at) → r ≡ v
+          pub target-low : {r : NameRead} → (x - 192) * 256 + y < 12 → r ≡ faultRead (Target at) → r ≡ v
           unfolding finished
           target-low p q = q ∙ rw (w .goes, step-low here run total c d (omega arith) j p)
 
           module _ (g : 12 ≤ (x - 192) * 256 + y) where
             -- the target is not below the start of the run
-            pub target-far : {r : NameRead} → run ≤ (x - 192) * 256 + y → r ≡ failed (Target at) → r ≡ v
+            pub target-far : {r : NameRead} → run ≤ (x - 192) * 256 + y → r ≡ faultRead (Target at) → r ≡ v
             unfolding finished
             target-far p q = q ∙ rw (w .goes, step-far here run total c d (omega arith) j g p)
 
@@ -209,7 +209,7 @@ module _ {s : List ℕ} {v : NameRead} (form : List ℕ) {limit : Limit} (run ne
   at-label = record { within = omega arith; octet = l .octet }
 
   -- the end comes inside it
-  pub label-cut : {f : Fault} {r : NameRead} {k : ℕ} → k < x → end ≤ at + 1 + k → f ≡ pastOf limit at → r ≡ failed f
+  pub label-cut : {f : Fault} {r : NameRead} {k : ℕ} → k < x → end ≤ at + 1 + k → f ≡ pastOf limit at → r ≡ faultRead f
       → r ≡ v
   unfolding finished
   label-cut i j p q = q ∙ rw (p, w .goes, step-cut at-label run total (l .some) (l .few) (omega arith))
@@ -217,7 +217,7 @@ module _ {s : List ℕ} {v : NameRead} (form : List ℕ) {limit : Limit} (run ne
   -- all its k octets are within the end
   module _ {k : ℕ} (i : x ≤ k) (j : at + 1 + k ≤ end) where
     -- the name has over 255 octets
-    pub label-long : {r : NameRead} → 254 < total + (x + 1) → r ≡ failed (Long at) → r ≡ v
+    pub label-long : {r : NameRead} → 254 < total + (x + 1) → r ≡ faultRead (Long at) → r ≡ v
     unfolding finished
     label-long p q = q ∙ rw (w .goes, step-long at-label run total (l .some) (l .few) (omega arith) p)
 

@@ -11,8 +11,8 @@ use lib.Dec.{T, T-not, eqb, eqb-refl, eqb→eq}
 use lib.ListN.{length, length-append}
 use Rattle.octets.specs.Lists.{ascii, none?, all, All, key?, rowText, ended, listed}
 use Rattle.octets.specs.Bits.{is-true, is-false, and-left, and-right}
-use Rattle.octets.specs.Parsed.{Parsed, took, stuck, and-then, or-else, otherwise, strip, Holds, missed, found}
-use Rattle.octets.specs.Parsed.{took-value, took-rest, held, is-stuck, map-holds, then-holds, or-holds}
+use Rattle.octets.specs.Parsed.{Parsed, parsed, failed, and-then, or-else, otherwise, strip, Holds, missed, found}
+use Rattle.octets.specs.Parsed.{parsed-value, parsed-rest, held, is-failed, map-holds, then-holds, or-holds}
 use Rattle.octets.specs.Parsed.{otherwise-holds, strip-back, strip-sound}
 
 -- ---- the fronts of texts
@@ -51,49 +51,50 @@ Any r = Unit {0}
 -- such a text
 pub record Codec {A : Type 0} (I : A → Type 0) (f : A → List ℕ) (F : List ℕ → Type 0) : Type 0 where
   pub parse : List ℕ → Parsed A
-  pub back : (a : A) (r : List ℕ) → I a → F r → parse (f a ++ r) ≡ took a r
+  pub back : (a : A) (r : List ℕ) → I a → F r → parse (f a ++ r) ≡ parsed a r
   pub sound : (t : List ℕ) → Holds (λ a r. I a × (f a ++ r ≡ t)) (parse t)
 
 -- ---- what follows
 module _ {A : Type 0} {I : A → Type 0} {f : A → List ℕ} {F : List ℕ → Type 0} (p : Codec I f F) where
   -- what is taken is in range, and written so
-  pub exact : (t : List ℕ) (a : A) (r : List ℕ) → p .parse t ≡ took a r → I a × (f a ++ r ≡ t)
+  pub exact : (t : List ℕ) (a : A) (r : List ℕ) → p .parse t ≡ parsed a r → I a × (f a ++ r ≡ t)
   exact t a r = held (p .sound t)
 
   -- what is in range and written so is taken, before a text that may follow
-  pub taken : (t : List ℕ) (a : A) (r : List ℕ) → I a → F r → f a ++ r ≡ t → p .parse t ≡ took a r
+  pub taken : (t : List ℕ) (a : A) (r : List ℕ) → I a → F r → f a ++ r ≡ t → p .parse t ≡ parsed a r
   taken t a r h m e = rw (← e) (p .back a r h m)
 
   -- where a text begins with no text of the range, the parser stops
-  pub absent : (t : List ℕ) → ((a : A) (r : List ℕ) → I a → f a ++ r ≡ t → ⊥) → (w : List ℕ) × (p .parse t ≡ stuck w)
-  absent t h = is-stuck (p .sound t) λ a r k. h a r (k .0) (k .1)
+  pub absent : (t : List ℕ) → ((a : A) (r : List ℕ) → I a → f a ++ r ≡ t → ⊥) → (w : List ℕ) × (p .parse t ≡ failed w)
+  absent t h = is-failed (p .sound t) λ a r k. h a r (k .0) (k .1)
 
   -- a text and what follows it determine what was written
   pub unique : (a b : A) (r s : List ℕ) → I a → I b → F r → F s → f a ++ r ≡ f b ++ s → (a ≡ b) × (r ≡ s)
   unique a b r s h k m n e =
-      let z : _≡_ {A = Parsed A} (took a r) (took b s) = sym (p .back a r h m) ∙ ap (p .parse) e ∙ p .back b s k n in
-      (took-value z, took-rest z)
+      let z : _≡_ {A = Parsed A} (parsed a r) (parsed b s) = sym (p .back a r h m) ∙ ap (p .parse) e
+      ∙ p .back b s k n in
+      (parsed-value z, parsed-rest z)
 
   -- a text and nothing after it
   abbrev pub whole : List ℕ → Parsed A
-  whole t = and-then (p .parse t) λ a r. cond (none? r) (took a []) (stuck r)
+  whole t = and-then (p .parse t) λ a r. cond (none? r) (parsed a []) (failed r)
 
-  pub whole-exact : F [] → (t : List ℕ) (a : A) → (whole t ≡ took a []) ↔ (I a × (f a ≡ t))
+  pub whole-exact : F [] → (t : List ℕ) (a : A) → (whole t ≡ parsed a []) ↔ (I a × (f a ≡ t))
   whole-exact m t a = (
     held (then-holds _ (p .sound t) go),
     λ h. rw (← (append-nil (f a) ∙ h .1), p .back a [] (h .0) m),
   )
     where
       go : (a : A) (r : List ℕ) → I a × (f a ++ r ≡ t)
-          → Holds (λ a r. I a × (f a ≡ t)) (cond (none? r) (took a []) (stuck r))
+          → Holds (λ a r. I a × (f a ≡ t)) (cond (none? r) (parsed a []) (failed r))
       go a [] h = found (h .0, sym (append-nil (f a)) ∙ h .1)
       go a (x ∷ r) h = missed (x ∷ r)
 
   -- nothing is left after it
-  pub whole-ends : (t : List ℕ) (a : A) (r : List ℕ) → whole t ≡ took a r → r ≡ []
+  pub whole-ends : (t : List ℕ) (a : A) (r : List ℕ) → whole t ≡ parsed a r → r ≡ []
   whole-ends t a r = held (then-holds _ (p .sound t) go)
     where
-      go : (a : A) (r : List ℕ) → I a × (f a ++ r ≡ t) → Holds (λ a r. r ≡ []) (cond (none? r) (took a []) (stuck r))
+      go : (a : A) (r : List ℕ) → I a × (f a ++ r ≡ t) → Holds (λ a r. r ≡ []) (cond (none? r) (parsed a []) (failed r))
       go a [] h = found refl
       go a (x ∷ r) h = missed (x ∷ r)
 
@@ -135,7 +136,7 @@ module _ {A : Type 0} {I : A → Type 0} {f : A → List ℕ} {F : List ℕ → 
   abbrev pub behind-lit : (l : String) → ((r : List ℕ) → F (ascii l ++ r)) → Codec I f F
       → Codec I (λ a. f a ++ ascii l) Any
   behind-lit l fits p = record {
-    parse = λ t. and-then (p .parse t) λ a w. and-then (strip (ascii l) w) λ u r. took a r;
+    parse = λ t. and-then (p .parse t) λ a w. and-then (strip (ascii l) w) λ u r. parsed a r;
     back = λ a r h m. rw (append-assoc, p .back a (ascii l ++ r) h (fits r), strip-back (ascii l) r);
     sound = λ t. then-holds _ (p .sound t) λ a w h. then-holds _ (strip-sound (ascii l) w) λ u r e. found
         (h .0, behind (f a) _ _ e (h .1));
@@ -146,7 +147,7 @@ module _ {A : Type 0} {I : A → Type 0} {f : A → List ℕ} {F : List ℕ → 
       → ((b : B) (r : List ℕ) → J b → G r → F (g b ++ r))
       → Codec {A = A × B} (λ t. I (t .0) × J (t .1)) (λ t. f (t .0) ++ g (t .1)) G
   joined {g} p q fits = record {
-    parse = λ t. and-then (p .parse t) λ a w. and-then (q .parse w) λ b r. took (a, b) r;
+    parse = λ t. and-then (p .parse t) λ a w. and-then (q .parse w) λ b r. parsed (a, b) r;
     back = λ a r h m. rw (
       append-assoc,
       p .back (a .0) (g (a .1) ++ r) (h .0) (fits (a .1) r (h .1) m),
@@ -159,18 +160,18 @@ module _ {A : Type 0} {I : A → Type 0} {f : A → List ℕ} {F : List ℕ → 
   }
 
   -- written and read as another thing
-  abbrev pub on : {B : Type 0} {J : B → Type 0} (to : B → A) (from : A → B)
+  abbrev pub iso : {B : Type 0} {J : B → Type 0} (to : B → A) (from : A → B)
       → ((b : B) → J b → I (to b) × (from (to b) ≡ b)) → ((a : A) → I a → J (from a) × (to (from a) ≡ a)) → Codec I f F
       → Codec J (λ b. f (to b)) F
-  on to from one two p = record {
-    parse = λ t. and-then (p .parse t) λ a r. took (from a) r;
+  iso to from one two p = record {
+    parse = λ t. and-then (p .parse t) λ a r. parsed (from a) r;
     back = λ b r h m. rw (p .back (to b) r (one b h .0) m, one b h .1);
     sound = λ t. then-holds _ (p .sound t) λ a r h. found (two a (h .0) .0, rw (two a (h .0) .1) (h .1));
   }
 
   -- the same text, written another way
-  abbrev pub titled : {g : A → List ℕ} → ((a : A) → g a ≡ f a) → Codec I f F → Codec I g F
-  titled same p = record {
+  abbrev pub retext : {g : A → List ℕ} → ((a : A) → g a ≡ f a) → Codec I f F → Codec I g F
+  retext same p = record {
     parse = p .parse;
     back = λ a r h m. rw (same a) (p .back a r h m);
     sound = λ t. map-holds (p .sound t) λ a r h. (h .0, rw (same a) (h .1));
@@ -181,8 +182,8 @@ module _ {A : Type 0} {I : A → Type 0} {f : A → List ℕ} {F : List ℕ → 
   weaken fits p = record { parse = p .parse; back = λ a r h m. p .back a r h (fits r m); sound = p .sound }
 
   -- the same range, said another way
-  abbrev pub ranged : {J : A → Type 0} → ((a : A) → J a ↔ I a) → Codec I f F → Codec J f F
-  ranged same p = record {
+  abbrev pub reindex : {J : A → Type 0} → ((a : A) → J a ↔ I a) → Codec I f F → Codec J f F
+  reindex same p = record {
     parse = p .parse;
     back = λ a r h m. p .back a r (same a .0 h) m;
     sound = λ t. map-holds (p .sound t) λ a r h. (same a .1 (h .0), h .1);
@@ -190,10 +191,10 @@ module _ {A : Type 0} {I : A → Type 0} {f : A → List ℕ} {F : List ℕ → 
 
   -- things one after another up to the octet `stop`; the number bounds how many there are
   abbrev pub repeated : ℕ → Codec I f F → ℕ → List ℕ → Parsed (List A)
-  repeated stop p zero t = stuck t
+  repeated stop p zero t = failed t
   repeated stop p (suc n) t =
-      otherwise (and-then (strip (stop ∷ []) t) λ u r. took [] r)
-      (and-then (p .parse t) λ a w. and-then (repeated stop p n w) λ l r. took (a ∷ l) r)
+      otherwise (and-then (strip (stop ∷ []) t) λ u r. parsed [] r)
+      (and-then (p .parse t) λ a w. and-then (repeated stop p n w) λ l r. parsed (a ∷ l) r)
 
   -- any number, and an octet that none of them begins with; the text's length bounds how many there are
   abbrev pub many : {stop : ℕ} → Avoids I f stop → ((r : List ℕ) → F (stop ∷ r))
@@ -218,13 +219,14 @@ module _ {A : Type 0} {I : A → Type 0} {f : A → List ℕ} {F : List ℕ → 
       fits (a ∷ l) r h = rw (append-assoc) (fits₂ a (ended f stop l ++ r) (h .0))
 
       go-back : (n : ℕ) (l : List A) (r : List ℕ) → All I l → length l < n
-          → repeated stop p n (ended f stop l ++ r) ≡ took l r
+          → repeated stop p n (ended f stop l ++ r) ≡ parsed l r
       go-back zero l r h k = absurd (omega arith)
       go-back (suc n) [] r h k = rw (strip-back (stop ∷ []) r)
       go-back (suc n) (a ∷ l) r h k =
           rw (
             append-assoc,
-            is-stuck (strip-sound (stop ∷ []) (f a ++ (ended f stop l ++ r))) (λ u s e. avoids a _ s (h .0) (sym e)) .1,
+            is-failed (strip-sound (stop ∷ []) (f a ++ (ended f stop l ++ r)))
+                (λ u s e. avoids a _ s (h .0) (sym e)) .1,
             p .back a (ended f stop l ++ r) (h .0) (fits l r (h .1)),
             go-back n l r (h .1) (omega arith),
           )
@@ -255,7 +257,7 @@ module _ {A : Type 0} {I : A → Type 0} {f : A → List ℕ} where
       → Codec I f Any → ((a : A) → Codec (J a) (g a) G)
       → Codec {A = (a : A) × B a} (λ u. I (u .0) × J (u .0) (u .1)) (λ u. f (u .0) ++ g (u .0) (u .1)) G
   pair-by {g} p q = record {
-    parse = λ t. and-then (p .parse t) λ a w. and-then (q a .parse w) λ b r. took (a, b) r;
+    parse = λ t. and-then (p .parse t) λ a w. and-then (q a .parse w) λ b r. parsed (a, b) r;
     back = λ a r h m. rw (
       append-assoc,
       p .back (a .0) (g (a .0) (a .1) ++ r) (h .0) tt,
@@ -283,9 +285,9 @@ module _ {A B : Type 0} {I : A → Type 0} {f : A → List ℕ} {J : B → Type 
   either p q apart = record { parse = go; back = go-back; sound = go-sound }
     where
       go : List ℕ → Parsed (A ⊎ B)
-      go t = or-else (and-then (p .parse t) λ a r. took (inl a) r) (and-then (q .parse t) λ b r. took (inr b) r)
+      go t = or-else (and-then (p .parse t) λ a r. parsed (inl a) r) (and-then (q .parse t) λ b r. parsed (inr b) r)
 
-      go-back : (c : A ⊎ B) (r : List ℕ) → Either I J c → F r → go (eitherText f g c ++ r) ≡ took c r
+      go-back : (c : A ⊎ B) (r : List ℕ) → Either I J c → F r → go (eitherText f g c ++ r) ≡ parsed c r
       go-back (inl a) r h m = rw (p .back a r h m)
       go-back (inr b) r h m = rw (absent p (g b ++ r) (λ a s k e. apart a b s r k h e) .1, q .back b r h m)
 
@@ -294,9 +296,9 @@ module _ {A B : Type 0} {I : A → Type 0} {f : A → List ℕ} {J : B → Type 
 
 module _ {A : Type 0} {I : A → Type 0} {f : A → List ℕ} {F : List ℕ → Type 0} where
   -- one at least
-  abbrev pub several : {stop : ℕ} → Avoids I f stop → ((r : List ℕ) → F (stop ∷ r))
+  abbrev pub many1 : {stop : ℕ} → Avoids I f stop → ((r : List ℕ) → F (stop ∷ r))
       → ((b : A) (r : List ℕ) → I b → F (f b ++ r)) → Codec I f F → Codec (OneOrMore I) (ended f stop) Any
-  several {stop} avoids fits₁ fits₂ p = record { parse = go; back = go-back; sound = go-sound }
+  many1 {stop} avoids fits₁ fits₂ p = record { parse = go; back = go-back; sound = go-sound }
     where
       fits : (l : List A) (r : List ℕ) → All I l → F (ended f stop l ++ r)
       fits [] r h = fits₁ r
@@ -306,9 +308,9 @@ module _ {A : Type 0} {I : A → Type 0} {f : A → List ℕ} {F : List ℕ → 
       both = joined p (many avoids fits₁ fits₂ p) (λ l r h m. fits l r h)
 
       go : List ℕ → Parsed (List A)
-      go t = and-then (both .parse t) λ u r. took (u .0 ∷ u .1) r
+      go t = and-then (both .parse t) λ u r. parsed (u .0 ∷ u .1) r
 
-      go-back : (l : List A) (r : List ℕ) → OneOrMore I l → Any r → go (ended f stop l ++ r) ≡ took l r
+      go-back : (l : List A) (r : List ℕ) → OneOrMore I l → Any r → go (ended f stop l ++ r) ≡ parsed l r
       go-back [] r h m = absurd (h .1)
       go-back (a ∷ l) r h m = rw (both .back (a, l) r (h .0) tt)
 
@@ -329,18 +331,18 @@ module _ {A : Type 0} {I : A → Type 0} {f : A → List ℕ} {F : List ℕ → 
       both = joined p (many (λ a r s h e. fronts tt e) fits₂ (λ b r h. fits₁ _) ("," ▷ p)) (λ l r h m. fits l r)
 
       inside : List ℕ → Parsed (List A)
-      inside t = otherwise (and-then (strip (93 ∷ []) t) λ u r. took [] r)
-          (and-then (both .parse t) λ u r. took (u .0 ∷ u .1) r)
+      inside t = otherwise (and-then (strip (93 ∷ []) t) λ u r. parsed [] r)
+          (and-then (both .parse t) λ u r. parsed (u .0 ∷ u .1) r)
 
       go : List ℕ → Parsed (List A)
       go t = and-then (strip (91 ∷ []) t) λ u w. inside w
 
-      go-back : (l : List A) (r : List ℕ) → All I l → Any r → go (listed f l ++ r) ≡ took l r
+      go-back : (l : List A) (r : List ℕ) → All I l → Any r → go (listed f l ++ r) ≡ parsed l r
       go-back [] r h m = refl
       go-back (a ∷ l) r h m =
           let w = f a ++ ended (λ b. 44 ∷ f b) 93 l ++ r in
           rw (
-            is-stuck (strip-sound (93 ∷ []) w)
+            is-failed (strip-sound (93 ∷ []) w)
                 (λ u s e. avoids a _ s (h .0) (sym (append-assoc (f a) _ r) ∙ sym e)) .1,
             both .back (a, l) r h tt,
           )
@@ -351,9 +353,9 @@ module _ {A : Type 0} {I : A → Type 0} {f : A → List ℕ} {F : List ℕ → 
           (then-holds _ (both .sound w) λ v r h. found (h .0, ap (λ z. 91 ∷ z) (h .1) ∙ e))
 
 -- one thing, one text
-abbrev pub only : {A : Type 0} (c : A) (l : String) → Codec (λ a. a ≡ c) (λ a. ascii l) Any
-only c l = record {
-  parse = λ t. and-then (strip (ascii l) t) λ u r. took c r;
+abbrev pub literalAs : {A : Type 0} (c : A) (l : String) → Codec (λ a. a ≡ c) (λ a. ascii l) Any
+literalAs c l = record {
+  parse = λ t. and-then (strip (ascii l) t) λ u r. parsed c r;
   back = λ a r h m. rw (strip-back (ascii l) r, h);
   sound = λ t. then-holds _ (strip-sound (ascii l) t) λ u r e. found (refl, e);
 }
@@ -404,32 +406,32 @@ key-apart row (u ∷ rows) n h k =
     go false d k h f = f k
 
 -- the parser that tries the rows in turn, and its laws
-unfoldable pub tried : List (ℕ × String) → List ℕ → Parsed ℕ
-tried [] t = stuck t
-tried (row ∷ rows) t = or-else (and-then (strip (ascii (row .1)) t) λ u r. took (row .0) r) (tried rows t)
+unfoldable pub tableParser : List (ℕ × String) → List ℕ → Parsed ℕ
+tableParser [] t = failed t
+tableParser (row ∷ rows) t = or-else (and-then (strip (ascii (row .1)) t) λ u r. parsed (row .0) r) (tableParser rows t)
 
 pub tried-back : (rows : List (ℕ × String)) → T (distinct rows) → (n : ℕ) (r : List ℕ) → T (key? n rows)
-    → tried rows (rowText n rows ++ r) ≡ took n r
-unfolding key? rowText tried
+    → tableParser rows (rowText n rows ++ r) ≡ parsed n r
+unfolding key? rowText tableParser
 tried-back [] d n r k = absurd k
 tried-back (row ∷ rows) d n r k =
     go (eqb (row .0) n) refl k (λ k. tried-back rows (and-right (all (differs? row) rows) (distinct rows) d) n r k)
   where
     go : (b : Bool) → eqb (row .0) n ≡ b → T (cond b true (key? n rows))
-        → (T (key? n rows) → tried rows (rowText n rows ++ r) ≡ took n r)
-        → tried (row ∷ rows) (cond b (ascii (row .1)) (rowText n rows) ++ r) ≡ took n r
-    go true e k f = rw (strip-back (ascii (row .1)) r) (ap (λ z. took z r) (eqb→eq (row .0) n (subst T (sym e) tt)))
+        → (T (key? n rows) → tableParser rows (rowText n rows ++ r) ≡ parsed n r)
+        → tableParser (row ∷ rows) (cond b (ascii (row .1)) (rowText n rows) ++ r) ≡ parsed n r
+    go true e k f = rw (strip-back (ascii (row .1)) r) (ap (λ z. parsed z r) (eqb→eq (row .0) n (subst T (sym e) tt)))
     go false e k f =
         rw (
-          is-stuck (strip-sound (ascii (row .1)) (rowText n rows ++ r))
+          is-failed (strip-sound (ascii (row .1)) (rowText n rows ++ r))
               (λ u s q. apart-texts (ascii (row .1)) (rowText n rows) s r
               (key-apart row rows n (and-left (all (differs? row) rows) (distinct rows) d) k .1) q) .1,
           f k,
         )
 
 pub tried-sound : (rows : List (ℕ × String)) → T (distinct rows) → (t : List ℕ)
-    → Holds (λ n r. T (key? n rows) × (rowText n rows ++ r ≡ t)) (tried rows t)
-unfolding key? rowText tried
+    → Holds (λ n r. T (key? n rows) × (rowText n rows ++ r ≡ t)) (tableParser rows t)
+unfolding key? rowText tableParser
 tried-sound [] d t = missed t
 tried-sound (row ∷ rows) d t = or-holds
     (then-holds _ (strip-sound (ascii (row .1)) t) λ u r e. found
@@ -442,7 +444,7 @@ tried-sound (row ∷ rows) d t = or-holds
 abbrev pub table : (rows : List (ℕ × String)) → T (distinct rows)
     → Codec (λ n. T (key? n rows)) (λ n. rowText n rows) Any
 table rows d = record {
-  parse = tried rows;
+  parse = tableParser rows;
   back = λ n r h m. tried-back rows d n r h;
   sound = tried-sound rows d;
 }

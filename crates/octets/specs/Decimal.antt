@@ -10,7 +10,7 @@ use lib.Dec.{T, T-not, leb, ltb, eqb, leb→le, le→leb, lt→ltb, ltb→lt, eq
 use lib.Arith.{le→nltb}
 use Rattle.octets.specs.Lists.{ascii, All}
 use Rattle.octets.specs.Bits.{is-true, is-false, unequal, both, and-left, and-right, All-append}
-use Rattle.octets.specs.Parsed.{Parsed, took, stuck, Holds, missed, found, map-holds}
+use Rattle.octets.specs.Parsed.{Parsed, parsed, failed, Holds, missed, found, map-holds}
 use Rattle.octets.specs.Codec.{Avoids, Any, Codec, behind-lit}
 
 -- a decimal digit; the text does not begin with one
@@ -149,8 +149,8 @@ no-leading-zero n d r s h k e =
 -- ---- the parser
 -- all the digits that come, after the digits of `n`
 abbrev pub run : ℕ → List ℕ → Parsed ℕ
-run n [] = took n []
-run n (d ∷ t) = elim (digit? d) [ true ↦ run (n * 10 + (d - 48)) t | false ↦ took n (d ∷ t) ]
+run n [] = parsed n []
+run n (d ∷ t) = elim (digit? d) [ true ↦ run (n * 10 + (d - 48)) t | false ↦ parsed n (d ∷ t) ]
 
 -- a digit that is not 0
 abbrev pub leading? : ℕ → Bool
@@ -158,13 +158,13 @@ leading? d = leb 49 d && ltb d 58
 
 -- such a digit, and all the digits that come
 unfoldable pub positive : List ℕ → Parsed ℕ
-positive [] = stuck []
-positive (d ∷ t) = elim (leading? d) [ true ↦ run (d - 48) t | false ↦ stuck (d ∷ t) ]
+positive [] = failed []
+positive (d ∷ t) = elim (leading? d) [ true ↦ run (d - 48) t | false ↦ failed (d ∷ t) ]
 
 -- 0 alone, or such a number; a digit after the 0 is left
 unfoldable pub natural : List ℕ → Parsed ℕ
-natural [] = stuck []
-natural (d ∷ t) = elim (eqb d 48) [ true ↦ took 0 t | false ↦ positive (d ∷ t) ]
+natural [] = failed []
+natural (d ∷ t) = elim (eqb d 48) [ true ↦ parsed 0 t | false ↦ positive (d ∷ t) ]
 
 -- what `run` makes of a digit, and of what is none
 pub run-digit : (n d : ℕ) (t : List ℕ) → d < 10 → run n ((48 + d) ∷ t) ≡ run (n * 10 + d) t
@@ -173,7 +173,7 @@ run-digit n d t h =
     let z : 48 + d - 48 ≡ d = omega arith in
     rw z
 
-pub run-stop : (n : ℕ) (r : List ℕ) → NoDigit r → run n r ≡ took n r
+pub run-stop : (n : ℕ) (r : List ℕ) → NoDigit r → run n r ≡ parsed n r
 run-stop n [] h = refl
 run-stop n (x ∷ r) h = rw (is-false (digit? x) h, run)
 
@@ -200,7 +200,7 @@ positive-digits (suc f) false n t e h k =
       y,
     )
 
-pub positive-back : (n : ℕ) (r : List ℕ) → 0 < n → NoDigit r → positive (decimal n ++ r) ≡ took n r
+pub positive-back : (n : ℕ) (r : List ℕ) → 0 < n → NoDigit r → positive (decimal n ++ r) ≡ parsed n r
 unfolding decimal
 positive-back n r h m = positive-digits n (ltb n 10) n r refl (omega arith) h ∙ run-stop n r m
 
@@ -234,7 +234,7 @@ positive-sound (d ∷ t) = go (leading? d) refl
         rw (e, positive) (map-holds (run-sound (d - 48) t (omega arith)) λ m r i. (i .0, i .1 ∙ x))
     go false e = rw (e, positive) (missed (d ∷ t))
 
-pub natural-back : (n : ℕ) (r : List ℕ) → NoDigit r → natural (decimal n ++ r) ≡ took n r
+pub natural-back : (n : ℕ) (r : List ℕ) → NoDigit r → natural (decimal n ++ r) ≡ parsed n r
 unfolding natural positive decimal
 natural-back zero r m = refl
 natural-back (suc n) r m = go (decimal (suc n) ++ r) (λ s e. z (decimal-zero (suc n) r s e))
@@ -274,9 +274,10 @@ ends? [] = false
 ends? (c ∷ l) = not (digit? c)
 
 -- a text that ends with a number, and fixed octets after it that do not begin with a digit: `till "," tt number`
-abbrev pub till : {A : Type 0} {I : A → Type 0} {f : A → List ℕ} (l : String) → T (ends? (ascii l)) → Codec I f NoDigit
+abbrev pub numberThen : {A : Type 0} {I : A → Type 0} {f : A → List ℕ} (l : String) → T (ends? (ascii l))
+    → Codec I f NoDigit
     → Codec I (λ a. f a ++ ascii l) Any
-till l h p = behind-lit l (go (ascii l) h) p
+numberThen l h p = behind-lit l (go (ascii l) h) p
   where
     go : (m : List ℕ) → T (ends? m) → (r : List ℕ) → NoDigit (m ++ r)
     go [] h r = absurd h

@@ -9,8 +9,8 @@ use lib.Dec.{T, not-T, leb, ltb, eqb, leb→le, le→leb, lt→ltb, ltb→lt}
 use lib.Arith.{le→nltb}
 use Rattle.octets.specs.Lists.{All, Octets, ended}
 use Rattle.octets.specs.Bits.{is-true, is-false, both, and-left, and-right}
-use Rattle.octets.specs.Parsed.{Parsed, took, stuck, Holds, missed, found}
-use Rattle.octets.specs.Codec.{Avoids, Any, Codec, fronts, on, many, _▷_, _⊗_}
+use Rattle.octets.specs.Parsed.{Parsed, parsed, failed, Holds, missed, found}
+use Rattle.octets.specs.Codec.{Avoids, Any, Codec, fronts, iso, many, _▷_, _⊗_}
 use Rattle.octets.specs.Decimal.{digit?, digit-in, digit-test}
 
 -- the digit of a number below 16
@@ -35,10 +35,10 @@ capital? c = leb 65 c && ltb c 71
 
 -- one digit
 unfoldable pub unhex : List ℕ → Parsed ℕ
-unhex [] = stuck []
+unhex [] = failed []
 unhex (c ∷ t) = elim (digit? c) [
-  | true ↦ took (c - 48) t
-  | false ↦ elim (capital? c) [ true ↦ took (c - 55) t | false ↦ stuck (c ∷ t) ]
+  | true ↦ parsed (c - 48) t
+  | false ↦ elim (capital? c) [ true ↦ parsed (c - 55) t | false ↦ failed (c ∷ t) ]
 ]
 
 -- a digit is one of 0 to 9 and A to F
@@ -49,11 +49,11 @@ hexDigit-in n h = go (ltb n 10) refl
     go true e = let z = ltb→lt n 10 (subst T (sym e) tt) in (omega arith, omega arith)
     go false e = (omega arith, omega arith)
 
-pub unhex-back : (n : ℕ) (r : List ℕ) → n < 16 → unhex (hexDigit n ∷ r) ≡ took n r
+pub unhex-back : (n : ℕ) (r : List ℕ) → n < 16 → unhex (hexDigit n ∷ r) ≡ parsed n r
 unfolding unhex
 unhex-back n r h = go (ltb n 10) refl
   where
-    go : (b : Bool) → ltb n 10 ≡ b → unhex (hexOf b n ∷ r) ≡ took n r
+    go : (b : Bool) → ltb n 10 ≡ b → unhex (hexOf b n ∷ r) ≡ parsed n r
     go true e =
         let z = ltb→lt n 10 (subst T (sym e) tt) in
         let y : 48 + n - 48 ≡ n = omega arith in
@@ -100,7 +100,7 @@ abbrev pub digitCodec : Codec (λ n. n < 16) (λ n. hexDigit n ∷ []) Any
 digitCodec = record { parse = unhex; back = λ n r h m. unhex-back n r h; sound = unhex-sound }
 
 abbrev pub octetCodec : Codec (λ x. x < 256) hexOctet Any
-octetCodec = on {A = ℕ × ℕ} {I = λ t. (t .0 < 16) × (t .1 < 16)} {f = λ t. (hexDigit (t .0) ∷ [])
+octetCodec = iso {A = ℕ × ℕ} {I = λ t. (t .0 < 16) × (t .1 < 16)} {f = λ t. (hexDigit (t .0) ∷ [])
     ++ (hexDigit (t .1) ∷ [])}
     (λ x. (x / 16, x % 16)) (λ t. t .0 * 16 + t .1) (λ x h. ((omega arith, omega arith), omega arith))
     (λ t h. (omega arith, halves (t .0) (t .1) (h .1))) (digitCodec ⊗ digitCodec)

@@ -94,13 +94,13 @@ pub nothing : (b : List ℕ) (at : ℕ) → Wrote b at [] b at
 nothing b at = record { place = omega (arith, add-zero at); text = sym (overlay-none b at) }
 
 -- a writer that starts past the end leaves the buffer as it is
-pub past : (b : List ℕ) (at : ℕ) (xs : List ℕ) {r : ℕ} → length b ≤ at → r ≡ at + length xs → Wrote b at xs b r
-past b at xs h e = record { place = e; text = sym (overlay-past b at xs h) }
+pub wrote-past : (b : List ℕ) (at : ℕ) (xs : List ℕ) {r : ℕ} → length b ≤ at → r ≡ at + length xs → Wrote b at xs b r
+wrote-past b at xs h e = record { place = e; text = sym (overlay-past b at xs h) }
 
 -- a text written first, and then the octets before it
-pub before : {b b₁ b₂ : List ℕ} {at n r s : ℕ} {xs ys : List ℕ} → n ≡ at + length xs → Wrote b n ys b₁ r
+pub wrote-before : {b b₁ b₂ : List ℕ} {at n r s : ℕ} {xs ys : List ℕ} → n ≡ at + length xs → Wrote b n ys b₁ r
     → Wrote b₁ at xs b₂ s → Wrote b at (xs ++ ys) b₂ r
-before {b} {at = at} {n = n} {xs = xs} {ys = ys} e p q =
+wrote-before {b} {at = at} {n = n} {xs = xs} {ys = ys} e p q =
     let s : overlay (overlay b n ys) at xs ≡ overlay (overlay b at xs) n ys =
     overlay-swap b at n xs ys (omega (arith, e)) in
     record {

@@ -7,76 +7,76 @@ use lib.Dec.{T, ltb, eqb, eqb-refl, eqb→eq}
 use lib.ListN.{length}
 
 pub data Parsed (A : Type 0) : Type 0 where
-  took : A → List ℕ → Parsed A
-  stuck : List ℕ → Parsed A
+  parsed : A → List ℕ → Parsed A
+  failed : List ℕ → Parsed A
 
 -- one parser after another
 abbrev pub and-then : {A B : Type 0} → Parsed A → (A → List ℕ → Parsed B) → Parsed B
-and-then (took a r) f = f a r
-and-then (stuck w) f = stuck w
+and-then (parsed a r) f = f a r
+and-then (failed w) f = failed w
 
 -- one parser or another; where both stop, the one that came further says where
 abbrev pub or-else : {A : Type 0} → Parsed A → Parsed A → Parsed A
-or-else (took a r) o = took a r
-or-else (stuck w) (took a r) = took a r
-or-else (stuck w) (stuck u) = stuck (cond (ltb (length u) (length w)) u w)
+or-else (parsed a r) o = parsed a r
+or-else (failed w) (parsed a r) = parsed a r
+or-else (failed w) (failed u) = failed (cond (ltb (length u) (length w)) u w)
 
 -- one parser, or else another that comes at least as far
 abbrev pub otherwise : {A : Type 0} → Parsed A → Parsed A → Parsed A
-otherwise (took a r) o = took a r
-otherwise (stuck w) o = o
+otherwise (parsed a r) o = parsed a r
+otherwise (failed w) o = o
 
 -- fixed octets, one by one
 abbrev pub strip : List ℕ → List ℕ → Parsed (Unit {0})
-strip [] t = took tt t
-strip (x ∷ l) [] = stuck []
-strip (x ∷ l) (y ∷ t) = cond (eqb x y) (strip l t) (stuck (y ∷ t))
+strip [] t = parsed tt t
+strip (x ∷ l) [] = failed []
+strip (x ∷ l) (y ∷ t) = cond (eqb x y) (strip l t) (failed (y ∷ t))
 
 -- ---- what holds of the value and the text after it, if there are any
 pub data Holds {A : Type 0} (P : A → List ℕ → Type 0) : Parsed A → Type 0 where
-  missed : (w : List ℕ) → Holds P (stuck w)
-  found : {a : A} {r : List ℕ} → P a r → Holds P (took a r)
+  missed : (w : List ℕ) → Holds P (failed w)
+  found : {a : A} {r : List ℕ} → P a r → Holds P (parsed a r)
 
 -- the value of an answer, or `d` where the parser stopped; the text that is left
 abbrev value : {A : Type 0} → A → Parsed A → A
-value d (took a r) = a
-value d (stuck w) = d
+value d (parsed a r) = a
+value d (failed w) = d
 
 abbrev rest : {A : Type 0} → Parsed A → List ℕ
-rest (took a r) = r
-rest (stuck w) = w
+rest (parsed a r) = r
+rest (failed w) = w
 
 module _ {A : Type 0} where
   -- equal answers have equal parts
-  pub took-value : {a b : A} {r s : List ℕ} → took a r ≡ took b s → a ≡ b
-  took-value {a} e = ap (value a) e
+  pub parsed-value : {a b : A} {r s : List ℕ} → parsed a r ≡ parsed b s → a ≡ b
+  parsed-value {a} e = ap (value a) e
 
-  pub took-rest : {a b : A} {r s : List ℕ} → took a r ≡ took b s → r ≡ s
-  took-rest e = ap rest e
+  pub parsed-rest : {a b : A} {r s : List ℕ} → parsed a r ≡ parsed b s → r ≡ s
+  parsed-rest e = ap rest e
 
   -- a value is no stop
   abbrev Took : Parsed A → Type 0
-  Took (took a r) = Unit {0}
-  Took (stuck w) = ⊥
+  Took (parsed a r) = Unit {0}
+  Took (failed w) = ⊥
 
-  pub took≢stuck : {a : A} {r w : List ℕ} → took a r ≡ stuck w → ⊥
-  took≢stuck e = subst Took e tt
+  pub parsed≢failed : {a : A} {r w : List ℕ} → parsed a r ≡ failed w → ⊥
+  parsed≢failed e = subst Took e tt
 
   pub cond-true : (b : Bool) (x y : A) → T b → cond b x y ≡ x
   cond-true true x y t = refl
   cond-true false x y t = absurd t
 
 module _ {A : Type 0} {P : A → List ℕ → Type 0} where
-  pub held : {o : Parsed A} {a : A} {r : List ℕ} → Holds P o → o ≡ took a r → P a r
+  pub held : {o : Parsed A} {a : A} {r : List ℕ} → Holds P o → o ≡ parsed a r → P a r
   held {o} {a} {r} h e = go (subst (Holds P) e h)
     where
-      go : Holds P (took a r) → P a r
+      go : Holds P (parsed a r) → P a r
       go (found h) = h
 
   -- where it can hold of nothing, the parser stops
-  pub is-stuck : {o : Parsed A} → Holds P o → ((a : A) (r : List ℕ) → P a r → ⊥) → (w : List ℕ) × (o ≡ stuck w)
-  is-stuck (missed w) f = (w, refl)
-  is-stuck (found {a} {r} h) f = absurd (f a r h)
+  pub is-failed : {o : Parsed A} → Holds P o → ((a : A) (r : List ℕ) → P a r → ⊥) → (w : List ℕ) × (o ≡ failed w)
+  is-failed (missed w) f = (w, refl)
+  is-failed (found {a} {r} h) f = absurd (f a r h)
 
   pub map-holds : {Q : A → List ℕ → Type 0} {o : Parsed A} → Holds P o → ((a : A) (r : List ℕ) → P a r → Q a r)
       → Holds Q o
@@ -97,14 +97,14 @@ module _ {A : Type 0} {P : A → List ℕ → Type 0} where
   otherwise-holds (missed w) k = k
   otherwise-holds (found h) k = found h
 
-  pub cond-holds : (b : Bool) {o : Parsed A} (w : List ℕ) → (T b → Holds P o) → Holds P (cond b o (stuck w))
+  pub cond-holds : (b : Bool) {o : Parsed A} (w : List ℕ) → (T b → Holds P o) → Holds P (cond b o (failed w))
   cond-holds true w h = h tt
   cond-holds false w h = missed w
 
 -- ---- fixed octets
-pub strip-back : (l r : List ℕ) → strip l (l ++ r) ≡ took tt r
+pub strip-back : (l r : List ℕ) → strip l (l ++ r) ≡ parsed tt r
 strip-back [] r = refl
-strip-back (x ∷ l) r = cond-true (eqb x x) (strip l (l ++ r)) (stuck (x ∷ (l ++ r))) (eqb-refl x) ∙ strip-back l r
+strip-back (x ∷ l) r = cond-true (eqb x x) (strip l (l ++ r)) (failed (x ∷ (l ++ r))) (eqb-refl x) ∙ strip-back l r
 
 pub strip-sound : (l t : List ℕ) → Holds (λ u r. l ++ r ≡ t) (strip l t)
 strip-sound [] t = found refl

@@ -6,7 +6,7 @@ use Prim.Native.Nat.{ℕ}
 use lib.ListN.{replicate}
 use Rattle.octets.specs.Lists.{hexed, lookup}
 use Rattle.spelling.specs.Spelling.{printable?}
-use Rattle.options.specs.Options.{rows, formOf, words, shape, Member, known, other, memberOf}
+use Rattle.options.specs.Options.{rows, syntaxOf, words, shape, Member, known, other, memberOf}
 
 -- whether an option of this code and value takes its row's form
 abbrev pub known? : Member → Bool
@@ -60,5 +60,5 @@ shapes =
 
 pub shapes-hold : map (λ (s : Shape). known? (memberOf (record { code = s .code; value = s .value }))) shapes ≡ map
     (λ (s : Shape). s .known) shapes
-unfolding shapes lookup rows formOf printable? words shape memberOf
+unfolding shapes lookup rows syntaxOf printable? words shape memberOf
 shapes-hold = refl

@@ -14,30 +14,30 @@ use Rattle.spelling.specs.Spelling.{printable?, stringText}
 
 -- ---- the table
 -- what the value of an option's member looks like
-pub data Form : Type 0 where
+pub data Syntax : Type 0 where
   -- `{"HEX":hex}`
-  hexObject : Form
+  hexObject : Syntax
   -- list of octets as numbers
-  octetList : Form
+  octetList : Syntax
   -- `"NONE"` or a number
-  expiry : Form
+  expiry : Syntax
   -- list of hex strings
-  hexList : Form
+  hexList : Syntax
   -- number
-  word : Form
+  word : Syntax
   -- `{"LENGTH":n}` or `{"LENGTH":n,"HEX":hex}`
-  padding : Form
+  padding : Syntax
   -- list of 2-octet numbers
-  wordList : Form
+  wordList : Syntax
   -- `{"CODE":n}` or `{"CODE":n,"TEXT":string}`
-  extendedError : Form
+  extendedError : Syntax
   -- no row of the table
-  unlisted : Form
+  unlisted : Syntax
 
 -- code, member and form
 pub record Row : Type 0 where
   pub member : String
-  pub form : Form
+  pub form : Syntax
 
 unfoldable pub rows : List (ℕ × Row)
 rows =
@@ -57,15 +57,15 @@ rows =
 unfoldable pub members : List (ℕ × String)
 members = map (λ (row : ℕ × Row). (row .0, row .1 .member)) rows
 
-abbrev pub row-form : Option Row → Form
-row-form none = unlisted
-row-form (some row) = row .form
+abbrev pub row-syntax : Option Row → Syntax
+row-syntax none = unlisted
+row-syntax (some row) = row .form
 
-unfoldable pub formOf : ℕ → Form
-formOf code = row-form (lookup code rows)
+unfoldable pub syntaxOf : ℕ → Syntax
+syntaxOf code = row-syntax (lookup code rows)
 
 -- ---- values
-abbrev pub Value : Form → Type 0
+abbrev pub Value : Syntax → Type 0
 Value hexObject = List ℕ
 Value octetList = List ℕ
 Value expiry = Option ℕ
@@ -89,7 +89,7 @@ abbrev pub expiryText : Option ℕ → List ℕ
 expiryText none = ascii "\"NONE\""
 expiryText (some n) = decimal n
 
-unfoldable pub valueText : (form : Form) → Value form → List ℕ
+unfoldable pub valueText : (form : Syntax) → Value form → List ℕ
 valueText hexObject hex = ascii "{\"HEX\":" ++ hexText hex ++ ascii "}"
 valueText octetList l = listed decimal l
 valueText expiry n = expiryText n
@@ -114,7 +114,7 @@ abbrev pub present : List ℕ → Option (List ℕ)
 present [] = none
 present (x ∷ l) = some (x ∷ l)
 
-unfoldable pub shape : (form : Form) → List ℕ → Option (Value form)
+unfoldable pub shape : (form : Syntax) → List ℕ → Option (Value form)
 shape hexObject l = some l
 shape octetList l = some l
 shape expiry l = cond (eqb (length l) 0) (some none) (cond (eqb (length l) 4) (some (some (be32At l 0))) none)
@@ -136,18 +136,18 @@ pub record EdnsOption : Type 0 where
 
 -- a member: one of the table with its value, or `OPTn` with hex
 pub data Member : Type 0 where
-  known : (code : ℕ) → Value (formOf code) → Member
+  known : (code : ℕ) → Value (syntaxOf code) → Member
   other : ℕ → List ℕ → Member
 
-abbrev pub chosen : (code : ℕ) → List ℕ → Option (Value (formOf code)) → Member
+abbrev pub chosen : (code : ℕ) → List ℕ → Option (Value (syntaxOf code)) → Member
 chosen code value none = other code value
 chosen code value (some v) = known code v
 
 -- an option takes its row's form if its value has the shape
 unfoldable pub memberOf : EdnsOption → Member
-memberOf o = chosen (o .code) (o .value) (shape (formOf (o .code)) (o .value))
+memberOf o = chosen (o .code) (o .value) (shape (syntaxOf (o .code)) (o .value))
 
 -- the text of a member
 unfoldable pub memberText : Member → List ℕ
-memberText (known code v) = ascii "\"" ++ rowText code members ++ ascii "\":" ++ valueText (formOf code) v
+memberText (known code v) = ascii "\"" ++ rowText code members ++ ascii "\":" ++ valueText (syntaxOf code) v
 memberText (other code hex) = ascii "\"OPT" ++ decimal code ++ ascii "\":" ++ hexText hex

@@ -12,7 +12,7 @@ use Rattle.octets.specs.Lists.{all, lookup, present?}
 use Rattle.octets.proofs.Arms.{Missed, armsOf, missed-row}
 use Rattle.octets.specs.Fields.{be32At}
 use Rattle.spelling.specs.Spelling.{printable?}
-use Rattle.options.specs.Options.{Form, unlisted, rows, row-form, formOf, shape}
+use Rattle.options.specs.Options.{Syntax, unlisted, rows, row-syntax, syntaxOf, shape}
 
 -- ---- what the lengths decide
 -- EXPIRE: no octets, or four
@@ -37,46 +37,46 @@ chosen-or true c a d = refl
 chosen-or false c a d = chosen c d
 
 -- the form of no row takes no value
-form-none : (form : Form) (v : List ℕ) → form ≡ unlisted → false ≡ present? (shape form v)
+form-none : (form : Syntax) (v : List ℕ) → form ≡ unlisted → false ≡ present? (shape form v)
 unfolding shape
 form-none form v e = rw e
 
 -- ---- the codes
 module _ {code : ℕ} (v : List ℕ) where
   -- the code is that of a row
-  pub row-shaped : (k : ℕ) {r : Bool} → code ≡ k → r ≡ present? (shape (formOf k) v)
-      → r ≡ present? (shape (formOf code) v)
+  pub row-shaped : (k : ℕ) {r : Bool} → code ≡ k → r ≡ present? (shape (syntaxOf k) v)
+      → r ≡ present? (shape (syntaxOf code) v)
   row-shaped k e q = rw e q
 
-  pub error-shaped : {r : Bool} → code ≡ 15 → r ≡ errorShape v → r ≡ present? (shape (formOf code) v)
-  unfolding lookup rows formOf shape
+  pub error-shaped : {r : Bool} → code ≡ 15 → r ≡ errorShape v → r ≡ present? (shape (syntaxOf code) v)
+  unfolding lookup rows syntaxOf shape
   error-shaped e q = q ∙ rw e (chosen (errorShape v) _)
 
   module _ {size : ℕ} (z : size ≡ length v) where
-    pub expire-shaped : {r : Bool} → code ≡ 9 → r ≡ expirySize size → r ≡ present? (shape (formOf code) v)
-    unfolding lookup rows formOf shape
+    pub expire-shaped : {r : Bool} → code ≡ 9 → r ≡ expirySize size → r ≡ present? (shape (syntaxOf code) v)
+    unfolding lookup rows syntaxOf shape
     expire-shaped e q = q ∙ rw (e, z) (chosen-or (eqb (length v) 0) (eqb (length v) 4) _ _)
 
-    pub cookie-shaped : {r : Bool} → code ≡ 10 → r ≡ cookieSize size → r ≡ present? (shape (formOf code) v)
-    unfolding lookup rows formOf shape
+    pub cookie-shaped : {r : Bool} → code ≡ 10 → r ≡ cookieSize size → r ≡ present? (shape (syntaxOf code) v)
+    unfolding lookup rows syntaxOf shape
     cookie-shaped e q = q ∙ rw (e, z) (chosen-or (eqb (length v) 8) (leb 16 (length v) && leb (length v) 40) _ _)
 
-    pub keepalive-shaped : code ≡ 11 → eqb size 2 ≡ present? (shape (formOf code) v)
-    unfolding lookup rows formOf shape
+    pub keepalive-shaped : code ≡ 11 → eqb size 2 ≡ present? (shape (syntaxOf code) v)
+    unfolding lookup rows syntaxOf shape
     keepalive-shaped e = rw (e, z) (chosen (eqb (length v) 2) _)
 
-    pub keytag-shaped : code ≡ 14 → eqb (size % 2) 0 ≡ present? (shape (formOf code) v)
-    unfolding lookup rows formOf shape
+    pub keytag-shaped : code ≡ 14 → eqb (size % 2) 0 ≡ present? (shape (syntaxOf code) v)
+    unfolding lookup rows syntaxOf shape
     keytag-shaped e = rw (e, z) (chosen (eqb (length v % 2) 0) _)
 
 -- the code is that of no row, as the last arm of a match on the codes knows it
-pub no-row : (code : ℕ) → Missed (Unit {0}) code (armsOf rows) → formOf code ≡ unlisted
-unfolding rows formOf
-no-row code h = ap row-form (missed-row (Unit {0}) code (armsOf rows) rows tt h)
+pub no-row : (code : ℕ) → Missed (Unit {0}) code (armsOf rows) → syntaxOf code ≡ unlisted
+unfolding rows syntaxOf
+no-row code h = ap row-syntax (missed-row (Unit {0}) code (armsOf rows) rows tt h)
 
 pub none-shaped : (code : ℕ) (v : List ℕ) → Missed (Unit {0}) code (armsOf rows)
-    → false ≡ present? (shape (formOf code) v)
-none-shaped code v h = form-none (formOf code) v (no-row code h)
+    → false ≡ present? (shape (syntaxOf code) v)
+none-shaped code v h = form-none (syntaxOf code) v (no-row code h)
 
 -- ---- EDE without its code, and with it
 module _ (v : List ℕ) {size : ℕ} (z : size ≡ length v) where
@@ -88,10 +88,10 @@ module _ (v : List ℕ) {size : ℕ} (z : size ≡ length v) where
 
 -- ---- what a value that has its shape is like
 abbrev pub Shaped : ℕ → List ℕ → Type 0
-Shaped code v = present? (shape (formOf code) v) ≡ true
+Shaped code v = present? (shape (syntaxOf code) v) ≡ true
 
 -- the test passed, and the code is that of a row
-pub shaped-at : (k : ℕ) {code : ℕ} (v : List ℕ) {r : Bool} → code ≡ k → r ≡ present? (shape (formOf code) v)
+pub shaped-at : (k : ℕ) {code : ℕ} (v : List ℕ) {r : Bool} → code ≡ k → r ≡ present? (shape (syntaxOf code) v)
     → not r ≡ false → Shaped k v
 shaped-at k v {r} e q h = rw (← e) (sym q ∙ not-false r h)
 
@@ -101,14 +101,14 @@ and-true false b e = let z : _≡_ {A = ℕ} 0 1 = cc in absurd (omega arith)
 
 module _ (v : List ℕ) where
   pub expire-four : Shaped 9 v → (length v ≡ 0 → ⊥) → length v ≡ 4
-  unfolding lookup rows formOf shape
+  unfolding lookup rows syntaxOf shape
   expire-four s h =
       let t : present? (cond (eqb (length v) 4) (some (some (be32At v 0))) none) ≡ true =
       rw (ne-eqb (length v) 0 h) at s in
       eqb-true (length v) 4 (chosen (eqb (length v) 4) _ ∙ t)
 
   pub cookie-sizes : Shaped 10 v → (length v ≡ 8 → ⊥) → (16 ≤ length v) × (length v ≤ 40)
-  unfolding lookup rows formOf shape
+  unfolding lookup rows syntaxOf shape
   cookie-sizes s h =
       let b = leb 16 (length v) && leb (length v) 40 in
       let t : present? (cond b (some (take 8 v ∷ drop 8 v ∷ [])) none) ≡ true = rw (ne-eqb (length v) 8 h) at s in
@@ -116,15 +116,15 @@ module _ (v : List ℕ) where
       (leb-true 16 (length v) low, leb-true (length v) 40 high)
 
   pub keepalive-two : Shaped 11 v → length v ≡ 2
-  unfolding lookup rows formOf shape
+  unfolding lookup rows syntaxOf shape
   keepalive-two s = eqb-true (length v) 2 (chosen (eqb (length v) 2) _ ∙ s)
 
   pub keytag-even : Shaped 14 v → length v % 2 ≡ 0
-  unfolding lookup rows formOf shape
+  unfolding lookup rows syntaxOf shape
   keytag-even s = eqb-true (length v % 2) 0 (chosen (eqb (length v % 2) 0) _ ∙ s)
 
   pub error-parts : Shaped 15 v → (2 ≤ length v) × (all printable? (drop 2 v) ≡ true)
-  unfolding lookup rows formOf shape
+  unfolding lookup rows syntaxOf shape
   error-parts s =
       let (long, text) = and-true (leb 2 (length v)) (all printable? (drop 2 v)) (chosen (errorShape v) _ ∙ s) in
       (leb-true 2 (length v) long, text)

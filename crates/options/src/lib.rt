@@ -7,7 +7,7 @@ ghost use lib.ListN.{drop};
 ghost use Rattle.octets.specs.Lists.{present?, all};
 ghost use Rattle.hex_or_octets.specs.Either.{octetsIn, Spelled};
 ghost use Rattle.spelling.specs.Spelling.{printable?};
-ghost use Rattle.options.specs.Options.{zero?, formOf, shape};
+ghost use Rattle.options.specs.Options.{zero?, syntaxOf, shape};
 ghost use Rattle.options.specs.Shapes.{expirySize, cookieSize, errorShape};
 
 // Every octet is zero.
@@ -84,7 +84,7 @@ fn is_error(s: &[u8], hex: bool) -> bool
 // Whether the value of an option has the shape that the table gives to its code.
 pub fn has_shape(code: u32, s: &[u8], hex: bool) -> bool
     requires { ⌜ Spelled hex (now s) ⌝ }
-    ensures { λ r. ⌜ r ≡ present? (shape (formOf code) (octetsIn hex (now (s .entry)))) ⌝ }
+    ensures { λ r. ⌜ r ≡ present? (shape (syntaxOf code) (octetsIn hex (now (s .entry)))) ⌝ }
 {
     let size = count(s, hex);
     match code {

@@ -8,7 +8,7 @@ use native.Mathlib.Omega.{arith}
 use borrow.Author.Tests.{le-leb, lt-leb, eq-eqb, ne-eqb}
 use lib.Dec.{T}
 use lib.ListN.{length, drop, drop-of-length-le}
-use Rattle.octets.specs.Parsed.{took, stuck, and-then, strip}
+use Rattle.octets.specs.Parsed.{parsed, failed, and-then, strip}
 use Rattle.spelling.specs.Spelling.{printable?}
 use Rattle.strict.specs.Spelt.{bare?, quoted, stringAt}
 use Rattle.parse_tokens.specs.Many.{le-or-lt}
@@ -50,7 +50,7 @@ module _ {t : List ℕ} {at x : ℕ} {p : Bool} (e : Byte t at x) (c : p ≡ bar
       filled k = ⊎-elim (λ h. omega arith) (λ h. absurd (subst T (sym k ∙ sym (bare-low {x = x} (omega arith))) tt))
           (le-or-lt 1 x)
 
-      go : bare? x ≡ true → at < length t → stringAt (drop at t) ≡ took x (drop (at + 1) t)
+      go : bare? x ≡ true → at < length t → stringAt (drop at t) ≡ parsed x (drop (at + 1) t)
       go k w = rw (from-byte e w) (rw (k, stringAt))
 
   module _ (g : p ≡ false) where
@@ -91,8 +91,8 @@ module _ {t : List ℕ} {at x : ℕ} {p : Bool} (e : Byte t at x) (c : p ≡ bar
         char-single k = letter-none (behind ∙ ⊎-elim end other (le-or-lt (length t) (at + 1))) (omega arith)
             (omega (arith, inside e (omega arith)))
           where
-            end : length t ≤ at + 1 → quoted (drop (at + 1) t) ≡ stuck (drop (at + 1) t)
+            end : length t ≤ at + 1 → quoted (drop (at + 1) t) ≡ failed (drop (at + 1) t)
             end q = rw (drop-of-length-le t q)
 
-            other : at + 1 < length t → quoted (drop (at + 1) t) ≡ stuck (drop (at + 1) t)
+            other : at + 1 < length t → quoted (drop (at + 1) t) ≡ failed (drop (at + 1) t)
             other q = rw (from-byte f q) (rw (ne-eqb y 34 h, ne-eqb y 92 k, quoted))

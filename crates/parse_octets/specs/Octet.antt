@@ -9,7 +9,7 @@ use borrow.Author.Tests.{le-leb, lt-leb, lt-ltb, le-ltb, eq-eqb, ne-eqb, not-tru
 use lib.Dec.{T, leb, eqb}
 use lib.ListN.{length, drop, drop-of-length-le}
 use Rattle.octets.specs.Bits.{same?, same, upto, below}
-use Rattle.octets.specs.Parsed.{Parsed, took, stuck, and-then, strip}
+use Rattle.octets.specs.Parsed.{Parsed, parsed, failed, and-then, strip}
 use Rattle.spelling.specs.Spelling.{plain?}
 use Rattle.strict.specs.Spelt.{coded?, coded-from?, leads?, ddd, escape, spelledAt, plain-in}
 use Rattle.parse_tokens.specs.Cursor.{Got, clash}
@@ -20,17 +20,17 @@ use Rattle.parse_octets.specs.declared.Letter.{Letter}
 -- ---- what a reader reports of a place
 -- a value was found and `n` is the place after it, or nothing goes on at `n`
 pub data Tells {A : Type 0} (t : List ℕ) (P : A → Type 0) (found : Bool) (n : ℕ) : Parsed A → Type 0 where
-  missing : found ≡ false → Tells t P found n (stuck (drop n t))
-  there : {a : A} → found ≡ true → P a → Tells t P found n (took a (drop n t))
+  missing : found ≡ false → Tells t P found n (failed (drop n t))
+  there : {a : A} → found ≡ true → P a → Tells t P found n (parsed a (drop n t))
 
 module _ {A : Type 0} {t : List ℕ} {P : A → Type 0} {found : Bool} {n : ℕ} where
-  pub tells-missing : {o : Parsed A} → o ≡ stuck (drop n t) → found ≡ false → Tells t P found n o
+  pub tells-missing : {o : Parsed A} → o ≡ failed (drop n t) → found ≡ false → Tells t P found n o
   tells-missing e g = rw e (missing g)
 
-  pub tells-there : {o : Parsed A} {a : A} → o ≡ took a (drop n t) → found ≡ true → P a → Tells t P found n o
+  pub tells-there : {o : Parsed A} {a : A} → o ≡ parsed a (drop n t) → found ≡ true → P a → Tells t P found n o
   tells-there e g v = rw e (there g v)
 
-  pub tells-bad : {o : Parsed A} → Tells t P found n o → found ≡ false → o ≡ stuck (drop n t)
+  pub tells-bad : {o : Parsed A} → Tells t P found n o → found ≡ false → o ≡ failed (drop n t)
   tells-bad (missing g) e = refl
   tells-bad (there g v) e = clash e g
 
@@ -54,7 +54,7 @@ abbrev pub letter : ℕ → ℕ → Letter
 letter x n = record { at = n; found = true; value = x }
 
 module _ {p : List ℕ → Parsed ℕ} {t : List ℕ} {at : ℕ} where
-  pub letter-none : {n : ℕ} → p (drop at t) ≡ stuck (drop n t) → at ≤ n → n ≤ length t → LetterAt p t at (nowhere n)
+  pub letter-none : {n : ℕ} → p (drop at t) ≡ failed (drop n t) → at ≤ n → n ≤ length t → LetterAt p t at (nowhere n)
   letter-none e h k = record {
     tells = tells-missing e refl;
     within = k;
@@ -63,7 +63,8 @@ module _ {p : List ℕ → Parsed ℕ} {t : List ℕ} {at : ℕ} where
     none = λ g. refl;
   }
 
-  pub letter-one : {x n : ℕ} → p (drop at t) ≡ took x (drop n t) → at < n → n ≤ length t → LetterAt p t at (letter x n)
+  pub letter-one : {x n : ℕ} → p (drop at t) ≡ parsed x (drop n t) → at < n → n ≤ length t
+      → LetterAt p t at (letter x n)
   letter-one e h k = record {
     tells = tells-there e refl refl;
     within = k;
@@ -195,7 +196,7 @@ pub record Lowest (n r : ℕ) : Type 0 where
 pub record Highest (n r : ℕ) : Type 0 where
   pub is : r ≡ highest n
   pub most : r ≤ 57
-  pub small : n * 10 + r ≤ 73
+  pub bounded : n * 10 + r ≤ 73
 
 pub lowest-one : {n : ℕ} → n ≡ 1 → Lowest n 50
 unfolding lowest
@@ -207,15 +208,15 @@ lowest-other {n} d = record { is = rw (ne-eqb n 1 d); least = omega arith }
 
 pub highest-zero : {n : ℕ} → n ≡ 0 → Highest n 51
 unfolding highest
-highest-zero {n} e = record { is = rw (eq-eqb n 0 e); most = omega arith; small = omega arith }
+highest-zero {n} e = record { is = rw (eq-eqb n 0 e); most = omega arith; bounded = omega arith }
 
 pub highest-one : {n : ℕ} → (n ≡ 0 → ⊥) → n ≡ 1 → Highest n 57
 unfolding highest
-highest-one {n} d e = record { is = rw (ne-eqb n 0 d, eq-eqb n 1 e); most = omega arith; small = omega arith }
+highest-one {n} d e = record { is = rw (ne-eqb n 0 d, eq-eqb n 1 e); most = omega arith; bounded = omega arith }
 
 pub highest-other : {n : ℕ} → n < 3 → (n ≡ 0 → ⊥) → (n ≡ 1 → ⊥) → Highest n 53
 unfolding highest
-highest-other {n} h d k = record { is = rw (ne-eqb n 0 d, ne-eqb n 1 k); most = omega arith; small = omega arith }
+highest-other {n} h d k = record { is = rw (ne-eqb n 0 d, ne-eqb n 1 k); most = omega arith; bounded = omega arith }
 
 -- the third makes an octet that is written so
 third-leads : (n x v : ℕ) → 48 ≤ x → x ≤ 57 → v ≡ n * 10 + (x - 48) → leads? 0 n x ≡ coded? v
@@ -230,10 +231,10 @@ module _ {t : List ℕ} {at x : ℕ} (e : Byte t at x) where
   unfolding ddd
   digit-no k n h w = letter-none (⊎-elim end other (le-or-lt (length t) at)) (omega arith) w
     where
-      end : length t ≤ at → ddd (suc k) n (drop at t) ≡ stuck (drop at t)
+      end : length t ≤ at → ddd (suc k) n (drop at t) ≡ failed (drop at t)
       end p = rw (drop-of-length-le t p)
 
-      other : at < length t → ddd (suc k) n (drop at t) ≡ stuck (drop at t)
+      other : at < length t → ddd (suc k) n (drop at t) ≡ failed (drop at t)
       other q = rw (from-byte e q) (rw (h, ddd))
 
   digit-yes : (k n m : ℕ) → leads? k n x ≡ true → at < length t → m ≡ n * 10 + (x - 48)
@@ -284,7 +285,7 @@ module _ {t : List ℕ} {at x : ℕ} (e : Byte t at x) where
           letter-one (digit-yes 0 n v (third-leads n x v h k d ∙ sym c ∙ not-false p g) w d ∙ none v (drop (at + 1) t))
           (omega arith) (omega arith)
         where
-          none : (n : ℕ) (u : List ℕ) → ddd 0 n u ≡ took n u
+          none : (n : ℕ) (u : List ℕ) → ddd 0 n u ≡ parsed n u
           none n u = refl
 
 -- what is coded is an octet
@@ -333,7 +334,7 @@ module _ {t : List ℕ} {at x : ℕ} {p : Bool} (e : Byte t at x) (c : p ≡ pla
       let w = inside e (omega (arith, plain-in x (subst T (sym k) tt))) in
       letter-one (go k w) (omega arith) (omega arith)
     where
-      go : plain? x ≡ true → at < length t → spelledAt (drop at t) ≡ took x (drop (at + 1) t)
+      go : plain? x ≡ true → at < length t → spelledAt (drop at t) ≡ parsed x (drop (at + 1) t)
       go k w = rw (from-byte e w) (rw (k, spelledAt))
 
   module _ (g : p ≡ false) where

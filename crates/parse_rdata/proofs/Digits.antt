@@ -4,7 +4,7 @@ use mathlib.Core.List.{List, [], _∷_}
 use Prim.Native.Nat.{ℕ, _+_, _≤_, _<_}
 use lib.ListN.{length, getD, take}
 use lib.Seq.{take-all}
-use Rattle.octets.specs.Overlay.{Wrote, past, copy-step}
+use Rattle.octets.specs.Overlay.{Wrote, wrote-past, copy-step}
 
 -- one turn more
 pub octets-step : (s : List ℕ) {b b₁ b₂ : List ℕ} {at r₁ r₂ i x size : ℕ} → Wrote b at (take i s) b₁ r₁
@@ -16,7 +16,7 @@ octets-step s {i = i} p q e h z =
 -- nothing is written past the buffer's end; and the end
 module _ (s : List ℕ) {size : ℕ} (z : size ≡ length s) where
   pub octets-past : (b : List ℕ) (at : ℕ) → length b ≤ at → Wrote b at s b (at + size)
-  octets-past b at h = past b at s h (rw z)
+  octets-past b at h = wrote-past b at s h (rw z)
 
   pub octets-end : {b b₁ : List ℕ} {at r i : ℕ} → size ≤ i → Wrote b at (take i s) b₁ r → Wrote b at s b₁ r
   octets-end {i = i} h p = rw (take-all i s (rw (← z) h)) at p

@@ -14,7 +14,7 @@ use Rattle.names.specs.Walk.{part, rdata, Named, named, faulty, nameFrom}
 use Rattle.records.specs.Layout.{Piece, fixed, name, Laid, laid, misfit, before, pieces, laid?, rdataFits?}
 use Rattle.records.specs.Parts.{layoutIn, rdata-pieces}
 use Rattle.records.specs.Answer.{pieceRead}
-use Rattle.records.proofs.Pieces.{layout-small, headed}
+use Rattle.records.proofs.Pieces.{layout-small, layout-head}
 use Rattle.records.specs.declared.Piece.{Piece as PieceRead}
 use Rattle.records.specs.declared.Piece.the-variants as piece
 use Rattle.parse_rdata.specs.Skipping.{skipped, nameEnd}
@@ -27,13 +27,13 @@ laid-before l (laid m) = refl
 laid-before l (misfit fault) = refl
 
 -- v is the whole answer, by the pieces from the i-th on, at the place `at`
-pub record FitLoop (s : List ℕ) (kind size : ℕ) (v : Bool) (i at : ℕ) : Type 0 where
+pub record FitLoop (s : List ℕ) (rtype size : ℕ) (v : Bool) (i at : ℕ) : Type 0 where
   pub long : size ≡ length s
-  pub goes : v ≡ laid? (pieces false (drop i (layoutIn kind size)) s 0 size at)
+  pub goes : v ≡ laid? (pieces false (drop i (layoutIn rtype size)) s 0 size at)
 
-pub fits-start : (s : List ℕ) (kind : ℕ) {size : ℕ} → size ≡ length s → FitLoop s kind size (rdataFits? kind s) 0 0
+pub fits-start : (s : List ℕ) (rtype : ℕ) {size : ℕ} → size ≡ length s → FitLoop s rtype size (rdataFits? rtype s) 0 0
 unfolding rdataFits?
-fits-start s kind e = record { long = e; goes = ap laid? (rdata-pieces false s kind 0 (length s)) ∙ rw (e, zero-add) }
+fits-start s rtype e = record { long = e; goes = ap laid? (rdata-pieces false s rtype 0 (length s)) ∙ rw (e, zero-add) }
 
 -- ---- the first piece of a layout
 module _ (s : List ℕ) (size at : ℕ) (l : List Piece) where
@@ -92,30 +92,30 @@ module _ (s : List ℕ) (size at : ℕ) (l : List Piece) where
         go (faulty fault) e h = let z : _≡_ {A = ℕ} 0 1 = cc in absurd (omega arith)
 
 -- ---- the ways of the code
-module _ {s : List ℕ} {kind size : ℕ} {v : Bool} {i at : ℕ} (f : FitLoop s kind size v i at) {p : PieceRead}
-    (e : p ≡ pieceRead (drop i (layoutIn kind size))) where
+module _ {s : List ℕ} {rtype size : ℕ} {v : Bool} {i at : ℕ} (f : FitLoop s rtype size v i at) {p : PieceRead}
+    (e : p ≡ pieceRead (drop i (layoutIn rtype size))) where
   -- the pieces after the i-th
-  behind : {next : ℕ} → v ≡ laid? (pieces false (drop 1 (drop i (layoutIn kind size))) s 0 size next)
-      → FitLoop s kind size v (i + 1) next
+  behind : {next : ℕ} → v ≡ laid? (pieces false (drop 1 (drop i (layoutIn rtype size))) s 0 size next)
+      → FitLoop s rtype size v (i + 1) next
   behind {next} h = record {
     long = f .long;
     goes = h ∙ ap (λ (m : List Piece). laid? (pieces false m s 0 size next))
-        (drop-drop 1 i (layoutIn kind size));
+        (drop-drop 1 i (layoutIn rtype size));
   }
 
   -- only the first three pieces are there
-  some : 1 ≤ length (drop i (layoutIn kind size)) → i < 3
+  some : 1 ≤ length (drop i (layoutIn rtype size)) → i < 3
   some h =
-      let k = layout-small kind size in
-      omega (arith, k .0, length-drop i (layoutIn kind size))
+      let k = layout-small rtype size in
+      omega (arith, k .0, length-drop i (layoutIn rtype size))
 
   -- after the last piece
   pub fits-end : p ≡ piece.End → leb size at ≡ v
-  fits-end q = end-fits s size at _ (headed _ piece.End (sym q ∙ e)) ∙ sym (f .goes)
+  fits-end q = end-fits s size at _ (layout-head _ piece.End (sym q ∙ e)) ∙ sym (f .goes)
 
   module _ {n : ℕ} (q : p ≡ piece.Fixed n) where
-    octets : drop i (layoutIn kind size) ≡ fixed n ∷ drop 1 (drop i (layoutIn kind size))
-    octets = headed _ (piece.Fixed n) (sym q ∙ e)
+    octets : drop i (layoutIn rtype size) ≡ fixed n ∷ drop 1 (drop i (layoutIn rtype size))
+    octets = layout-head _ (piece.Fixed n) (sym q ∙ e)
 
     pub fits-some : i < 3
     fits-some = some (omega (arith, ap length octets))
@@ -123,12 +123,12 @@ module _ {s : List ℕ} {kind size : ℕ} {v : Bool} {i at : ℕ} (f : FitLoop s
     pub fits-short : at ≤ size → size - at < n → false ≡ v
     fits-short h k = short-fits s size at _ octets (omega arith) ∙ sym (f .goes)
 
-    pub fits-part : at ≤ size → n ≤ size - at → FitLoop s kind size v (i + 1) (at + n)
+    pub fits-part : at ≤ size → n ≤ size - at → FitLoop s rtype size v (i + 1) (at + n)
     fits-part h k = behind (f .goes ∙ part-fits s size at _ octets (omega arith))
 
   module _ (q : p ≡ piece.Name) where
-    naming : drop i (layoutIn kind size) ≡ name ∷ drop 1 (drop i (layoutIn kind size))
-    naming = headed _ piece.Name (sym q ∙ e)
+    naming : drop i (layoutIn rtype size) ≡ name ∷ drop 1 (drop i (layoutIn rtype size))
+    naming = layout-head _ piece.Name (sym q ∙ e)
 
     pub fits-named : i < 3
     fits-named = some (omega (arith, ap length naming))
@@ -141,5 +141,5 @@ module _ {s : List ℕ} {kind size : ℕ} {v : Bool} {i at : ℕ} (f : FitLoop s
       pub fits-unfit : r ≡ Unfit → false ≡ v
       fits-unfit h = unfit-fits s size at _ naming (sym same ∙ h) ∙ sym (f .goes)
 
-      pub fits-name : {next : ℕ} → r ≡ To next → FitLoop s kind size v (i + 1) next
+      pub fits-name : {next : ℕ} → r ≡ To next → FitLoop s rtype size v (i + 1) next
       fits-name {next} h = behind (f .goes ∙ name-fits s size at _ naming next (sym same ∙ h))

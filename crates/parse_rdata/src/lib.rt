@@ -74,15 +74,15 @@ fn skip_name(hex: &[u8], at: usize) -> Skipped
 }
 
 // Whether RDATA, without pointers, is what the layout of its TYPE says.
-pub fn fits_layout(kind: u32, hex: &[u8]) -> bool
+pub fn fits_layout(rtype: u32, hex: &[u8]) -> bool
     requires { ⌜ Hexes (now hex) ⌝ }
-    ensures { λ r. ⌜ r ≡ rdataFits? kind (paired (now (hex .entry))) ⌝ }
+    ensures { λ r. ⌜ r ≡ rdataFits? rtype (paired (now (hex .entry))) ⌝ }
 {
     let size = count(hex, true);
     let mut i = 0;
     let mut at = 0;
     loop {
-        match layout_piece(kind, size, i) {
+        match layout_piece(rtype, size, i) {
             Piece::End => {
                 return at >= size;
             }

@@ -7,14 +7,14 @@ use Prim.Native.Nat.{ℕ, _≤_}
 use native.Mathlib.Omega.{arith}
 use lib.Dec.{T}
 use lib.ListN.{length, drop, length-drop}
-use Rattle.octets.specs.Parsed.{Parsed, took, stuck, took-value, took≢stuck}
+use Rattle.octets.specs.Parsed.{Parsed, parsed, failed, parsed-value, parsed≢failed}
 use Rattle.spelling.specs.Spelling.{Signed}
 use Rattle.parse_tokens.specs.declared.Cursor.{Cursor}
 use Rattle.parse_tokens.specs.declared.Amount.{Amount}
 use Rattle.parse_tokens.specs.declared.Ttl.{Ttl}
 use Rattle.parse_tokens.specs.declared.Span.{Span}
 use Rattle.parse_tokens.specs.declared.Row.{Row}
-use Rattle.parse_tokens.specs.Cursor.{cursors, rest, left-of, Keeps, Went, Passed, reads-bad, reads-got, clash}
+use Rattle.parse_tokens.specs.Cursor.{cursors, rest, left-of, Keeps, MovedTo, Passed, reads-bad, reads-got, clash}
 use Rattle.parse_tokens.specs.Step.{Found, Held, Emits, Judged}
 use Rattle.parse_tokens.specs.Place.{Byte, one-byte}
 use Rattle.parse_tokens.specs.Choice.{Further}
@@ -35,12 +35,12 @@ one-place t m n h k e = omega (arith, ap length e, length-drop m t, length-drop 
 
 -- what a parser leaves, and whether it took something
 abbrev left : {A : Type 0} → Parsed A → List ℕ
-left (took a w) = w
-left (stuck w) = w
+left (parsed a w) = w
+left (failed w) = w
 
 abbrev took? : {A : Type 0} → Parsed A → Bool
-took? (took a w) = true
-took? (stuck w) = false
+took? (parsed a w) = true
+took? (failed w) = false
 
 left-is : (b : Bool) (w : List ℕ) → left (left-of b w) ≡ w
 left-is true w = refl
@@ -51,61 +51,63 @@ took-is true w = refl
 took-is false w = refl
 
 -- readers that changed the place alone
-kept : {t : List ℕ} {c r s : Cursor} → Keeps t c r → Keeps t c s → r .spelled ≡ s .spelled → r .at ≡ s .at → r ≡ s
-kept k m e d = cursors d (both-are (k .to) (m .to)) e (both-are (k .meant) (m .meant)) (both-are (k .small) (m .small))
+kept : {t : List ℕ} {c r s : Cursor} → Keeps t c r → Keeps t c s → r .grammatical ≡ s .grammatical → r .at ≡ s .at
+    → r ≡ s
+kept k m e d = cursors d (both-are (k .to) (m .to)) e (both-are (k .meaningful) (m .meaningful))
+    (both-are (k .bounded) (m .bounded))
 
 -- what two readers by one parser have in common
 record Alike {A : Type 0} (P Q : A → Type 0) (r s : Cursor) : Type 0 where
-  spelled : r .spelled ≡ s .spelled
+  grammatical : r .grammatical ≡ s .grammatical
   at : r .at ≡ s .at
-  value : r .spelled ≡ true → (a : A) × (P a × Q a)
+  value : r .grammatical ≡ true → (a : A) × (P a × Q a)
 
 module _ {A : Type 0} {p : List ℕ → Parsed A} {P Q : A → Type 0} {t : List ℕ} {c r s : Cursor} where
   alike : Found p P t c r → Found p Q t c s → Alike P Q r s
-  alike x y = go (r .spelled) (s .spelled) refl refl
+  alike x y = go (r .grammatical) (s .grammatical) refl refl
     where
       place : drop (r .at) t ≡ drop (s .at) t → r .at ≡ s .at
       place = one-place t (r .at) (s .at) (x .moves .safe .inside) (y .moves .safe .inside)
 
-      go : (a b : Bool) → r .spelled ≡ a → s .spelled ≡ b → Alike P Q r s
+      go : (a b : Bool) → r .grammatical ≡ a → s .grammatical ≡ b → Alike P Q r s
       go true true d e =
           let g = reads-got (x .reads) d in
           let h = reads-got (y .reads) e in
           let i = sym (g .is) ∙ h .is in
           record {
-            spelled = both-are d e;
+            grammatical = both-are d e;
             at = place (ap left i);
-            value = λ k. (g .value, (g .holds, subst Q (sym (took-value i)) (h .holds)));
+            value = λ k. (g .value, (g .holds, subst Q (sym (parsed-value i)) (h .holds)));
           }
-      go true false d e = absurd (took≢stuck (sym (reads-got (x .reads) d .is) ∙ reads-bad (y .reads) e))
-      go false true d e = absurd (took≢stuck (sym (reads-got (y .reads) e .is) ∙ reads-bad (x .reads) d))
+      go true false d e = absurd (parsed≢failed (sym (reads-got (x .reads) d .is) ∙ reads-bad (y .reads) e))
+      go false true d e = absurd (parsed≢failed (sym (reads-got (y .reads) e .is) ∙ reads-bad (x .reads) d))
       go false false d e = record {
-        spelled = both-are d e;
+        grammatical = both-are d e;
         at = place (ap left (sym (reads-bad (x .reads) d) ∙ reads-bad (y .reads) e));
         value = λ k. clash d k;
       }
 
   -- the cursor of both
   one-cursor : Found p P t c r → Found p Q t c s → Keeps t c r → Keeps t c s → r ≡ s
-  one-cursor x y k m = let l = alike x y in kept k m (l .spelled) (l .at)
+  one-cursor x y k m = let l = alike x y in kept k m (l .grammatical) (l .at)
 
   -- what goes with it: one thing on a stop, another by what was found
   one-value : {B : Type 0} {v w u : B} → Found p P t c r → Found p Q t c s
-      → (r .spelled ≡ false → v ≡ u) → (s .spelled ≡ false → w ≡ u) → ((a : A) → P a → Q a → v ≡ w) → v ≡ w
-  one-value {v = v} {w = w} x y f g h = go (r .spelled) refl
+      → (r .grammatical ≡ false → v ≡ u) → (s .grammatical ≡ false → w ≡ u) → ((a : A) → P a → Q a → v ≡ w) → v ≡ w
+  one-value {v = v} {w = w} x y f g h = go (r .grammatical) refl
     where
       l : Alike P Q r s
       l = alike x y
 
-      go : (b : Bool) → r .spelled ≡ b → v ≡ w
+      go : (b : Bool) → r .grammatical ≡ b → v ≡ w
       go true e = let a = l .value e in h (a .0) (a .1 .0) (a .1 .1)
-      go false e = both-are (f e) (g (sym (l .spelled) ∙ e))
+      go false e = both-are (f e) (g (sym (l .grammatical) ∙ e))
 
 -- ---- came, stop; literal, comma; judge; further
-pub came-determined : {b : Bool} {c r s : Cursor} {n : ℕ} → Went b c n r → Went b c n s → r ≡ s
+pub came-determined : {b : Bool} {c r s : Cursor} {n : ℕ} → MovedTo b c n r → MovedTo b c n s → r ≡ s
 came-determined x y =
     cursors (both-are (x .at) (y .at)) (both-are (x .to) (y .to)) (both-are (x .is) (y .is))
-    (both-are (x .meant) (y .meant)) (both-are (x .small) (y .small))
+    (both-are (x .meaningful) (y .meaningful)) (both-are (x .bounded) (y .bounded))
 
 pub literal-determined : {l t : List ℕ} {c r s : Cursor} → Passed l t c r → Passed l t c s → r ≡ s
 literal-determined {l} {t} {c} {r} {s} x y = kept (x .keeps) (y .keeps) goes (place remains)
@@ -113,24 +115,24 @@ literal-determined {l} {t} {c} {r} {s} x y = kept (x .keeps) (y .keeps) goes (pl
     e : rest t r ≡ rest t s
     e = both-are (x .left) (y .left)
 
-    goes : r .spelled ≡ s .spelled
-    goes = sym (took-is (r .spelled) _) ∙ ap took? e ∙ took-is (s .spelled) _
+    goes : r .grammatical ≡ s .grammatical
+    goes = sym (took-is (r .grammatical) _) ∙ ap took? e ∙ took-is (s .grammatical) _
 
     remains : drop (r .at) t ≡ drop (s .at) t
-    remains = sym (left-is (r .spelled) _) ∙ ap left e ∙ left-is (s .spelled) _
+    remains = sym (left-is (r .grammatical) _) ∙ ap left e ∙ left-is (s .grammatical) _
 
     place : drop (r .at) t ≡ drop (s .at) t → r .at ≡ s .at
     place = one-place t (r .at) (s .at) (x .keeps .safe .inside) (y .keeps .safe .inside)
 
 pub judge-determined : {ok : Bool} {c r s : Cursor} → Judged ok c r → Judged ok c s → r ≡ s
 judge-determined x y =
-    cursors (both-are (x .at) (y .at)) (both-are (x .to) (y .to)) (both-are (x .spelled) (y .spelled))
-    (both-are (x .meant) (y .meant)) (both-are (x .small) (y .small))
+    cursors (both-are (x .at) (y .at)) (both-are (x .to) (y .to)) (both-are (x .grammatical) (y .grammatical))
+    (both-are (x .meaningful) (y .meaningful)) (both-are (x .bounded) (y .bounded))
 
 pub further-determined : {n : ℕ} {c r s : Cursor} → Further n c r → Further n c s → r ≡ s
-further-determined {n} {c} {r} {s} x y = go (c .spelled) refl
+further-determined {n} {c} {r} {s} x y = go (c .grammatical) refl
   where
-    go : (b : Bool) → c .spelled ≡ b → r ≡ s
+    go : (b : Bool) → c .grammatical ≡ b → r ≡ s
     go true e = both-are (x .goes e) (y .goes e)
     go false e = came-determined (x .stops e) (y .stops e)
 
@@ -141,24 +143,24 @@ octet-determined = one-byte
 -- ---- hold, emit
 pub hold-determined : {n : ℕ} {c r s : Cursor} → Held n c r → Held n c s → r ≡ s
 hold-determined x y =
-    cursors (both-are (x .at) (y .at)) (both-are (x .place) (y .place)) (both-are (x .spelled) (y .spelled))
-    (both-are (x .meant) (y .meant)) (both-are (x .small) (y .small))
+    cursors (both-are (x .at) (y .at)) (both-are (x .place) (y .place)) (both-are (x .grammatical) (y .grammatical))
+    (both-are (x .meaningful) (y .meaningful)) (both-are (x .bounded) (y .bounded))
 
 pub emit-determined : {xs b b′ b″ : List ℕ} {c r s : Cursor} → Emits xs c b r b′ → Emits xs c b s b″
     → (r ≡ s) × (b′ ≡ b″)
-emit-determined {b′ = b′} {b″ = b″} {r = r} {s = s} x y = (cursor, go (r .small) refl)
+emit-determined {b′ = b′} {b″ = b″} {r = r} {s = s} x y = (cursor, go (r .bounded) refl)
   where
-    small : r .small ≡ s .small
-    small = both-are (x .small) (y .small)
+    bounded : r .bounded ≡ s .bounded
+    bounded = both-are (x .bounded) (y .bounded)
 
     cursor : r ≡ s
     cursor =
-        cursors (both-are (x .at) (y .at)) (both-are (x .place) (y .place)) (both-are (x .spelled) (y .spelled))
-        (both-are (x .meant) (y .meant)) small
+        cursors (both-are (x .at) (y .at)) (both-are (x .place) (y .place)) (both-are (x .grammatical) (y .grammatical))
+        (both-are (x .meaningful) (y .meaningful)) bounded
 
-    go : (a : Bool) → r .small ≡ a → b′ ≡ b″
-    go true e = both-are (x .wrote (subst T (sym e) tt) .text) (y .wrote (subst T (sym e ∙ small) tt) .text)
-    go false e = both-are (x .stays e) (y .stays (sym small ∙ e))
+    go : (a : Bool) → r .bounded ≡ a → b′ ≡ b″
+    go true e = both-are (x .wrote (subst T (sym e) tt) .text) (y .wrote (subst T (sym e ∙ bounded) tt) .text)
+    go false e = both-are (x .stays e) (y .stays (sym bounded ∙ e))
 
 -- ---- number, till; signed; hex; flags, rcode, option_name
 module _ {t : List ℕ} {c : Cursor} where

@@ -9,10 +9,10 @@ use native.Mathlib.Omega.{arith}
 use borrow.Author.Tests.{lt-ltb, le-ltb, ltb-true, ltb-false, not-true, not-false}
 use lib.Dec.{ltb}
 use lib.ListN.{length, drop, length-drop}
-use Rattle.octets.specs.Parsed.{Parsed, took, stuck, and-then, or-else, strip}
-use Rattle.strict.specs.Spelt.{made}
+use Rattle.octets.specs.Parsed.{Parsed, parsed, failed, and-then, or-else, strip}
+use Rattle.strict.specs.Spelt.{fromSum}
 use Rattle.parse_tokens.specs.declared.Cursor.{Cursor}
-use Rattle.parse_tokens.specs.Cursor.{left-of, Safe, Keeps, keeps-same, Passed, Stopped, went-keeps, Finds}
+use Rattle.parse_tokens.specs.Cursor.{left-of, Safe, Keeps, keeps-same, Passed, FailedAt, went-keeps, Finds}
 use Rattle.parse_tokens.specs.Cursor.{stopped}
 use Rattle.parse_tokens.specs.Cursor.{taken, clash}
 use Rattle.parse_tokens.specs.Step.{Found, found-as, found-map}
@@ -32,15 +32,16 @@ further t m n h k = go (ltb m n) refl
 
 -- a reader that stopped stops at the further of its place and another
 pub record Further (at : ℕ) (c r : Cursor) : Type 0 where
-  pub goes : c .spelled ≡ true → r ≡ c
-  pub stops : c .spelled ≡ false → Stopped c (cond (ltb (c .at) at) at (c .at)) r
+  pub goes : c .grammatical ≡ true → r ≡ c
+  pub stops : c .grammatical ≡ false → FailedAt c (cond (ltb (c .at) at) at (c .at)) r
 
-pub further-goes : {at : ℕ} {c : Cursor} → not (c .spelled) ≡ false → Further at c c
-further-goes {at} {c} g = record { goes = λ h. refl; stops = λ h. clash h (not-false (c .spelled) g) }
+pub further-goes : {at : ℕ} {c : Cursor} → not (c .grammatical) ≡ false → Further at c c
+further-goes {at} {c} g = record { goes = λ h. refl; stops = λ h. clash h (not-false (c .grammatical) g) }
 
-pub further-there : {at : ℕ} {c r : Cursor} → not (c .spelled) ≡ true → c .at < at → Stopped c at r → Further at c r
+pub further-there : {at : ℕ} {c r : Cursor} → not (c .grammatical) ≡ true → c .at < at → FailedAt c at r
+    → Further at c r
 further-there {at} {c} g h s =
-    record { goes = λ k. clash (not-true (c .spelled) g) k; stops = λ k. rw (lt-ltb (c .at) at h) s }
+    record { goes = λ k. clash (not-true (c .grammatical) g) k; stops = λ k. rw (lt-ltb (c .at) at h) s }
 
 pub further-here : {at : ℕ} {c : Cursor} → at ≤ c .at → Further at c c
 further-here {at} {c} h =
@@ -50,13 +51,13 @@ further-here {at} {c} h =
         is = k;
         at = refl;
         to = refl;
-        meant = refl;
-        small = refl;
+        meaningful = refl;
+        bounded = refl;
       };
     }
 
 pub further-keeps : {t : List ℕ} {at : ℕ} {c r : Cursor} → Safe t c → at ≤ length t → Further at c r → Keeps t c r
-further-keeps {t} {at} {c} {r} h k f = go (c .spelled) refl
+further-keeps {t} {at} {c} {r} h k f = go (c .grammatical) refl
   where
     least : (b : Bool) → ltb (c .at) at ≡ b → c .at ≤ cond b at (c .at)
     least true e = omega (arith, ltb-true (c .at) at e)
@@ -66,7 +67,7 @@ further-keeps {t} {at} {c} {r} h k f = go (c .spelled) refl
     most true = k
     most false = h .inside
 
-    go : (b : Bool) → c .spelled ≡ b → Keeps t c r
+    go : (b : Bool) → c .grammatical ≡ b → Keeps t c r
     go true g = subst (Keeps t c) (sym (f .goes g)) (keeps-same h)
     go false g = went-keeps h (f .stops g) (least (ltb (c .at) at) refl) (most (ltb (c .at) at))
 
@@ -86,8 +87,8 @@ choice p q w = or-else (p w) (q w)
 module _ {A : Type 0} {t : List ℕ} (p q : List ℕ → Parsed A) where
   module _ {P : A → Type 0} {c r : Cursor} (x : Found p P t c r) where
     -- the first
-    pub found-first : r .spelled ≡ true → Found (choice p q) P t c r
-    found-first g = record { reads = go (c .spelled) (x .reads); moves = x .moves }
+    pub found-first : r .grammatical ≡ true → Found (choice p q) P t c r
+    found-first g = record { reads = go (c .grammatical) (x .reads); moves = x .moves }
       where
         first : {o : Parsed A} (u : Parsed A) → Finds t P r o → Finds t P r (or-else o u)
         first u (stopped k) = clash k g
@@ -98,10 +99,10 @@ module _ {A : Type 0} {t : List ℕ} (p q : List ℕ → Parsed A) where
         go true y = first _ y
         go false y = y
 
-    module _ {Q : A → Type 0} {s : Cursor} (g : r .spelled ≡ false) (y : Found q Q t c s) where
+    module _ {Q : A → Type 0} {s : Cursor} (g : r .grammatical ≡ false) (y : Found q Q t c s) where
       -- the second, where the first stops
-      found-second : s .spelled ≡ true → Found (choice p q) Q t c s
-      found-second k = record { reads = go (c .spelled) (x .reads) (y .reads); moves = y .moves }
+      found-second : s .grammatical ≡ true → Found (choice p q) Q t c s
+      found-second k = record { reads = go (c .grammatical) (x .reads) (y .reads); moves = y .moves }
         where
           second : {o u : Parsed A} → Finds t P r o → Finds t Q s u → Finds t Q s (or-else o u)
           second (taken l v) z = clash g l
@@ -115,10 +116,10 @@ module _ {A : Type 0} {t : List ℕ} (p q : List ℕ → Parsed A) where
           go false a b = b
 
       -- neither: the reader stops at the further place
-      found-neither : {R : A → Type 0} {z : Cursor} → s .spelled ≡ false → z .spelled ≡ false
+      found-neither : {R : A → Type 0} {z : Cursor} → s .grammatical ≡ false → z .grammatical ≡ false
           → z .at ≡ cond (ltb (r .at) (s .at)) (s .at) (r .at) → Safe t z → Found (choice p q) R t c z
       found-neither {R} {z} k l e h = record {
-        reads = go (c .spelled) (x .reads) (y .reads);
+        reads = go (c .grammatical) (x .reads) (y .reads);
         moves = record {
           safe = h;
           onward = omega (arith, e, x .moves .onward, y .moves .onward, least (ltb (r .at) (s .at)));
@@ -129,7 +130,7 @@ module _ {A : Type 0} {t : List ℕ} (p q : List ℕ → Parsed A) where
           least true = y .moves .onward
           least false = x .moves .onward
 
-          there : Finds t R z (stuck (drop (cond (ltb (r .at) (s .at)) (s .at) (r .at)) t))
+          there : Finds t R z (failed (drop (cond (ltb (r .at) (s .at)) (s .at) (r .at)) t))
           there = rw (← e) (stopped l)
 
           both : {o u : Parsed A} → Finds t P r o → Finds t Q s u → Finds t R z (or-else o u)
@@ -138,8 +139,8 @@ module _ {A : Type 0} {t : List ℕ} (p q : List ℕ → Parsed A) where
           both (stopped m) (stopped n) =
               rw (further t (r .at) (s .at) (x .moves .safe .inside) (y .moves .safe .inside)) there
 
-          same : {w : List ℕ} → Finds t P r (stuck w) → Finds t Q s (stuck w) → Finds t R z (stuck w)
-          same {w} a b = subst (λ u. Finds t R z (stuck u)) (one (ltb (length w) (length w))) (both a b)
+          same : {w : List ℕ} → Finds t P r (failed w) → Finds t Q s (failed w) → Finds t R z (failed w)
+          same {w} a b = subst (λ u. Finds t R z (failed u)) (one (ltb (length w) (length w))) (both a b)
             where
               one : (b : Bool) → cond b w w ≡ w
               one true = refl
@@ -154,21 +155,21 @@ module _ {A : Type 0} {t : List ℕ} (p q : List ℕ → Parsed A) where
 module _ {A : Type 0} {t : List ℕ} (p q : List ℕ → Parsed A) {P Q : A → Type 0} {c r s z : Cursor} (R : Cursor → A
     → Type 0) (x : Found p P t c r) (y : Found q Q t c s) where
   -- the first, where the second stops
-  pub first-further : s .spelled ≡ false → Further (s .at) r z → ((a : A) → P a → R r a)
+  pub first-further : s .grammatical ≡ false → Further (s .at) r z → ((a : A) → P a → R r a)
       → Found (choice p q) (R z) t c z
-  first-further k f h = go (r .spelled) refl
+  first-further k f h = go (r .grammatical) refl
     where
-      go : (b : Bool) → r .spelled ≡ b → Found (choice p q) (R z) t c z
+      go : (b : Bool) → r .grammatical ≡ b → Found (choice p q) (R z) t c z
       go true g = subst (λ z. Found (choice p q) (R z) t c z) (sym (f .goes g)) (found-first p q (found-as x h) g)
       go false g = let e = f .stops g in
           found-neither p q x g y k (e .is) (e .at) (further-keeps (x .moves .safe) (y .moves .safe .inside) f .safe)
 
   -- the second, where the first stops
-  pub second-further : r .spelled ≡ false → Further (r .at) s z → ((a : A) → Q a → R s a)
+  pub second-further : r .grammatical ≡ false → Further (r .at) s z → ((a : A) → Q a → R s a)
       → Found (choice p q) (R z) t c z
-  second-further g f h = go (s .spelled) refl
+  second-further g f h = go (s .grammatical) refl
     where
-      go : (b : Bool) → s .spelled ≡ b → Found (choice p q) (R z) t c z
+      go : (b : Bool) → s .grammatical ≡ b → Found (choice p q) (R z) t c z
       go true k = subst (λ z. Found (choice p q) (R z) t c z) (sym (f .goes k)) (found-second p q x g (found-as y h) k)
       go false k = let e = f .stops k in found-neither p q x g y k (e .is) (e .at ∙ further-same (s .at) (r .at))
           (further-keeps (y .moves .safe) (x .moves .safe .inside) f .safe)
@@ -176,41 +177,42 @@ module _ {A : Type 0} {t : List ℕ} (p q : List ℕ → Parsed A) {P Q : A → 
 -- ---- things of two kinds
 -- what their parser does
 kinds : {A B C : Type 0} (left : A → C) (right : B → C) (o : Parsed A) (u : Parsed B)
-    → and-then (or-else (and-then o λ a r. took (inl a) r) (and-then u λ b r. took (inr b) r))
-    (λ v r. took (made left right v) r)
-    ≡ or-else (and-then o λ a r. took (left a) r) (and-then u λ b r. took (right b) r)
-kinds left right (took a r) u = refl
-kinds left right (stuck w) (took b r) = refl
-kinds left right (stuck w) (stuck r) = refl
+    → and-then (or-else (and-then o λ a r. parsed (inl a) r) (and-then u λ b r. parsed (inr b) r))
+    (λ v r. parsed (fromSum left right v) r)
+    ≡ or-else (and-then o λ a r. parsed (left a) r) (and-then u λ b r. parsed (right b) r)
+kinds left right (parsed a r) u = refl
+kinds left right (failed w) (parsed b r) = refl
+kinds left right (failed w) (failed r) = refl
 
 abbrev pub either-parse : {A B C : Type 0} (left : A → C) (right : B → C) (p : List ℕ → Parsed A) (q : List ℕ
     → Parsed B) → List ℕ → Parsed C
 either-parse left right p q w =
-    and-then (or-else (and-then (p w) λ a r. took (inl a) r) (and-then (q w) λ b r. took (inr b) r))
-    (λ v r. took (made left right v) r)
+    and-then (or-else (and-then (p w) λ a r. parsed (inl a) r) (and-then (q w) λ b r. parsed (inr b) r))
+    (λ v r. parsed (fromSum left right v) r)
 
 module _ {A B C : Type 0} (left : A → C) (right : B → C) (p : List ℕ → Parsed A) (q : List ℕ → Parsed B) {P : A
     → Type 0} {t : List ℕ} {c r : Cursor} (x : Found p P t c r) where
   same : {S : C → Type 0} {z : Cursor}
-      → Found (choice (λ w. and-then (p w) λ a r. took (left a) r) (λ w. and-then (q w) λ b r. took (right b) r)) S t c
+      → Found (choice (λ w. and-then (p w) λ a r. parsed (left a) r) (λ w. and-then (q w) λ b r. parsed (right b) r)) S
+      t c
       z → Found (either-parse left right p q) S t c z
   same = found-same (either-parse left right p q)
       (λ g. sym (kinds left right (p (drop (c .at) t)) (q (drop (c .at) t))))
 
-  pub either-first : {R : C → Type 0} → r .spelled ≡ true → ((a : A) → P a → R (left a))
+  pub either-first : {R : C → Type 0} → r .grammatical ≡ true → ((a : A) → P a → R (left a))
       → Found (either-parse left right p q) R t c r
-  either-first g h = same (found-first _ (λ w. and-then (q w) λ b r. took (right b) r) (found-map left h x) g)
+  either-first g h = same (found-first _ (λ w. and-then (q w) λ b r. parsed (right b) r) (found-map left h x) g)
 
   module _ {Q : B → Type 0} {s z : Cursor} (R : Cursor → C → Type 0) (y : Found q Q t c s) where
     -- the first, where the second stops
-    pub either-further : s .spelled ≡ false → Further (s .at) r z → ((a : A) → P a → R r (left a))
+    pub either-further : s .grammatical ≡ false → Further (s .at) r z → ((a : A) → P a → R r (left a))
         → Found (either-parse left right p q) (R z) t c z
     either-further k f h =
         same (first-further _ _ R (found-map {Q = R r} left h x)
         (found-map {Q = λ u. Unit {0}} right (λ b v. tt) y) k f λ a v. v)
 
     -- the second, where the first stops
-    pub either-second : r .spelled ≡ false → Further (r .at) s z → ((b : B) → Q b → R s (right b))
+    pub either-second : r .grammatical ≡ false → Further (r .at) s z → ((b : B) → Q b → R s (right b))
         → Found (either-parse left right p q) (R z) t c z
     either-second g f h =
         same (second-further _ _ R (found-map {Q = λ u. Unit {0}} left (λ a v. tt) x)
@@ -218,15 +220,15 @@ module _ {A B C : Type 0} (left : A → C) (right : B → C) (p : List ℕ → P
 
 -- ---- a part that may be missing, and fixed octets in its place
 abbrev pub maybeParse : {A : Type 0} → List ℕ → (List ℕ → Parsed A) → List ℕ → Parsed (Option A)
-maybeParse {A} l p = either-parse {A = Unit {0}} (λ u. none) some (λ w. and-then (strip l w) λ u r. took u r) p
+maybeParse {A} l p = either-parse {A = Unit {0}} (λ u. none) some (λ w. and-then (strip l w) λ u r. parsed u r) p
 
 module _ {A : Type 0} {l t : List ℕ} {c r : Cursor} (p : List ℕ → Parsed A) (q : Passed l t c r) where
-  missing : Found (λ w. and-then (strip l w) λ u r. took u r) (λ (u : Unit {0}). Unit {0}) t c r
+  missing : Found (λ w. and-then (strip l w) λ u r. parsed u r) (λ (u : Unit {0}). Unit {0}) t c r
   missing = found-entry q {A = Unit {0}} {P = λ u. Unit {0}} tt tt
 
-  pub maybe-none : {R : Option A → Type 0} → r .spelled ≡ true → R none → Found (maybeParse l p) R t c r
+  pub maybe-none : {R : Option A → Type 0} → r .grammatical ≡ true → R none → Found (maybeParse l p) R t c r
   maybe-none g v = either-first (λ u. none) some _ p missing g λ u h. v
 
-  pub maybe-some : {Q : A → Type 0} {s z : Cursor} (R : Cursor → Option A → Type 0) → r .spelled ≡ false
+  pub maybe-some : {Q : A → Type 0} {s z : Cursor} (R : Cursor → Option A → Type 0) → r .grammatical ≡ false
       → Found p Q t c s → Further (r .at) s z → ((a : A) → Q a → R s (some a)) → Found (maybeParse l p) (R z) t c z
   maybe-some R g y f h = either-second (λ u. none) some _ p missing R y g f h

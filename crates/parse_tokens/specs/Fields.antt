@@ -23,11 +23,12 @@ use Rattle.parse_tokens.specs.Signed.{TtlKept}
 pub record Done {A : Type 0} (P : A → Type 0) (ok : A → Bool) (wire : A → List ℕ) (c : Cursor) (b : List ℕ) (r : Cursor)
     (b′ : List ℕ) : Type 0 where
   pub at : r .at ≡ c .at
-  pub spelled : r .spelled ≡ c .spelled
+  pub grammatical : r .grammatical ≡ c .grammatical
   pub room : r .to ≤ 65535
   pub put : (a : A) → P a → Put ok wire c b r b′ a
 
--- All that is done for a field of the message: in range, the octets xs are written; out of range, only `meant` changes.
+-- All that is done for a field of the message: in range, the octets xs are written; out of range, only `meaningful`
+-- changes.
 pub record FieldPut {A : Type 0} (P : A → Type 0) (ok : A → Bool) (wire : A → List ℕ) (fits : Bool) (xs : List ℕ)
     (c : Cursor) (b : List ℕ) (r : Cursor) (b′ : List ℕ) : Type 0 where
   pub done : Done P ok wire c b r b′
@@ -47,12 +48,12 @@ module _ {A : Type 0} {P : A → Type 0} {ok : A → Bool} {wire : A → List �
   done-out : c .to ≤ 65535 → ((a : A) → P a → ok a ≡ false) → Judged false c r → Done P ok wire c b r b′
   done-out h out j = record {
     at = j .at;
-    spelled = j .spelled;
+    grammatical = j .grammatical;
     room = omega (arith, j .to);
     put = λ a p. record {
-      meant = rw (out a p) (j .meant);
-      small = λ k. absurd (and-right (c .meant) false (subst T (j .meant) k));
-      wrote = λ k. absurd (and-right (c .meant) false (subst T (j .meant) k));
+      meaningful = rw (out a p) (j .meaningful);
+      bounded = λ k. absurd (and-right (c .meaningful) false (subst T (j .meaningful) k));
+      wrote = λ k. absurd (and-right (c .meaningful) false (subst T (j .meaningful) k));
     };
   }
 
@@ -61,27 +62,28 @@ module _ {A : Type 0} {P : A → Type 0} {ok : A → Bool} {wire : A → List �
       → Done P ok wire c b r b′
   done-in fits e = record {
     at = e .at;
-    spelled = e .spelled;
+    grammatical = e .grammatical;
     room = e .room;
     put = λ a p. record {
-      meant = rw (fits a p .0) (e .meant ∙ sym (and-true (c .meant)));
-      small = λ k. rw (fits a p .1) (e .small);
+      meaningful = rw (fits a p .0) (e .meaningful ∙ sym (and-true (c .meaningful)));
+      bounded = λ k. rw (fits a p .1) (e .bounded);
       wrote = λ k l. rw (fits a p .1) (e .wrote l);
     };
   }
 
 -- octets for which n places were held: past the limit, or written
 module _ {A : Type 0} {P : A → Type 0} {wire : A → List ℕ} {n : ℕ} {c r : Cursor} (h : Held n c r) {b : List ℕ} where
-  pub done-past : not (r .small) ≡ true → ((a : A) → P a → leb (c .to + length (wire a)) 65535 ≡ leb (c .to + n) 65535)
+  pub done-past : not (r .bounded) ≡ true
+      → ((a : A) → P a → leb (c .to + length (wire a)) 65535 ≡ leb (c .to + n) 65535)
       → Done P (λ a. true) wire c b r b
   done-past e same = record {
     at = h .at;
-    spelled = h .spelled;
+    grammatical = h .grammatical;
     room = h .room;
     put = λ a p. record {
-      meant = h .meant ∙ sym (and-true (c .meant));
-      small = λ k. h .small ∙ ap (λ x. c .small && x) (sym (same a p));
-      wrote = λ k s. absurd (subst T (not-true (r .small) e) s);
+      meaningful = h .meaningful ∙ sym (and-true (c .meaningful));
+      bounded = λ k. h .bounded ∙ ap (λ x. c .bounded && x) (sym (same a p));
+      wrote = λ k s. absurd (subst T (not-true (r .bounded) e) s);
     };
   }
 
@@ -89,13 +91,13 @@ module _ {A : Type 0} {P : A → Type 0} {wire : A → List ℕ} {n : ℕ} {c r 
       → Done P (λ a. true) wire c b r b′
   done-held w = record {
     at = h .at;
-    spelled = h .spelled;
+    grammatical = h .grammatical;
     room = h .room;
     put = λ a p.
         let l = w a p .0 in
         record {
-          meant = h .meant ∙ sym (and-true (c .meant));
-          small = λ k. rw l (h .small);
+          meaningful = h .meaningful ∙ sym (and-true (c .meaningful));
+          bounded = λ k. rw l (h .bounded);
           wrote = λ k s. record { place = h .to s ∙ rw l; text = w a p .1 .text };
         };
   }
@@ -148,7 +150,7 @@ module _ {bits : ℕ} {fits : Bool} {c r : Cursor} {b : List ℕ} where
 module _ {A : Type 0} {ok : A → Bool} {wire : A → List ℕ} {t b b′ : List ℕ} {c s : Cursor} where
   pub found-done : {P : A → Type 0} {p : List ℕ → Parsed A} {r : Cursor} → Found p P t c r → Keeps t c r
       → Done P ok wire r b s b′ → Step ok wire p t c b s b′
-  found-done x k d = found-at x (d .at) (d .spelled) (d .room) λ a h. put-from k (d .put a h)
+  found-done x k d = found-at x (d .at) (d .grammatical) (d .room) λ a h. put-from k (d .put a h)
 
 -- one thing after another, at the same place of the text
 pub done-then : {A B : Type 0} {P : A → Type 0} {Q : B → Type 0} {ok : A → Bool} {ok′ : B → Bool} {wire : A
@@ -158,7 +160,7 @@ pub done-then : {A B : Type 0} {P : A → Type 0} {Q : B → Type 0} {ok : A →
     ++ wire′ (u .1)) c b s b″
 done-then p q = record {
   at = q .at ∙ p .at;
-  spelled = q .spelled ∙ p .spelled;
+  grammatical = q .grammatical ∙ p .grammatical;
   room = q .room;
   put = λ u h. put-then (p .put (u .0) (h .0)) (q .put (u .1) (h .1));
 }

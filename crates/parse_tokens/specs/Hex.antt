@@ -10,7 +10,7 @@ use lib.ListN.{length, take, drop, getD, length-append, length-drop, drop-of-len
 use lib.Seq.{take-add, drop-drop}
 use Rattle.octets.specs.Lists.{Octets, each}
 use Rattle.octets.specs.Bits.{is-false, and-left, and-right, All-append}
-use Rattle.octets.specs.Parsed.{took, stuck, and-then, otherwise, strip}
+use Rattle.octets.specs.Parsed.{parsed, failed, and-then, otherwise, strip}
 use Rattle.octets.specs.Codec.{Avoids}
 use Rattle.octets.specs.Overlay.{each-append, each-single}
 use Rattle.octets.specs.Decimal.{digit?, digit-in}
@@ -19,9 +19,10 @@ use Rattle.octets.specs.Hexadecimal.{hexOctet-avoids, hexPairs, hex}
 use Rattle.octets.specs.Fields.{drop-one}
 use Rattle.parse_tokens.specs.declared.Cursor.{Cursor}
 use Rattle.parse_tokens.specs.declared.Span.{Span}
-use Rattle.parse_tokens.specs.Cursor.{left-of, rest, Safe, Keeps, keeps-same, keeps-then, Passed, Came, Stopped}
+use Rattle.parse_tokens.specs.Cursor.{left-of, rest, Safe, Keeps, keeps-same, keeps-then, Passed, Advanced}
+use Rattle.parse_tokens.specs.Cursor.{FailedAt}
 use Rattle.parse_tokens.specs.Cursor.{went-keeps, Finds, stopped, taken, clash}
-use Rattle.parse_tokens.specs.Step.{Found, found-stuck, found-lit, moves}
+use Rattle.parse_tokens.specs.Step.{Found, found-failed, found-lit, moves}
 use Rattle.parse_tokens.specs.Many.{run-of, Going, going-start, going-more, going-stop, many-once}
 use Rattle.parse_tokens.specs.Leaf.{found-stop, stays-at, strip-at-once, strip-first}
 
@@ -71,19 +72,19 @@ hex-opened {o = o} q x = record {
 -- x is the digit of n
 pub record HexValue (x : ℕ) : Type 0 where
   pub n : ℕ
-  pub small : n < 16
+  pub bounded : n < 16
   pub is : hexDigit n ≡ x
 
 -- r is whether x is a digit
 pub record HexTest (x : ℕ) (r : Bool) : Type 0 where
   pub yes : r ≡ true → HexValue x
-  pub no : r ≡ false → (w : List ℕ) → unhex (x ∷ w) ≡ stuck (x ∷ w)
+  pub no : r ≡ false → (w : List ℕ) → unhex (x ∷ w) ≡ failed (x ∷ w)
 
 -- r is whether a digit is at a place
 pub record HexAt (t : List ℕ) (at : ℕ) (r : Bool) : Type 0 where
   pub inside : r ≡ true → at < length t
   pub yes : r ≡ true → HexValue (getD t at 0)
-  pub no : r ≡ false → unhex (drop at t) ≡ stuck (drop at t)
+  pub no : r ≡ false → unhex (drop at t) ≡ failed (drop at t)
 
 module _ {x : ℕ} where
   is-none : (48 ≤ x → x ≤ 57 → ⊥) → (65 ≤ x → x < 71 → ⊥) → HexTest x false
@@ -101,7 +102,7 @@ module _ {x : ℕ} where
       no u = g (leb→le 65 x (and-left (leb 65 x) (ltb x 71) u)) (ltb→lt x 71 (and-right (leb 65 x) (ltb x 71) u))
 
   is-one : {n : ℕ} → n < 16 → hexDigit n ≡ x → HexTest x true
-  is-one {n} h e = record { yes = λ d. record { n = n; small = h; is = e }; no = λ d. clash d refl }
+  is-one {n} h e = record { yes = λ d. record { n = n; bounded = h; is = e }; no = λ d. clash d refl }
 
   pub hex-below : x < 48 → HexTest x false
   hex-below h = is-none (λ a b. omega arith) (λ a b. omega arith)
@@ -128,14 +129,14 @@ module _ {t : List ℕ} {at : ℕ} where
 
 -- ---- two digits
 module _ (w : List ℕ) where
-  pair-none : {u : List ℕ} → unhex w ≡ stuck u → octetCodec .parse w ≡ stuck u
+  pair-none : {u : List ℕ} → unhex w ≡ failed u → octetCodec .parse w ≡ failed u
   pair-none e = rw e
 
-  module _ {n : ℕ} {v : List ℕ} (e : unhex w ≡ took n v) where
-    pair-half : {u : List ℕ} → unhex v ≡ stuck u → octetCodec .parse w ≡ stuck u
+  module _ {n : ℕ} {v : List ℕ} (e : unhex w ≡ parsed n v) where
+    pair-half : {u : List ℕ} → unhex v ≡ failed u → octetCodec .parse w ≡ failed u
     pair-half d = rw (e, d)
 
-    pair-took : {m : ℕ} {u : List ℕ} → unhex v ≡ took m u → octetCodec .parse w ≡ took (n * 16 + m) u
+    pair-took : {m : ℕ} {u : List ℕ} → unhex v ≡ parsed m u → octetCodec .parse w ≡ parsed (n * 16 + m) u
     pair-took d = rw (e, d)
 
 -- the octet of two digits is written so
@@ -146,10 +147,10 @@ pair-text n m h =
     rw (p, q)
 
 digit-there : (t : List ℕ) (at : ℕ) → at < length t → (x : HexValue (getD t at 0))
-    → unhex (drop at t) ≡ took (x .n) (drop (at + 1) t)
+    → unhex (drop at t) ≡ parsed (x .n) (drop (at + 1) t)
 digit-there t at h x =
-    rw (drop-one t at h) (subst (λ y. unhex (y ∷ drop (at + 1) t) ≡ took (x .n) (drop (at + 1) t)) (x .is)
-    (unhex-back (x .n) (drop (at + 1) t) (x .small)))
+    rw (drop-one t at h) (subst (λ y. unhex (y ∷ drop (at + 1) t) ≡ parsed (x .n) (drop (at + 1) t)) (x .is)
+    (unhex-back (x .n) (drop (at + 1) t) (x .bounded)))
 
 -- two octets more of a text
 two-more : (t : List ℕ) (from at : ℕ) → from ≤ at → at + 1 < length t
@@ -172,10 +173,10 @@ pub record Quoted (t : List ℕ) (c : Cursor) (at : ℕ) (r : Cursor) : Type 0 w
   pub keeps : Keeps t c r
 
 module _ {t : List ℕ} {c x : Cursor} {at : ℕ} where
-  pub came-safe : Safe t c → at ≤ length t → Came c at x → Safe t x
+  pub came-safe : Safe t c → at ≤ length t → Advanced c at x → Safe t x
   came-safe f h s = record { inside = omega (arith, s .at); room = omega (arith, s .to, f .room) }
 
-  pub quoted : {r : Cursor} → Safe t c → c .at ≤ at → at ≤ length t → Came c at x → Passed (34 ∷ []) t x r
+  pub quoted : {r : Cursor} → Safe t c → c .at ≤ at → at ≤ length t → Advanced c at x → Passed (34 ∷ []) t x r
       → Quoted t c at r
   quoted f h k s q = record {
     left = rw (s .is, s .at) at (q .left);
@@ -184,7 +185,7 @@ module _ {t : List ℕ} {c x : Cursor} {at : ℕ} where
 
 -- the reader is at the place or one past it
 quoted-near : {t : List ℕ} {c r : Cursor} {at : ℕ} → at ≤ length t → Quoted t c at r → (at ≤ r .at) × (r .at ≤ at + 1)
-quoted-near {t} {c} {r} {at} h q = go (r .spelled) (q .left)
+quoted-near {t} {c} {r} {at} h q = go (r .grammatical) (q .left)
   where
     near : (n : ℕ) → n ≤ 1 → length (drop at t) ≡ n + length (drop (r .at) t) → (at ≤ r .at) × (r .at ≤ at + 1)
     near n k e =
@@ -200,7 +201,7 @@ quoted-near {t} {c} {r} {at} h q = go (r .spelled) (q .left)
 no-quote : Avoids (λ x. x < 256) hexOctet 34
 no-quote = hexOctet-avoids 34 (omega arith)
 
-no-octet : octetCodec .parse [] ≡ stuck []
+no-octet : octetCodec .parse [] ≡ failed []
 unfolding unhex
 no-octet = refl
 
@@ -237,18 +238,18 @@ module _ {t : List ℕ} {c : Cursor} {at : ℕ} (w : Pairs t c at) where
 
   module _ {b : Bool} (p : HexAt t at b) where
     -- no digit: the quote, or the reader stops there
-    pub pairs-close : {r : Cursor} → Safe t c → not (c .spelled) ≡ false → not b ≡ true → Quoted t c at r
+    pub pairs-close : {r : Cursor} → Safe t c → not (c .grammatical) ≡ false → not b ≡ true → Quoted t c at r
         → PairsRead t c (record { cursor = r; from = c .at; end = at })
     unfolding hexPairs
     pairs-close {r} f g k q = record {
       found = record {
         reads = rw (
-          not-false (c .spelled) g,
+          not-false (c .grammatical) g,
           w .goes .goes,
           many-once octetCodec 34 no-quote no-octet (drop at t),
           pair-none (drop at t) (p .no (not-true b k)),
           ← (q .left),
-        ) (go (r .spelled) refl (q .left));
+        ) (go (r .grammatical) refl (q .left));
         moves = moves (q .keeps);
       };
       keeps = q .keeps;
@@ -258,10 +259,10 @@ module _ {t : List ℕ} {c : Cursor} {at : ℕ} (w : Pairs t c at) where
       run = run-here;
     }
       where
-        go : (d : Bool) → r .spelled ≡ d → left-of d (drop (r .at) t) ≡ strip (34 ∷ []) (drop at t)
+        go : (d : Bool) → r .grammatical ≡ d → left-of d (drop (r .at) t) ≡ strip (34 ∷ []) (drop at t)
             → Finds t (HexRun t (record { cursor = r; from = c .at; end = at })) r
-            (and-then (otherwise (and-then (left-of d (drop (r .at) t)) λ u r. took [] r) (stuck (drop at t))) λ u
-            r. took (w .l ++ u) r)
+            (and-then (otherwise (and-then (left-of d (drop (r .at) t)) λ u r. parsed [] r) (failed (drop at t))) λ u
+            r. parsed (w .l ++ u) r)
         go true e d = rw (append-nil) (taken e run-here)
         go false e d = rw (stays-at (strip-at-once 34 (drop at t)) (sym d)) (stopped e)
 
@@ -274,13 +275,13 @@ module _ {t : List ℕ} {c : Cursor} {at : ℕ} (w : Pairs t c at) where
 
       module _ {e : Bool} (q : HexAt t (at + 1) e) where
         -- a digit, and no second one
-        pub pairs-half : {r : Cursor} → Safe t c → not (c .spelled) ≡ false → not e ≡ true → Stopped c (at + 1) r
+        pub pairs-half : {r : Cursor} → Safe t c → not (c .grammatical) ≡ false → not e ≡ true → FailedAt c (at + 1) r
             → PairsRead t c (record { cursor = r; from = c .at; end = at })
         unfolding hexPairs
         pairs-half f g h s = record {
-          found = found-stop f (not-false (c .spelled) g)
+          found = found-stop f (not-false (c .grammatical) g)
               (going-stop octetCodec 34 no-quote no-octet (w .goes)
-              (λ d. omega (arith, first .is, hexDigit-in (first .n) (first .small) .0))
+              (λ d. omega (arith, first .is, hexDigit-in (first .n) (first .bounded) .0))
               (pair-half (drop at t) (digit-there t at pairs-inside first) (q .no (not-true e h))))
               (omega (arith, w .long)) (omega (arith, pairs-inside)) s;
           keeps = went-keeps f s (omega (arith, w .long)) (omega (arith, pairs-inside));
@@ -309,21 +310,21 @@ module _ {t : List ℕ} {c : Cursor} {at : ℕ} (w : Pairs t c at) where
                     w .digits,
                     each-append,
                     each-single,
-                    pair-text (first .n) (second .n) (second .small),
+                    pair-text (first .n) (second .n) (second .bounded),
                     first .is,
                     second .is,
                   );
               octets = All-append (λ x. x < 256) (w .l) (x ∷ []) (w .octets)
-                  (omega (arith, first .small, second .small), tt);
+                  (omega (arith, first .bounded, second .bounded), tt);
               within = omega (arith, pairs-room h);
               long = rw length-append (omega (arith, w .long));
             }
 
 -- a reader that has stopped
-pub pairs-stuck : {t : List ℕ} {c : Cursor} → Safe t c → not (c .spelled) ≡ true
+pub pairs-stuck : {t : List ℕ} {c : Cursor} → Safe t c → not (c .grammatical) ≡ true
     → PairsRead t c (record { cursor = c; from = c .at; end = c .at })
 pairs-stuck {t} {c} h g = record {
-  found = found-stuck (hexPairs .parse) t c h (not-true (c .spelled) g);
+  found = found-failed (hexPairs .parse) t c h (not-true (c .grammatical) g);
   keeps = keeps-same h;
   from = refl;
   end = omega arith;

@@ -6,11 +6,12 @@ use Prim.Native.Nat.{ℕ, _+_, _≤_, _<_}
 use native.Mathlib.Omega.{arith}
 use borrow.Author.Tests.{eq-eqb, not-true, not-false}
 use lib.ListN.{length, drop, getD, length-append, length-drop}
-use Rattle.octets.specs.Parsed.{Parsed, took, stuck, and-then, otherwise, strip, is-stuck, strip-sound}
+use Rattle.octets.specs.Parsed.{Parsed, parsed, failed, and-then, otherwise, strip, is-failed, strip-sound}
 use Rattle.octets.specs.Codec.{Avoids, Codec, exact, _▷_}
 use Rattle.octets.specs.Fields.{drop-one}
 use Rattle.parse_tokens.specs.declared.Cursor.{Cursor}
-use Rattle.parse_tokens.specs.Cursor.{left-of, Safe, Keeps, Came, went-keeps, keeps-same, Passed, reads-took}
+use Rattle.parse_tokens.specs.Cursor.{left-of, Safe, Keeps, Advanced, went-keeps, keeps-same, Passed}
+use Rattle.parse_tokens.specs.Cursor.{reads-parsed}
 use Rattle.parse_tokens.specs.Cursor.{reads-stop, reads-got, reads-bad, Got}
 use Rattle.parse_tokens.specs.Step.{Found, Moves, moves, moves-then, found-there}
 use Rattle.parse_tokens.specs.Place.{Byte, inside, no-strip}
@@ -22,9 +23,9 @@ comma-of true = []
 comma-of false = 44 ∷ []
 
 pub comma-none : {first : Bool} {t : List ℕ} {c : Cursor} → first ≡ true → Safe t c → Passed (comma-of first) t c c
-comma-none {first} {t} {c} e h = rw e record { left = go (c .spelled); keeps = keeps-same h }
+comma-none {first} {t} {c} e h = rw e record { left = go (c .grammatical); keeps = keeps-same h }
   where
-    go : (b : Bool) → left-of b (drop (c .at) t) ≡ and-then (left-of b (drop (c .at) t)) (λ u w. took tt w)
+    go : (b : Bool) → left-of b (drop (c .at) t) ≡ and-then (left-of b (drop (c .at) t)) (λ u w. parsed tt w)
     go true = refl
     go false = refl
 
@@ -39,8 +40,9 @@ module _ {A : Type 0} {I : A → Type 0} {f : A → List ℕ} {F : List ℕ → 
 
   -- all that is left, by whether the next is the first
   abbrev pub part-of : Bool → List ℕ → Parsed (List A)
-  part-of true w = otherwise (and-then (strip (stop ∷ []) w) λ u r. took [] r)
-      (and-then {A = A × List A} (and-then (p .parse w) λ a w. and-then (more-of w) λ b r. took (a, b) r) λ u r. took
+  part-of true w = otherwise (and-then (strip (stop ∷ []) w) λ u r. parsed [] r)
+      (and-then {A = A × List A} (and-then (p .parse w) λ a w. and-then (more-of w) λ b r. parsed (a, b) r) λ u r.
+      parsed
       (u .0 ∷ u .1) r)
   part-of false w = more-of w
 
@@ -52,8 +54,8 @@ module _ {A : Type 0} {I : A → Type 0} {f : A → List ℕ} {F : List ℕ → 
   pub record Items (Q : List A → Type 0) (t : List ℕ) (c : Cursor) (start : Bool) (d : Cursor)
       (first : Bool) : Type 0 where
     pub l : List A
-    pub goes : part-of start (drop (c .at) t) ≡ and-then (part-of first (drop (d .at) t)) (λ u r. took (l ++ u) r)
-    pub spelled : d .spelled ≡ true
+    pub goes : part-of start (drop (c .at) t) ≡ and-then (part-of first (drop (d .at) t)) (λ u r. parsed (l ++ u) r)
+    pub grammatical : d .grammatical ≡ true
     pub moves : Moves t c d
     pub holds : Q l
 
@@ -62,33 +64,33 @@ module _ {A : Type 0} {I : A → Type 0} {f : A → List ℕ} {F : List ℕ
     (t : List ℕ) where
   -- ---- the parser, turn by turn
   ended-at : (first : Bool) (at : ℕ) → at < length t → getD t at 0 ≡ stop
-      → part-of p stop first (drop at t) ≡ took [] (drop (at + 1) t)
+      → part-of p stop first (drop at t) ≡ parsed [] (drop (at + 1) t)
   ended-at true at h e = rw (drop-one t at h, e, eq-eqb stop stop refl)
   ended-at false at h e = going-end ("," ▷ p) stop apart refl (going-start (more-of p stop) t at) h e
 
-  next-at : (first : Bool) (at n : ℕ) (a : A) → item-of p stop first (drop at t) ≡ took a (drop n t)
-      → part-of p stop first (drop at t) ≡ and-then (more-of p stop (drop n t)) (λ u r. took (a ∷ u) r)
+  next-at : (first : Bool) (at n : ℕ) (a : A) → item-of p stop first (drop at t) ≡ parsed a (drop n t)
+      → part-of p stop first (drop at t) ≡ and-then (more-of p stop (drop n t)) (λ u r. parsed (a ∷ u) r)
   next-at true at n a e =
       let k = exact p (drop at t) a (drop n t) e in
-      let s = is-stuck (strip-sound (stop ∷ []) (drop at t)) (λ u r d. avoids a _ r (k .0) (k .1 ∙ sym d)) in
+      let s = is-failed (strip-sound (stop ∷ []) (drop at t)) (λ u r d. avoids a _ r (k .0) (k .1 ∙ sym d)) in
       rw (s .1, e) (go (more-of p stop (drop n t)))
     where
       go : (o : Parsed (List A))
-          → and-then {A = A × List A} (and-then o λ b r. took (a, b) r) (λ u r. took (u .0 ∷ u .1) r) ≡ and-then o
-          (λ u r. took (a ∷ u) r)
-      go (took u r) = refl
-      go (stuck w) = refl
+          → and-then {A = A × List A} (and-then o λ b r. parsed (a, b) r) (λ u r. parsed (u .0 ∷ u .1) r) ≡ and-then o
+          (λ u r. parsed (a ∷ u) r)
+      go (parsed u r) = refl
+      go (failed w) = refl
   next-at false at n a e = going-more ("," ▷ p) stop apart refl (going-start (more-of p stop) t at) {n = n} e .goes
 
   stuck-at : (first : Bool) (at x : ℕ) (w : List ℕ) → Byte t at x → (x ≡ stop → ⊥)
-      → item-of p stop first (drop at t) ≡ stuck w → part-of p stop first (drop at t) ≡ stuck w
+      → item-of p stop first (drop at t) ≡ failed w → part-of p stop first (drop at t) ≡ failed w
   stuck-at true at x w k d e = rw (no-strip stop [] k d, e)
   stuck-at false at x w k d e =
       going-stop ("," ▷ p) stop apart refl (going-start (more-of p stop) t at) (λ z. d (k .is ∙ z)) e
 
   -- an item has an octet
   far-at : (first : Bool) (at n : ℕ) (a : A) → at ≤ length t → n ≤ length t
-      → item-of p stop first (drop at t) ≡ took a (drop n t) → at < n
+      → item-of p stop first (drop at t) ≡ parsed a (drop n t) → at < n
   far-at true at n a h k e = go (f a) refl (exact p (drop at t) a (drop n t) e)
     where
       go : (w : List ℕ) → f a ≡ w → I a × (f a ++ drop n t ≡ drop at t) → at < n
@@ -105,46 +107,47 @@ module _ {A : Type 0} {I : A → Type 0} {f : A → List ℕ} {F : List ℕ
       omega (arith, ap length (x .1), length-append (f a) (drop n t), length-drop n t, length-drop at t)
 
   -- ---- a loop that reads them
-  module _ {c : Cursor} {start : Bool} (g : not (c .spelled) ≡ false) where
+  module _ {c : Cursor} {start : Bool} (g : not (c .grammatical) ≡ false) where
     pub items-start : {Q : List A → Type 0} → Safe t c → Q [] → Items p stop Q t c start c start
     items-start h q = record {
       l = [];
       goes = go (part-of p stop start (drop (c .at) t));
-      spelled = not-false (c .spelled) g;
+      grammatical = not-false (c .grammatical) g;
       moves = record { safe = h; onward = omega arith };
       holds = q;
     }
       where
-        go : (o : Parsed (List A)) → o ≡ and-then o (λ u r. took ([] ++ u) r)
-        go (took u r) = refl
-        go (stuck w) = refl
+        go : (o : Parsed (List A)) → o ≡ and-then o (λ u r. parsed ([] ++ u) r)
+        go (parsed u r) = refl
+        go (failed w) = refl
 
     module _ {Q : List A → Type 0} {d : Cursor} {first : Bool} (w : Items p stop Q t c start d first) where
       pub items-end : {R : List A → Type 0} {x : ℕ} {r : Cursor} → Byte t (d .at) x → x ≡ stop → 0 < stop
-          → Came d (d .at + 1) r → (Keeps t d r → (l : List A) → Q l → R l) → Found (part-of p stop start) R t c r
+          → Advanced d (d .at + 1) r → (Keeps t d r → (l : List A) → Q l → R l) → Found (part-of p stop start) R t c r
       items-end {R} {x} {r} k e z s q =
           let h = inside k (omega arith) in
           let m = went-keeps (w .moves .safe) s (omega arith) (omega arith) in
           record {
-            reads = reads-took (rw (not-false (c .spelled) g)
+            reads = reads-parsed (rw (not-false (c .grammatical) g)
                 (w .goes ∙ rw (ended-at first (d .at) h (sym (k .is) ∙ e), append-nil))) (s .is) (s .at)
                 (q m (w .l) (w .holds));
             moves = moves-then (w .moves) (moves m);
           }
 
       module _ {P : A → Type 0} {r : Cursor} (y : Found (item-of p stop first) P t d r) where
-        pub items-stop : {R : List A → Type 0} {x : ℕ} → Byte t (d .at) x → (x ≡ stop → ⊥) → not (r .spelled) ≡ true
+        pub items-stop : {R : List A → Type 0} {x : ℕ} → Byte t (d .at) x → (x ≡ stop → ⊥) → not (r .grammatical) ≡ true
             → Found (part-of p stop start) R t c r
         items-stop k e j = record {
-          reads = reads-stop (rw (not-false (c .spelled) g)
+          reads = reads-stop (rw (not-false (c .grammatical) g)
               (w .goes ∙ rw (stuck-at first (d .at) _ _ k e
-              (reads-bad (found-there y (w .spelled)) (not-true (r .spelled) j))))) (not-true (r .spelled) j) refl;
+              (reads-bad (found-there y (w .grammatical)) (not-true (r .grammatical) j)))))
+              (not-true (r .grammatical) j) refl;
           moves = moves-then (w .moves) (y .moves);
         }
 
-        module _ (j : not (r .spelled) ≡ false) where
+        module _ (j : not (r .grammatical) ≡ false) where
           got : Got (item-of p stop first (drop (d .at) t)) P (drop (r .at) t)
-          got = reads-got (found-there y (w .spelled)) (not-false (r .spelled) j)
+          got = reads-got (found-there y (w .grammatical)) (not-false (r .grammatical) j)
 
           pub items-far : d .at < r .at
           items-far = far-at first (d .at) (r .at) (got .value) (w .moves .safe .inside) (y .moves .safe .inside)
@@ -156,13 +159,13 @@ module _ {A : Type 0} {I : A → Type 0} {f : A → List ℕ} {F : List ℕ
             l = w .l ++ (got .value ∷ []);
             goes = w .goes ∙ rw (next-at first (d .at) (r .at) (got .value) (got .is))
                 (go (more-of p stop (drop (r .at) t)));
-            spelled = not-false (r .spelled) j;
+            grammatical = not-false (r .grammatical) j;
             moves = moves-then (w .moves) (y .moves);
             holds = q (w .l) (got .value) (w .holds) (got .holds);
           }
             where
               go : (o : Parsed (List A))
-                  → and-then (and-then o (λ u r. took (got .value ∷ u) r)) (λ u r. took (w .l ++ u) r) ≡ and-then o
-                  (λ u r. took (w .l ++ (got .value ∷ []) ++ u) r)
-              go (took u r) = rw append-assoc
-              go (stuck u) = refl
+                  → and-then (and-then o (λ u r. parsed (got .value ∷ u) r)) (λ u r. parsed (w .l ++ u) r) ≡ and-then o
+                  (λ u r. parsed (w .l ++ (got .value ∷ []) ++ u) r)
+              go (parsed u r) = rw append-assoc
+              go (failed u) = refl

@@ -6,7 +6,8 @@ use Prim.Native.Nat.{ℕ, zero, suc, _+_, _≤_, _<_}
 use native.Mathlib.Omega.{arith}
 use borrow.Author.Tests.{eq-eqb}
 use lib.ListN.{length, drop, getD, drop-of-length-le, length-append}
-use Rattle.octets.specs.Parsed.{Parsed, took, stuck, and-then, otherwise, strip, Holds, missed, found, held, is-stuck}
+use Rattle.octets.specs.Parsed.{Parsed, parsed, failed, and-then, otherwise, strip, Holds, missed, found, held}
+use Rattle.octets.specs.Parsed.{is-failed}
 use Rattle.octets.specs.Parsed.{strip-sound}
 use Rattle.octets.specs.Codec.{Avoids, Codec, repeated}
 use Rattle.octets.specs.Fields.{drop-one}
@@ -24,17 +25,17 @@ run-of stop p t = repeated stop p (length t) t
 -- v, what there is to find, is what m finds from place `at` on, after l
 pub record Going {A : Type 0} (m : List ℕ → Parsed (List A)) (t : List ℕ) (v : Parsed (List A)) (at : ℕ)
     (l : List A) : Type 0 where
-  pub goes : v ≡ and-then (m (drop at t)) (λ u r. took (l ++ u) r)
+  pub goes : v ≡ and-then (m (drop at t)) (λ u r. parsed (l ++ u) r)
 
-behind-nothing : {A : Type 0} (o : Parsed (List A)) → o ≡ and-then o (λ u r. took ([] ++ u) r)
-behind-nothing (took u r) = refl
-behind-nothing (stuck w) = refl
+behind-nothing : {A : Type 0} (o : Parsed (List A)) → o ≡ and-then o (λ u r. parsed ([] ++ u) r)
+behind-nothing (parsed u r) = refl
+behind-nothing (failed w) = refl
 
 pub going-start : {A : Type 0} (m : List ℕ → Parsed (List A)) (t : List ℕ) (at : ℕ) → Going m t (m (drop at t)) at []
 going-start m t at = record { goes = behind-nothing (m (drop at t)) }
 
 module _ {A : Type 0} {I : A → Type 0} {f : A → List ℕ} {F : List ℕ
-    → Type 0} (p : Codec I f F) (stop : ℕ) (avoids : Avoids I f stop) (empty : p .parse [] ≡ stuck []) where
+    → Type 0} (p : Codec I f F) (stop : ℕ) (avoids : Avoids I f stop) (empty : p .parse [] ≡ failed []) where
   abbrev pub Within : List ℕ → A → List ℕ → Type 0
   Within t a r = I a × (f a ++ r ≡ t)
 
@@ -47,19 +48,19 @@ module _ {A : Type 0} {I : A → Type 0} {f : A → List ℕ} {F : List ℕ
 
   -- one and the rest
   abbrev front : (List ℕ → Parsed (List A)) → List ℕ → Parsed (List A)
-  front go t = otherwise (and-then (strip (stop ∷ []) t) λ u r. took [] r)
-      (and-then (p .parse t) λ a w. and-then (go w) λ l r. took (a ∷ l) r)
+  front go t = otherwise (and-then (strip (stop ∷ []) t) λ u r. parsed [] r)
+      (and-then (p .parse t) λ a w. and-then (go w) λ l r. parsed (a ∷ l) r)
 
   -- two ways to read the rest that agree on shorter texts
   alike : (g h : List ℕ → Parsed (List A)) (t : List ℕ) → ((w : List ℕ) → length w < length t → g w ≡ h w)
       → front g t ≡ front h t
-  alike g h t same = ap (otherwise (and-then (strip (stop ∷ []) t) λ u r. took [] r)) (go (p .sound t))
+  alike g h t same = ap (otherwise (and-then (strip (stop ∷ []) t) λ u r. parsed [] r)) (go (p .sound t))
     where
       go : {o : Parsed A} → Holds (Within t) o
-          → and-then o (λ a w. and-then (g w) λ l r. took (a ∷ l) r) ≡ and-then o
-          (λ a w. and-then (h w) λ l r. took (a ∷ l) r)
+          → and-then o (λ a w. and-then (g w) λ l r. parsed (a ∷ l) r) ≡ and-then o
+          (λ a w. and-then (h w) λ l r. parsed (a ∷ l) r)
       go (missed w) = refl
-      go (found {a} {r} k) = ap (λ (z : Parsed (List A)). and-then z λ l r. took (a ∷ l) r) (same r (shorter t a r k))
+      go (found {a} {r} k) = ap (λ (z : Parsed (List A)). and-then z λ l r. parsed (a ∷ l) r) (same r (shorter t a r k))
 
   -- the bound makes no difference, if it is no less than the text's length
   enough : (n m : ℕ) (t : List ℕ) → length t ≤ n → length t ≤ m → repeated stop p n t ≡ repeated stop p m t
@@ -78,30 +79,30 @@ module _ {A : Type 0} {I : A → Type 0} {f : A → List ℕ} {F : List ℕ
 
   module _ {t : List ℕ} {v : Parsed (List A)} {at : ℕ} {l : List A} (g : Going (run-of stop p) t v at l) where
     -- the octet that ends it
-    pub going-end : at < length t → getD t at 0 ≡ stop → v ≡ took l (drop (at + 1) t)
+    pub going-end : at < length t → getD t at 0 ≡ stop → v ≡ parsed l (drop (at + 1) t)
     going-end h e = g .goes ∙ rw (many-once (drop at t), drop-one t at h, e, eq-eqb stop stop refl, append-nil)
 
-    turn : (w : List ℕ) → strip (stop ∷ []) (drop at t) ≡ stuck w → (o : Parsed A) → p .parse (drop at t) ≡ o
-        → v ≡ and-then (and-then o λ a w. and-then (run-of stop p w) λ l r. took (a ∷ l) r) (λ u r. took (l ++ u) r)
+    turn : (w : List ℕ) → strip (stop ∷ []) (drop at t) ≡ failed w → (o : Parsed A) → p .parse (drop at t) ≡ o
+        → v ≡ and-then (and-then o λ a w. and-then (run-of stop p w) λ l r. parsed (a ∷ l) r) (λ u r. parsed (l ++ u) r)
     turn w e o d = g .goes ∙ rw (many-once (drop at t), e, d)
 
     -- one more
-    pub going-more : {a : A} {n : ℕ} → p .parse (drop at t) ≡ took a (drop n t)
+    pub going-more : {a : A} {n : ℕ} → p .parse (drop at t) ≡ parsed a (drop n t)
         → Going (run-of stop p) t v n (l ++ (a ∷ []))
     going-more {a} {n} e =
         let h = held (p .sound (drop at t)) e in
-        let s = is-stuck (strip-sound (stop ∷ []) (drop at t)) (λ u r d. avoids a _ r (h .0) (h .1 ∙ sym d)) in
+        let s = is-failed (strip-sound (stop ∷ []) (drop at t)) (λ u r d. avoids a _ r (h .0) (h .1 ∙ sym d)) in
         record { goes = turn (s .0) (s .1) _ e ∙ go (run-of stop p (drop n t)) }
       where
         go : (o : Parsed (List A))
-            → and-then (and-then o λ l r. took (a ∷ l) r) (λ u r. took (l ++ u) r) ≡ and-then o
-            (λ u r. took (l ++ (a ∷ []) ++ u) r)
-        go (took u r) = rw append-assoc
-        go (stuck u) = refl
+            → and-then (and-then o λ l r. parsed (a ∷ l) r) (λ u r. parsed (l ++ u) r) ≡ and-then o
+            (λ u r. parsed (l ++ (a ∷ []) ++ u) r)
+        go (parsed u r) = rw append-assoc
+        go (failed u) = refl
 
     -- neither an element nor the end
-    pub going-stop : {w : List ℕ} → (getD t at 0 ≡ stop → ⊥) → p .parse (drop at t) ≡ stuck w → v ≡ stuck w
-    going-stop d e = let s = is-stuck (strip-sound (stop ∷ []) (drop at t)) no in turn (s .0) (s .1) _ e
+    pub going-stop : {w : List ℕ} → (getD t at 0 ≡ stop → ⊥) → p .parse (drop at t) ≡ failed w → v ≡ failed w
+    going-stop d e = let s = is-failed (strip-sound (stop ∷ []) (drop at t)) no in turn (s .0) (s .1) _ e
       where
         no : (u : Unit {0}) (r : List ℕ) → (stop ∷ []) ++ r ≡ drop at t → ⊥
         no u r k = ⊎-elim

@@ -8,15 +8,15 @@ use borrow.Author.Tests.{not-true, not-false, lt-ltb, le-ltb, ltb-true, ltb-fals
 use lib.Dec.{T, eqb, T-not, not-T, leb, ltb, le→leb, lt→ltb, leb→le, ltb→lt}
 use lib.ListN.{length, drop, getD, drop-of-length-le}
 use Rattle.octets.specs.Bits.{is-true, is-false, both, unequal, and-left, and-right}
-use Rattle.octets.specs.Parsed.{Parsed, took, stuck, and-then, strip}
+use Rattle.octets.specs.Parsed.{Parsed, parsed, failed, and-then, strip}
 use Rattle.octets.specs.Decimal.{digit?, digit-in, digit-test, NoDigit, leading?, run, run-digit, run-stop, positive}
 use Rattle.octets.specs.Decimal.{natural}
 use Rattle.octets.specs.Fields.{drop-one}
 use Rattle.parse_tokens.specs.declared.Cursor.{Cursor}
 use Rattle.parse_tokens.specs.declared.Amount.{Amount}
-use Rattle.parse_tokens.specs.Cursor.{Safe, Keeps, keeps-same, keeps-then, Passed, Came, Stopped, went-keeps}
+use Rattle.parse_tokens.specs.Cursor.{Safe, Keeps, keeps-same, keeps-then, Passed, Advanced, FailedAt, went-keeps}
 use Rattle.parse_tokens.specs.Cursor.{clash}
-use Rattle.parse_tokens.specs.Step.{Found, found-as, found-none, found-behind, found-stuck}
+use Rattle.parse_tokens.specs.Step.{Found, found-as, found-none, found-behind, found-failed}
 use Rattle.parse_tokens.specs.Leaf.{found-took, found-stop, found-same, found-entry, passed-took, passed-stop}
 use Rattle.parse_tokens.specs.Leaf.{strip-first, strip-not}
 
@@ -43,17 +43,17 @@ capped-is n k h = go (eqb n k) refl
 pub record NumberRead (t : List ℕ) (c : Cursor) (r : Amount) : Type 0 where
   pub found : Found natural (λ n. r .value ≡ capped n) t c (r .cursor)
   pub keeps : Keeps t c (r .cursor)
-  pub stop : r .cursor .spelled ≡ false → r .value ≡ 0
+  pub stop : r .cursor .grammatical ≡ false → r .value ≡ 0
 
 -- a number that is not 0 was read
 pub record PositiveRead (t : List ℕ) (c : Cursor) (r : Amount) : Type 0 where
   pub found : Found positive (λ n. (0 < n) × (r .value ≡ capped n)) t c (r .cursor)
   pub keeps : Keeps t c (r .cursor)
-  pub stop : r .cursor .spelled ≡ false → r .value ≡ 0
+  pub stop : r .cursor .grammatical ≡ false → r .value ≡ 0
 
 -- no number: the reader stopped at place n
 pub record NoNumber (c : Cursor) (n : ℕ) (r : Amount) : Type 0 where
-  pub cursor : Stopped c n (r .cursor)
+  pub cursor : FailedAt c n (r .cursor)
   pub value : r .value ≡ 0
 
 -- ---- digits
@@ -86,7 +86,7 @@ positive-first w r h k =
       z,
     )
 
-positive-none : (x : ℕ) (r : List ℕ) → (49 ≤ x → x ≤ 57 → ⊥) → positive (x ∷ r) ≡ stuck (x ∷ r)
+positive-none : (x : ℕ) (r : List ℕ) → (49 ≤ x → x ≤ 57 → ⊥) → positive (x ∷ r) ≡ failed (x ∷ r)
 unfolding positive
 positive-none x r f = rw (is-false (leading? x) (not-T (leading? x) no), positive)
   where
@@ -94,15 +94,15 @@ positive-none x r f = rw (is-false (leading? x) (not-T (leading? x) no), positiv
     no u = f (leb→le 49 x (and-left (leb 49 x) (ltb x 58) u))
         (omega (arith, ltb→lt x 58 (and-right (leb 49 x) (ltb x 58) u)))
 
-positive-empty : positive [] ≡ stuck []
+positive-empty : positive [] ≡ failed []
 unfolding positive
 positive-empty = refl
 
-natural-zero : (w r : List ℕ) → strip (48 ∷ []) w ≡ took tt r → natural w ≡ took 0 r
+natural-zero : (w r : List ℕ) → strip (48 ∷ []) w ≡ parsed tt r → natural w ≡ parsed 0 r
 unfolding natural
 natural-zero w r e = rw (strip-first 48 w r e)
 
-natural-other : (w u : List ℕ) → strip (48 ∷ []) w ≡ stuck u → natural w ≡ positive w
+natural-other : (w u : List ℕ) → strip (48 ∷ []) w ≡ failed u → natural w ≡ positive w
 unfolding natural positive
 natural-other w u e = go w (λ s d. strip-not 48 w s u e d)
   where
@@ -124,18 +124,18 @@ pub digits-capped : {t : List ℕ} {c : Cursor} {at v : ℕ} → DigitsLoop t c 
 digits-capped d = omega (arith, d .is)
 
 module _ {t : List ℕ} {c : Cursor} where
-  pub positive-stuck : Safe t c → not (c .spelled) ≡ true → PositiveRead t c (record { cursor = c; value = 0 })
+  pub positive-stuck : Safe t c → not (c .grammatical) ≡ true → PositiveRead t c (record { cursor = c; value = 0 })
   positive-stuck h g = record {
-    found = found-stuck positive t c h (not-true (c .spelled) g);
+    found = found-failed positive t c h (not-true (c .grammatical) g);
     keeps = keeps-same h;
     stop = λ e. refl;
   }
 
-  module _ (f : Safe t c) (g : not (c .spelled) ≡ false) where
-    stops : {r : Amount} → positive (drop (c .at) t) ≡ stuck (drop (c .at) t) → NoNumber c (c .at) r
+  module _ (f : Safe t c) (g : not (c .grammatical) ≡ false) where
+    stops : {r : Amount} → positive (drop (c .at) t) ≡ failed (drop (c .at) t) → NoNumber c (c .at) r
         → PositiveRead t c r
     stops e s = record {
-      found = found-stop f (not-false (c .spelled) g) e (omega arith) (f .inside) (s .cursor);
+      found = found-stop f (not-false (c .grammatical) g) e (omega arith) (f .inside) (s .cursor);
       keeps = went-keeps f (s .cursor) (omega arith) (f .inside);
       stop = λ k. s .value;
     }
@@ -157,21 +157,22 @@ module _ {t : List ℕ} {c : Cursor} where
           (rw (drop-one t (c .at) k) (positive-none (getD t (c .at) 0) _ λ a b. omega (arith, q .low (omega arith))))
 
     module _ {at value : ℕ} (d : DigitsLoop t c at value) where
-      done : {r : Cursor} → NoDigit (drop at t) → Came c at r → PositiveRead t c (record { cursor = r; value = value })
+      done : {r : Cursor} → NoDigit (drop at t) → Advanced c at r
+          → PositiveRead t c (record { cursor = r; value = value })
       done e s = record {
         found =
             let run = d .goes ∙ run-stop (d .n) (drop at t) e in
-            found-took f (not-false (c .spelled) g) run (d .onward) (d .within) s (d .filled, d .is);
+            found-took f (not-false (c .grammatical) g) run (d .onward) (d .within) s (d .filled, d .is);
         keeps = went-keeps f s (d .onward) (d .within);
         stop = λ k. clash k (s .is);
       }
 
       -- the text ends, or what comes is no digit
-      pub digits-short : {r : Cursor} → length t ≤ at → Came c at r
+      pub digits-short : {r : Cursor} → length t ≤ at → Advanced c at r
           → PositiveRead t c (record { cursor = r; value = value })
       digits-short l = done (rw (drop-of-length-le t l) tt)
 
-      pub digits-end : {w : ℕ} {r : Cursor} → at < length t → DigitOf (getD t at 0) w → 9 < w → Came c at r
+      pub digits-end : {w : ℕ} {r : Cursor} → at < length t → DigitOf (getD t at 0) w → 9 < w → Advanced c at r
           → PositiveRead t c (record { cursor = r; value = value })
       digits-end k q l = done (rw (drop-one t at k, q .high l) tt)
 
@@ -200,7 +201,7 @@ module _ {t : List ℕ} {c : Cursor} where
 
 -- ---- 0 alone, or such a number
 module _ {t : List ℕ} {c z : Cursor} (q : Passed (48 ∷ []) t c z) where
-  pub number-zero : z .spelled ≡ true → NumberRead t c (record { cursor = z; value = 0 })
+  pub number-zero : z .grammatical ≡ true → NumberRead t c (record { cursor = z; value = 0 })
   number-zero g = record {
     found = found-same natural
         (λ h. rw (passed-took q g) (sym (natural-zero (drop (c .at) t) (drop (z .at) t) (passed-took q g))))
@@ -209,7 +210,7 @@ module _ {t : List ℕ} {c z : Cursor} (q : Passed (48 ∷ []) t c z) where
     stop = λ e. refl;
   }
 
-  pub number-other : {r : Amount} → z .spelled ≡ false → PositiveRead t c r → NumberRead t c r
+  pub number-other : {r : Amount} → z .grammatical ≡ false → PositiveRead t c r → NumberRead t c r
   number-other {r} g y = record {
     found = found-same natural (λ h. sym (natural-other (drop (c .at) t) _ (passed-stop q g h)))
         (found-as (y .found) λ n h. h .1);
@@ -219,24 +220,24 @@ module _ {t : List ℕ} {c z : Cursor} (q : Passed (48 ∷ []) t c z) where
 
 -- ---- a number and the fixed octets after it
 abbrev pub tillParse : List ℕ → List ℕ → Parsed ℕ
-tillParse title w = and-then (natural w) λ a w. and-then (strip title w) λ u r. took a r
+tillParse title w = and-then (natural w) λ a w. and-then (strip title w) λ u r. parsed a r
 
 pub record TillRead (title t : List ℕ) (c : Cursor) (r : Amount) : Type 0 where
   pub found : Found (tillParse title) (λ n. r .value ≡ capped n) t c (r .cursor)
   pub keeps : Keeps t c (r .cursor)
-  pub stop : r .cursor .spelled ≡ false → r .value ≡ 0
+  pub stop : r .cursor .grammatical ≡ false → r .value ≡ 0
 
 module _ {title t : List ℕ} {c d : Cursor} {n : Amount} (x : NumberRead t c n) (q : Passed title t (n .cursor) d) where
-  pub till-read : not (d .spelled) ≡ false → TillRead title t c (record { cursor = d; value = n .value })
+  pub till-read : not (d .grammatical) ≡ false → TillRead title t c (record { cursor = d; value = n .value })
   till-read g = record {
     found = found-behind (x .found) q;
     keeps = keeps-then (x .keeps) (q .keeps);
-    stop = λ e. clash e (not-false (d .spelled) g);
+    stop = λ e. clash e (not-false (d .grammatical) g);
   }
 
-  pub till-stop : not (d .spelled) ≡ true → TillRead title t c (record { cursor = d; value = 0 })
+  pub till-stop : not (d .grammatical) ≡ true → TillRead title t c (record { cursor = d; value = 0 })
   till-stop g = record {
-    found = found-none (found-behind (x .found) q) (not-true (d .spelled) g);
+    found = found-none (found-behind (x .found) q) (not-true (d .grammatical) g);
     keeps = keeps-then (x .keeps) (q .keeps);
     stop = λ e. refl;
   }

@@ -6,7 +6,7 @@ use Prim.Native.Nat.{ℕ, _+_, _≤_, _<_}
 use native.Mathlib.Omega.{arith}
 use borrow.Author.Tests.{ne-eqb}
 use lib.ListN.{length, drop, getD, drop-of-length-le, List·getD-eq-default}
-use Rattle.octets.specs.Parsed.{stuck, strip}
+use Rattle.octets.specs.Parsed.{failed, strip}
 use Rattle.octets.specs.Fields.{drop-one}
 use Rattle.parse_tokens.specs.Many.{le-or-lt}
 
@@ -35,11 +35,11 @@ from-byte {t} {at} e h = rw (e .is) (drop-one t at h)
 
 -- fixed octets do not begin at another octet, nor at the end
 pub no-strip : {t : List ℕ} {at x : ℕ} (y : ℕ) (l : List ℕ) → Byte t at x → (x ≡ y → ⊥)
-    → strip (y ∷ l) (drop at t) ≡ stuck (drop at t)
+    → strip (y ∷ l) (drop at t) ≡ failed (drop at t)
 no-strip {t} {at} {x} y l e d = ⊎-elim end other (le-or-lt (length t) at)
   where
-    end : length t ≤ at → strip (y ∷ l) (drop at t) ≡ stuck (drop at t)
+    end : length t ≤ at → strip (y ∷ l) (drop at t) ≡ failed (drop at t)
     end p = rw (drop-of-length-le t p)
 
-    other : at < length t → strip (y ∷ l) (drop at t) ≡ stuck (drop at t)
+    other : at < length t → strip (y ∷ l) (drop at t) ≡ failed (drop at t)
     other q = rw (from-byte e q, ne-eqb y x (λ k. d (sym k)))

@@ -8,11 +8,11 @@ use native.Mathlib.Omega.{arith}
 use borrow.Author.Tests.{ltb-true, ltb-false}
 use lib.Dec.{ltb}
 use lib.ListN.{length, drop, getD}
-use Rattle.octets.specs.Parsed.{Parsed, stuck, and-then}
-use Rattle.octets.specs.Codec.{tried}
+use Rattle.octets.specs.Parsed.{Parsed, failed, and-then}
+use Rattle.octets.specs.Codec.{tableParser}
 use Rattle.parse_tokens.specs.declared.Cursor.{Cursor}
 use Rattle.parse_tokens.specs.declared.Row.{Row}
-use Rattle.parse_tokens.specs.Cursor.{left-of, Safe, Keeps, keeps-then, Passed, Stopped, cursors, Finds, stopped}
+use Rattle.parse_tokens.specs.Cursor.{left-of, Safe, Keeps, keeps-then, Passed, FailedAt, cursors, Finds, stopped}
 use Rattle.parse_tokens.specs.Cursor.{clash}
 use Rattle.parse_tokens.specs.Step.{Found, moves}
 use Rattle.parse_tokens.specs.Leaf.{rowParser, found-same, found-entry}
@@ -25,7 +25,7 @@ use Rattle.parse_tokens.specs.Table.{RowAt, titleAt, rows-end, rows-cut,
 pub record RowRead (p : List ℕ → Parsed ℕ) (t : List ℕ) (c : Cursor) (r : Row) : Type 0 where
   pub found : Found p (λ n. r .key ≡ n) t c (r .cursor)
   pub keeps : Keeps t c (r .cursor)
-  pub stop : r .cursor .spelled ≡ false → r .key ≡ 0
+  pub stop : r .cursor .grammatical ≡ false → r .key ≡ 0
 
 -- by another parser that answers the same
 row-same : {p : List ℕ → Parsed ℕ} {t : List ℕ} {c : Cursor} {r : Row} (q : List ℕ → Parsed ℕ)
@@ -38,18 +38,18 @@ row-same {t = t} {c = c} q e x = record {
 
 -- a table's octets in the place of its rows
 pub row-of : {table t : List ℕ} {c : Cursor} {r : Row} (rows : List (ℕ × String)) → table ≡ tableOctets rows
-    → RowRead (triedIn table) t c r → RowRead (tried rows) t c r
-row-of rows e = row-same (tried rows) (λ w. rw e (rows-tried rows (length (tableOctets rows)) w (omega arith)))
+    → RowRead (triedIn table) t c r → RowRead (tableParser rows) t c r
+row-of rows e = row-same (tableParser rows) (λ w. rw e (rows-tried rows (length (tableOctets rows)) w (omega arith)))
 
 -- ---- a stop is at the furthest place that a row reached
 -- a reader that stopped, brought on to place n
 abbrev onTo : ℕ → Cursor → Cursor
 onTo n c = record {
-  at = cond (c .spelled) (c .at) (max n (c .at));
+  at = cond (c .grammatical) (c .at) (max n (c .at));
   to = c .to;
-  spelled = c .spelled;
-  meant = c .meant;
-  small = c .small;
+  grammatical = c .grammatical;
+  meaningful = c .meaningful;
+  bounded = c .bounded;
 }
 
 abbrev rowOnTo : ℕ → Row → Row
@@ -65,19 +65,19 @@ largest m n = go (ltb m n) refl
 on-further : (n : ℕ) (c : Cursor) → Further n c (onTo n c)
 on-further n c = record {
   goes = λ g. cursors (rw g) refl refl refl refl;
-  stops = λ g. record { is = g; at = rw (g, largest (c .at) n); to = refl; meant = refl; small = refl };
+  stops = λ g. record { is = g; at = rw (g, largest (c .at) n); to = refl; meaningful = refl; bounded = refl };
 }
 
 -- a reader that is there already
 on-past : (n : ℕ) (c : Cursor) → n ≤ c .at → onTo n c ≡ c
-on-past n c h = cursors (go (c .spelled)) refl refl refl refl
+on-past n c h = cursors (go (c .grammatical)) refl refl refl refl
   where
     go : (b : Bool) → cond b (c .at) (max n (c .at)) ≡ c .at
     go true = refl
     go false = omega arith
 
 on-on : (k m n : ℕ) (c : Cursor) → k ≡ max m n → onTo m (onTo n c) ≡ onTo k c
-on-on k m n c e = cursors (go (c .spelled)) refl refl refl refl
+on-on k m n c e = cursors (go (c .grammatical)) refl refl refl refl
   where
     go : (b : Bool) → let at = cond b (c .at) (max n (c .at)) in cond b at (max m at) ≡ cond b (c .at) (max k (c .at))
     go true = refl
@@ -86,13 +86,13 @@ on-on k m n c e = cursors (go (c .spelled)) refl refl refl refl
 -- ---- one row
 -- a reader that stops where it is
 abbrev halted : Cursor → Cursor
-halted c = record { at = c .at; to = c .to; spelled = false; meant = c .meant; small = c .small }
+halted c = record { at = c .at; to = c .to; grammatical = false; meaningful = c .meaningful; bounded = c .bounded }
 
 module _ {t : List ℕ} {c : Cursor} where
   -- no row
-  row-none : Safe t c → RowRead (λ w. stuck w) t c (record { cursor = halted c; key = 0 })
+  row-none : Safe t c → RowRead (λ w. failed w) t c (record { cursor = halted c; key = 0 })
   row-none f = record {
-    found = record { reads = go (c .spelled); moves = moves keeps };
+    found = record { reads = go (c .grammatical); moves = moves keeps };
     keeps = keeps;
     stop = λ e. refl;
   }
@@ -102,17 +102,19 @@ module _ {t : List ℕ} {c : Cursor} where
         safe = record { inside = f .inside; room = f .room };
         onward = omega arith;
         to = refl;
-        meant = refl;
-        small = refl;
+        meaningful = refl;
+        bounded = refl;
       }
 
-      go : (b : Bool) → Finds {A = ℕ} t (λ n. 0 ≡ n) (halted c) (and-then (left-of b (drop (c .at) t)) (λ u w. stuck w))
+      go : (b : Bool) → Finds {A = ℕ} t (λ n. 0 ≡ n) (halted c)
+          (and-then (left-of b (drop (c .at) t)) (λ u w. failed w))
       go true = stopped refl
       go false = stopped refl
 
   module _ {title : List ℕ} (key : ℕ) {d : Cursor} (later : List ℕ → Parsed ℕ) (q : Passed title t c d) where
     -- its title is there
-    row-here : d .spelled ≡ true → RowRead (choice (rowParser title key) later) t c (record { cursor = d; key = key })
+    row-here : d .grammatical ≡ true
+        → RowRead (choice (rowParser title key) later) t c (record { cursor = d; key = key })
     row-here g = record {
       found = found-first (rowParser title key) later (found-entry q key refl) g;
       keeps = q .keeps;
@@ -120,7 +122,7 @@ module _ {t : List ℕ} {c : Cursor} where
     }
 
     -- its title is not there: one of the rows after it, or the further place
-    row-other : {r : Row} → d .spelled ≡ false → RowRead later t c r
+    row-other : {r : Row} → d .grammatical ≡ false → RowRead later t c r
         → RowRead (choice (rowParser title key) later) t c (rowOnTo (d .at) r)
     row-other {r} g y =
         let f = on-further (d .at) (r .cursor) in
@@ -138,17 +140,17 @@ pub record Trying (table t : List ℕ) (c : Cursor) (from : ℕ) (far : Cursor) 
   pub left : ℕ
   pub enough : length table ≤ from + left
   pub within : from ≤ length table
-  pub stopped : Stopped c (far .at) far
+  pub stopped : FailedAt c (far .at) far
   pub onward : c .at ≤ far .at
   pub goes : (r : Row) → RowRead (triedRows left (drop from table)) t c r
       → RowRead (triedIn table) t c (rowOnTo (far .at) r)
 
-pub trying-start : {t : List ℕ} {c far : Cursor} (table : List ℕ) → Stopped c (c .at) far → Trying table t c 0 far
+pub trying-start : {t : List ℕ} {c far : Cursor} (table : List ℕ) → FailedAt c (c .at) far → Trying table t c 0 far
 trying-start {t} {c} {far} table s = record {
   left = length table;
   enough = omega arith;
   within = omega arith;
-  stopped = record { is = s .is; at = refl; to = s .to; meant = s .meant; small = s .small };
+  stopped = record { is = s .is; at = refl; to = s .to; meaningful = s .meaningful; bounded = s .bounded };
   onward = omega (arith, s .at);
   goes = λ r x.
       let e = on-past (far .at) (r .cursor) (omega (arith, s .at, x .keeps .onward)) in
@@ -160,13 +162,13 @@ module _ {table t : List ℕ} {c : Cursor} {from : ℕ} {far : Cursor} (y : Tryi
   Reading r key = RowRead (triedIn table) t c (record { cursor = r; key = key })
 
   -- no row is left
-  ends : Safe t c → ((w : List ℕ) → triedRows (y .left) (drop from table) w ≡ stuck w) → Reading far 0
+  ends : Safe t c → ((w : List ℕ) → triedRows (y .left) (drop from table) w ≡ failed w) → Reading far 0
   ends f none = subst (λ (z : Cursor). Reading z 0) there (y .goes _ (row-same _ (λ w. sym (none w)) (row-none f)))
     where
       there : onTo (far .at) (halted c) ≡ far
       there =
           let s = y .stopped in
-          cursors (omega (arith, y .onward)) (sym (s .to)) (sym (s .is)) (sym (s .meant)) (sym (s .small))
+          cursors (omega (arith, y .onward)) (sym (s .to)) (sym (s .is)) (sym (s .meaningful)) (sym (s .bounded))
 
   pub trying-end : Safe t c → length table - from < 2 → Reading far 0
   trying-end f h = ends f (rows-end table (y .left) from h)
@@ -195,12 +197,12 @@ module _ {table t : List ℕ} {c : Cursor} {from : ℕ} {far : Cursor} (y : Tryi
             ≡ choice (rowParser (titleAt table from size) (getD table from 0)) later w
         begins w = ap (λ (m : ℕ). triedRows m (drop from table) w) (fewer .1) ∙ rows-row table (fewer .0) from a w
 
-    pub trying-here : {key : ℕ} → d .spelled ≡ true → key ≡ getD table from 0 → Reading d key
+    pub trying-here : {key : ℕ} → d .grammatical ≡ true → key ≡ getD table from 0 → Reading d key
     trying-here {key} g e =
         let there = on-further (far .at) d .goes g in
         rw e (subst (λ (z : Cursor). Reading z (getD table from 0)) there (onwards _ (row-here _ later q g)))
 
-    pub trying-more : {next : Cursor} → d .spelled ≡ false → Further (d .at) far next
+    pub trying-more : {next : Cursor} → d .grammatical ≡ false → Further (d .at) far next
         → Trying table t c (from + 2 + size) next
     trying-more {next} g f =
         let s = f .stops (y .stopped .is) in
@@ -214,8 +216,8 @@ module _ {table t : List ℕ} {c : Cursor} {from : ℕ} {far : Cursor} (y : Tryi
             is = s .is;
             at = refl;
             to = s .to ∙ o .to;
-            meant = s .meant ∙ o .meant;
-            small = s .small ∙ o .small;
+            meaningful = s .meaningful ∙ o .meaningful;
+            bounded = s .bounded ∙ o .bounded;
           };
           onward = omega (arith, k, y .onward);
           goes = λ r x.

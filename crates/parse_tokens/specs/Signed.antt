@@ -8,10 +8,10 @@ use native.Mathlib.Omega.{arith}
 use borrow.Author.Tests.{lt-ltb, le-ltb, le-leb, lt-leb}
 use lib.Dec.{T, ltb, eqb}
 use lib.ListN.{length, drop}
-use Rattle.octets.specs.Parsed.{Parsed, took, stuck, and-then, or-else, strip, took≢stuck}
+use Rattle.octets.specs.Parsed.{Parsed, parsed, failed, and-then, or-else, strip, parsed≢failed}
 use Rattle.octets.specs.Decimal.{digit?, leading?, run, positive, natural}
 use Rattle.spelling.specs.Spelling.{Signed, plus, minus}
-use Rattle.strict.specs.Spelt.{made, signedNumber}
+use Rattle.strict.specs.Spelt.{fromSum, signedNumber}
 use Rattle.strict.specs.Meaning.{ttl?, unsigned}
 use Rattle.parse_tokens.specs.declared.Cursor.{Cursor}
 use Rattle.parse_tokens.specs.declared.Amount.{Amount}
@@ -30,7 +30,7 @@ TtlKept fits bits s = (fits ≡ ttl? s) × (T fits → bits ≡ unsigned s)
 pub record SignedRead (t : List ℕ) (c : Cursor) (r : Ttl) : Type 0 where
   pub found : Found (signedNumber .parse) (TtlKept (r .fits) (r .bits)) t c (r .cursor)
   pub keeps : Keeps t c (r .cursor)
-  pub stop : r .cursor .spelled ≡ false → (r .fits ≡ true) × (r .bits ≡ 0)
+  pub stop : r .cursor .grammatical ≡ false → (r .fits ≡ true) × (r .bits ≡ 0)
   pub over : r .fits ≡ false → r .bits ≡ 0
 
 -- ---- what the parser answers
@@ -40,7 +40,7 @@ run-at-once n u [] = goes
 run-at-once n u (d ∷ w) = go (digit? d) (run-at-once (n * 10 + (d - 48)) u w)
   where
     go : (b : Bool) → AtOnce u (run (n * 10 + (d - 48)) w)
-        → AtOnce {A = ℕ} u (elim b [ true ↦ run (n * 10 + (d - 48)) w | false ↦ took n (d ∷ w) ])
+        → AtOnce {A = ℕ} u (elim b [ true ↦ run (n * 10 + (d - 48)) w | false ↦ parsed n (d ∷ w) ])
     go true h = h
     go false h = goes
 
@@ -49,7 +49,7 @@ unfolding positive
 positive-at-once [] = stays
 positive-at-once (d ∷ w) = go (leading? d)
   where
-    go : (b : Bool) → AtOnce {A = ℕ} (d ∷ w) (elim b [ true ↦ run (d - 48) w | false ↦ stuck (d ∷ w) ])
+    go : (b : Bool) → AtOnce {A = ℕ} (d ∷ w) (elim b [ true ↦ run (d - 48) w | false ↦ failed (d ∷ w) ])
     go true = run-at-once (d - 48) (d ∷ w) w
     go false = stays
 
@@ -58,18 +58,18 @@ unfolding natural
 natural-at-once [] = stays
 natural-at-once (d ∷ w) = go (eqb d 48)
   where
-    go : (b : Bool) → AtOnce {A = ℕ} (d ∷ w) (elim b [ true ↦ took 0 w | false ↦ positive (d ∷ w) ])
+    go : (b : Bool) → AtOnce {A = ℕ} (d ∷ w) (elim b [ true ↦ parsed 0 w | false ↦ positive (d ∷ w) ])
     go true = goes
     go false = positive-at-once (d ∷ w)
 
 -- a number, or a minus and a number, as the parser joins them
 abbrev joined : Parsed ℕ → Parsed ℕ → Parsed Signed
-joined o p = and-then (or-else (and-then o λ a r. took (inl a) r) (and-then p λ b r. took (inr b) r)) λ u r. took
-    (made plus minus u) r
+joined o p = and-then (or-else (and-then o λ a r. parsed (inl a) r) (and-then p λ b r. parsed (inr b) r)) λ u r. parsed
+    (fromSum plus minus u) r
 
 -- with no minus there, a number
-signed-plus : (w u : List ℕ) → strip (45 ∷ []) w ≡ stuck u
-    → and-then (natural w) (λ n r. took (plus n) r) ≡ signedNumber .parse w
+signed-plus : (w u : List ℕ) → strip (45 ∷ []) w ≡ failed u
+    → and-then (natural w) (λ n r. parsed (plus n) r) ≡ signedNumber .parse w
 unfolding signedNumber
 signed-plus w u e = go (natural-at-once w) (strip-at-once 45 w) e
   where
@@ -77,19 +77,19 @@ signed-plus w u e = go (natural-at-once w) (strip-at-once 45 w) e
     one true = refl
     one false = refl
 
-    go : {o : Parsed ℕ} {s : Parsed (Unit {0})} → AtOnce w o → AtOnce w s → s ≡ stuck u
-        → and-then o (λ n r. took (plus n) r) ≡ joined o (and-then s λ u r. positive r)
+    go : {o : Parsed ℕ} {s : Parsed (Unit {0})} → AtOnce w o → AtOnce w s → s ≡ failed u
+        → and-then o (λ n r. parsed (plus n) r) ≡ joined o (and-then s λ u r. positive r)
     go goes y e = refl
-    go stays goes e = absurd (took≢stuck e)
-    go stays stays e = ap (λ v. stuck v) (one (ltb (length w) (length w)))
+    go stays goes e = absurd (parsed≢failed e)
+    go stays stays e = ap (λ v. failed v) (one (ltb (length w) (length w)))
 
 -- after a minus, a number that is not 0
-signed-minus : (w r : List ℕ) → strip (45 ∷ []) w ≡ took tt r
-    → and-then (positive r) (λ n r. took (minus n) r) ≡ signedNumber .parse w
+signed-minus : (w r : List ℕ) → strip (45 ∷ []) w ≡ parsed tt r
+    → and-then (positive r) (λ n r. parsed (minus n) r) ≡ signedNumber .parse w
 unfolding signedNumber natural positive
 signed-minus w r e = rw (strip-first 45 w r e) (go (positive-at-once r))
   where
-    go : {o : Parsed ℕ} → AtOnce r o → and-then o (λ n r. took (minus n) r) ≡ joined (stuck (45 ∷ r)) o
+    go : {o : Parsed ℕ} → AtOnce r o → and-then o (λ n r. parsed (minus n) r) ≡ joined (failed (45 ∷ r)) o
     go goes = refl
     go stays = rw (lt-ltb (length r) (length (45 ∷ r)) (omega arith))
 
@@ -155,7 +155,7 @@ module _ {a : Amount} where
 
 -- ---- the reader
 module _ {t : List ℕ} {c m : Cursor} (q : Passed (45 ∷ []) t c m) {a : Amount} {r : Ttl} where
-  pub signed-negative : m .spelled ≡ true → PositiveRead t m a → Minus a r → SignedRead t c r
+  pub signed-negative : m .grammatical ≡ true → PositiveRead t m a → Minus a r → SignedRead t c r
   signed-negative g y k = record {
     found = found-same (signedNumber .parse)
         (λ h. rw (passed-took q g) (signed-minus (drop (c .at) t) (drop (m .at) t) (passed-took q g)))
@@ -165,7 +165,7 @@ module _ {t : List ℕ} {c m : Cursor} (q : Passed (45 ∷ []) t c m) {a : Amoun
     over = k .over;
   }
 
-  pub signed-number : m .spelled ≡ false → NumberRead t c a → Plus a r → SignedRead t c r
+  pub signed-number : m .grammatical ≡ false → NumberRead t c a → Plus a r → SignedRead t c r
   signed-number g y k = record {
     found = found-same (signedNumber .parse) (λ h. signed-plus (drop (c .at) t) _ (passed-stop q g h))
         (found-map plus (k .kept) (rw (← (k .cursor)) at (y .found)));

@@ -9,9 +9,9 @@ use lib.Dec.{T, leb, leb→le}
 use lib.ListN.{length, drop, length-append}
 use Rattle.octets.specs.Lists.{all, each, none?}
 use Rattle.octets.specs.Bits.{is-true, and-left, and-right}
-use Rattle.octets.specs.Parsed.{Parsed, took, stuck, and-then, strip, took≢stuck}
+use Rattle.octets.specs.Parsed.{Parsed, parsed, failed, and-then, strip, parsed≢failed}
 use Rattle.octets.specs.Codec.{Codec, exact}
-use Rattle.octets.specs.Overlay.{Wrote, then, nothing, before, each-append, each-single}
+use Rattle.octets.specs.Overlay.{Wrote, then, nothing, wrote-before, each-append, each-single}
 use Rattle.parse_tokens.specs.declared.Cursor.{Cursor}
 use Rattle.parse_tokens.specs.Cursor.{left-of, rest, Safe, Keeps, Passed, Finds, stopped, taken, reads-as}
 use Rattle.parse_tokens.specs.Cursor.{reads-at}
@@ -20,8 +20,8 @@ use Rattle.parse_tokens.specs.Cursor.{clash}
 -- ---- what is read, whatever is done with it
 pub then-then : {A B C : Type 0} (o : Parsed A) (f : A → List ℕ → Parsed B) (g : B → List ℕ → Parsed C)
     → and-then (and-then o f) g ≡ and-then o (λ a r. and-then (f a r) g)
-then-then (took a r) f g = refl
-then-then (stuck w) f g = refl
+then-then (parsed a r) f g = refl
+then-then (failed w) f g = refl
 
 -- the reader went on from c to r
 pub record Moves (t : List ℕ) (c r : Cursor) : Type 0 where
@@ -40,9 +40,9 @@ pub record Found {A : Type 0} (p : List ℕ → Parsed A) (P : A → Type 0) (t 
   pub moves : Moves t c r
 
 -- a reader that has stopped stays
-pub found-stuck : {A : Type 0} {P : A → Type 0} (p : List ℕ → Parsed A) (t : List ℕ) (c : Cursor) → Safe t c
-    → c .spelled ≡ false → Found p P t c c
-found-stuck {A} {P} p t c h g =
+pub found-failed : {A : Type 0} {P : A → Type 0} (p : List ℕ → Parsed A) (t : List ℕ) (c : Cursor) → Safe t c
+    → c .grammatical ≡ false → Found p P t c c
+found-failed {A} {P} p t c h g =
     record {
       reads = subst (λ b. Finds t P c (and-then (left-of b (drop (c .at) t)) (λ u w. p w))) (sym g) (stopped g);
       moves = record { safe = h; onward = omega arith };
@@ -53,7 +53,7 @@ module _ {A : Type 0} {P : A → Type 0} {t : List ℕ} {p : List ℕ → Parsed
   found-as x h = record { reads = reads-as (x .reads) h; moves = x .moves }
 
   -- where the reader stops there is nothing to say of a value
-  pub found-none : {Q : A → Type 0} {c r : Cursor} → Found p P t c r → r .spelled ≡ false → Found p Q t c r
+  pub found-none : {Q : A → Type 0} {c r : Cursor} → Found p P t c r → r .grammatical ≡ false → Found p Q t c r
   found-none {Q} {c} {r} x e = record { reads = go (x .reads); moves = x .moves }
     where
       go : {o : Parsed A} → Finds t P r o → Finds t Q r o
@@ -61,7 +61,7 @@ module _ {A : Type 0} {P : A → Type 0} {t : List ℕ} {p : List ℕ → Parsed
       go (taken g v) = clash e g
 
   -- where the reader has not stopped, what p finds there
-  pub found-there : {c r : Cursor} → Found p P t c r → c .spelled ≡ true → Finds t P r (p (drop (c .at) t))
+  pub found-there : {c r : Cursor} → Found p P t c r → c .grammatical ≡ true → Finds t P r (p (drop (c .at) t))
   found-there {c} {r} x g = rw g at (x .reads)
 
   pub found-lit : {l : List ℕ} {c r s : Cursor} → Passed l t c r → Found p P t r s
@@ -72,49 +72,49 @@ module _ {A : Type 0} {P : A → Type 0} {t : List ℕ} {p : List ℕ → Parsed
   }
 
   pub found-map : {B : Type 0} {Q : B → Type 0} {c r : Cursor} (f : A → B) → ((a : A) → P a → Q (f a)) → Found p P t c r
-      → Found (λ w. and-then (p w) λ a r. took (f a) r) Q t c r
+      → Found (λ w. and-then (p w) λ a r. parsed (f a) r) Q t c r
   found-map {B} {Q} {c} {r} f h x =
       record { reads = subst (Finds t Q r) (then-then (rest t c) (λ u w. p w) _) (go (x .reads)); moves = x .moves }
     where
-      go : {o : Parsed A} → Finds t P r o → Finds t Q r (and-then o λ a r. took (f a) r)
+      go : {o : Parsed A} → Finds t P r o → Finds t Q r (and-then o λ a r. parsed (f a) r)
       go (stopped g) = stopped g
       go (taken {a} g v) = taken g (h a v)
 
   pub found-behind : {l : List ℕ} {c r s : Cursor} → Found p P t c r → Passed l t r s
-      → Found (λ w. and-then (p w) λ a w. and-then (strip l w) λ u r. took a r) P t c s
+      → Found (λ w. and-then (p w) λ a w. and-then (strip l w) λ u r. parsed a r) P t c s
   found-behind {l} {c} {r} {s} x q =
       record {
         reads = subst (Finds t P s) (then-then (rest t c) (λ u w. p w) _) (go (x .reads));
         moves = moves-then (x .moves) (moves (q .keeps));
       }
     where
-      by : {a : A} → P a → (b : Bool) → s .spelled ≡ b
-          → Finds t P s (and-then (left-of b (drop (s .at) t)) λ u r. took a r)
+      by : {a : A} → P a → (b : Bool) → s .grammatical ≡ b
+          → Finds t P s (and-then (left-of b (drop (s .at) t)) λ u r. parsed a r)
       by v true e = taken e v
       by v false e = stopped e
 
-      still : (b : Bool) → s .spelled ≡ b → left-of b (drop (s .at) t) ≡ stuck (drop (r .at) t)
-          → Finds t P s (stuck (drop (r .at) t))
+      still : (b : Bool) → s .grammatical ≡ b → left-of b (drop (s .at) t) ≡ failed (drop (r .at) t)
+          → Finds t P s (failed (drop (r .at) t))
       still true e d = absurd (subst Took d tt)
         where
           Took : Parsed (Unit {0}) → Type 0
-          Took (took u w) = Unit {0}
-          Took (stuck w) = ⊥
+          Took (parsed u w) = Unit {0}
+          Took (failed w) = ⊥
       still false e d = subst (λ (o : Parsed (Unit {0})). Finds t P s (again o)) d (stopped e)
         where
           again : Parsed (Unit {0}) → Parsed A
-          again (took u w) = stuck w
-          again (stuck w) = stuck w
+          again (parsed u w) = failed w
+          again (failed w) = failed w
 
-      go : {o : Parsed A} → Finds t P r o → Finds t P s (and-then o λ a w. and-then (strip l w) λ u r. took a r)
-      go (stopped g) = still (s .spelled) refl (rw g at (q .left))
+      go : {o : Parsed A} → Finds t P r o → Finds t P s (and-then o λ a w. and-then (strip l w) λ u r. parsed a r)
+      go (stopped g) = still (s .grammatical) refl (rw g at (q .left))
       go (taken {a} g v) =
           let e : rest t s ≡ strip l (drop (r .at) t) = rw g at (q .left) in
-          rw (← e) (by v (s .spelled) refl)
+          rw (← e) (by v (s .grammatical) refl)
 
   pub found-pair : {B : Type 0} {Q : B → Type 0} {q : List ℕ → Parsed B} {c r s : Cursor} → Found p P t c r
       → Found q Q t r s
-      → Found {A = A × B} (λ w. and-then (p w) λ a w. and-then (q w) λ b r. took (a, b) r) (λ u. P (u .0)
+      → Found {A = A × B} (λ w. and-then (p w) λ a w. and-then (q w) λ b r. parsed (a, b) r) (λ u. P (u .0)
       × Q (u .1)) t c s
   found-pair {B} {Q} {q} {c} {r} {s} x y =
       record {
@@ -124,15 +124,15 @@ module _ {A : Type 0} {P : A → Type 0} {t : List ℕ} {p : List ℕ → Parsed
       }
     where
       two : {a : A} {o : Parsed B} → P a → Finds t Q s o
-          → Finds {A = A × B} t (λ u. P (u .0) × Q (u .1)) s (and-then o λ b r. took (a, b) r)
+          → Finds {A = A × B} t (λ u. P (u .0) × Q (u .1)) s (and-then o λ b r. parsed (a, b) r)
       two v (stopped g) = stopped g
       two v (taken g w) = taken g (v, w)
 
-      same : {w : List ℕ} → Finds t Q s (stuck w) → Finds {A = A × B} t (λ u. P (u .0) × Q (u .1)) s (stuck w)
+      same : {w : List ℕ} → Finds t Q s (failed w) → Finds {A = A × B} t (λ u. P (u .0) × Q (u .1)) s (failed w)
       same (stopped g) = stopped g
 
       go : {o : Parsed A} → Finds t P r o → Finds t Q s (and-then (rest t r) (λ u w. q w))
-          → Finds {A = A × B} t (λ u. P (u .0) × Q (u .1)) s (and-then o λ a w. and-then (q w) λ b r. took (a, b) r)
+          → Finds {A = A × B} t (λ u. P (u .0) × Q (u .1)) s (and-then o λ a w. and-then (q w) λ b r. parsed (a, b) r)
       go (stopped g) y = same (rw g at y)
       go (taken {a} g v) y = two v (rw g at y)
 
@@ -140,7 +140,7 @@ module _ {A : Type 0} {P : A → Type 0} {t : List ℕ} {p : List ℕ → Parsed
 pub found-by : {A : Type 0} {B : A → Type 0} {p : List ℕ → Parsed A} {t : List ℕ} {c r s : Cursor} (q : (a : A) → List ℕ
     → Parsed (B a)) (Q : (a : A) → B a → Type 0) (k : A)
     → Found p (λ a. k ≡ a) t c r → Found (q k) (Q k) t r s
-    → Found {A = (a : A) × B a} (λ w. and-then (p w) λ a w. and-then (q a w) λ b r. took (a, b) r) (λ u. (k ≡ u .0)
+    → Found {A = (a : A) × B a} (λ w. and-then (p w) λ a w. and-then (q a w) λ b r. parsed (a, b) r) (λ u. (k ≡ u .0)
     × Q (u .0) (u .1)) t c s
 found-by {A} {B} {p} {t} {c} {r} {s} q Q k x y =
     record {
@@ -151,40 +151,40 @@ found-by {A} {B} {p} {t} {c} {r} {s} q Q k x y =
     R : (a : A) × B a → Type 0
     R u = (k ≡ u .0) × Q (u .0) (u .1)
 
-    two : (a : A) {o : Parsed (B a)} → k ≡ a → Finds t (Q a) s o → Finds t R s (and-then o λ b r. took (a, b) r)
+    two : (a : A) {o : Parsed (B a)} → k ≡ a → Finds t (Q a) s o → Finds t R s (and-then o λ b r. parsed (a, b) r)
     two a e (stopped g) = stopped g
     two a e (taken g w) = taken g (e, w)
 
-    same : {w : List ℕ} → Finds t (Q k) s (stuck w) → Finds t R s (stuck w)
+    same : {w : List ℕ} → Finds t (Q k) s (failed w) → Finds t R s (failed w)
     same (stopped g) = stopped g
 
     go : {o : Parsed A} → Finds t (λ a. k ≡ a) r o → Finds t (Q k) s (and-then (rest t r) (λ u w. q k w))
-        → Finds t R s (and-then o λ a w. and-then (q a w) λ b r. took (a, b) r)
+        → Finds t R s (and-then o λ a w. and-then (q a w) λ b r. parsed (a, b) r)
     go (stopped g) y = same (rw g at y)
     go (taken {a} g e) y = two a e (subst (λ (a : A). Finds t (Q a) s (q a (drop (r .at) t))) e (rw g at y))
 
 -- what a codec's parser finds is in the grammar
 pub found-sound : {A : Type 0} {I : A → Type 0} {f : A → List ℕ} {F : List ℕ → Type 0} (p : Codec I f F) {P : A
     → Type 0} {t : List ℕ} {c r : Cursor} → Found (p .parse) P t c r → Found (p .parse) (λ a. I a × P a) t c r
-found-sound {A} {I} p {P} {t} {c} {r} x = record { reads = go (c .spelled) (x .reads); moves = x .moves }
+found-sound {A} {I} p {P} {t} {c} {r} x = record { reads = go (c .grammatical) (x .reads); moves = x .moves }
   where
-    one : {o : Parsed A} → ((a : A) (w : List ℕ) → o ≡ took a w → I a) → Finds t P r o → Finds t (λ a. I a × P a) r o
+    one : {o : Parsed A} → ((a : A) (w : List ℕ) → o ≡ parsed a w → I a) → Finds t P r o → Finds t (λ a. I a × P a) r o
     one h (stopped g) = stopped g
     one h (taken {a} g v) = taken g (h a _ refl, v)
 
     go : (b : Bool) → Finds t P r (and-then (left-of b (drop (c .at) t)) (λ u w. p .parse w))
         → Finds t (λ a. I a × P a) r (and-then (left-of b (drop (c .at) t)) (λ u w. p .parse w))
     go true y = one (λ a w e. exact p (drop (c .at) t) a w e .0) y
-    go false y = one (λ a w e. absurd (took≢stuck (sym e))) y
+    go false y = one (λ a w e. absurd (parsed≢failed (sym e))) y
 
 -- ---- what is written of it
 -- Of the value `a` read from c on: whether a message can have it is judged; where all is meant, the octets of `a` were
 -- written from `c .to` on, unless they would go past the message's limit.
 pub record Put {A : Type 0} (ok : A → Bool) (wire : A → List ℕ) (c : Cursor) (b : List ℕ) (r : Cursor) (b′ : List ℕ)
     (a : A) : Type 0 where
-  pub meant : r .meant ≡ (c .meant && ok a)
-  pub small : T (r .meant) → r .small ≡ (c .small && leb (c .to + length (wire a)) 65535)
-  pub wrote : T (r .meant) → T (r .small) → Wrote b (c .to) (wire a) b′ (r .to)
+  pub meaningful : r .meaningful ≡ (c .meaningful && ok a)
+  pub bounded : T (r .meaningful) → r .bounded ≡ (c .bounded && leb (c .to + length (wire a)) 65535)
+  pub wrote : T (r .meaningful) → T (r .bounded) → Wrote b (c .to) (wire a) b′ (r .to)
 
 -- the limit, of some octets and then of more
 limit-then : (x y : Bool) (to to′ m n : ℕ) → y ≡ (x && leb (to + m) 65535) → (T y → to′ ≡ to + m)
@@ -202,45 +202,50 @@ pub put-then : {A B : Type 0} {ok : A → Bool} {ok′ : B → Bool} {wire : A �
     → List ℕ} {c r s : Cursor} {b b′ b″ : List ℕ} {x : A} {y : B} → Put ok wire c b r b′ x → Put ok′ wire′ r b′ s b″ y
     → Put {A = A × B} (λ u. ok (u .0) && ok′ (u .1)) (λ u. wire (u .0) ++ wire′ (u .1)) c b s b″ (x, y)
 put-then {ok = ok} {ok′ = ok′} {wire = wire} {wire′ = wire′} {c = c} {r = r} {s = s} {x = x} {y = y} p q = record {
-  meant = q .meant ∙ rw (p .meant) (and-assoc (c .meant) (ok x) (ok′ y));
-  small = λ k. q .small k
+  meaningful = q .meaningful ∙ rw (p .meaningful) (and-assoc (c .meaningful) (ok x) (ok′ y));
+  bounded = λ k. q .bounded k
       ∙ rw (length-append (wire x) (wire′ y))
-      (limit-then (c .small) (r .small) (c .to) (r .to) (length (wire x)) (length (wire′ y)) (p .small (before k))
-      (λ h. p .wrote (before k) h .place));
-  wrote = λ k h. then (p .wrote (before k) (and-left (r .small) _ (subst T (q .small k) h))) (q .wrote k h);
+      (limit-then (c .bounded) (r .bounded) (c .to) (r .to) (length (wire x)) (length (wire′ y))
+      (p .bounded (wrote-before k))
+      (λ h. p .wrote (wrote-before k) h .place));
+  wrote = λ k h. then (p .wrote (wrote-before k) (and-left (r .bounded) _ (subst T (q .bounded k) h))) (q .wrote k h);
 }
   where
-    before : T (s .meant) → T (r .meant)
-    before k = and-left (r .meant) (ok′ y) (subst T (q .meant) k)
+    wrote-before : T (s .meaningful) → T (r .meaningful)
+    wrote-before k = and-left (r .meaningful) (ok′ y) (subst T (q .meaningful) k)
 
 -- with nothing written before it; with nothing written after it; of the same value, seen another way
 module _ {A : Type 0} {ok : A → Bool} {wire : A → List ℕ} {t b b′ : List ℕ} {c r s : Cursor} {a : A} where
   pub put-from : Keeps t c r → Put ok wire r b s b′ a → Put ok wire c b s b′ a
   put-from k h = record {
-    meant = rw (← (k .meant)) (h .meant);
-    small = λ y. rw (← (k .to), ← (k .small)) (h .small y);
+    meaningful = rw (← (k .meaningful)) (h .meaningful);
+    bounded = λ y. rw (← (k .to), ← (k .bounded)) (h .bounded y);
     wrote = λ y z. rw (← (k .to)) (h .wrote y z);
   }
 
   pub put-to : Put ok wire c b r b′ a → Keeps t r s → Put ok wire c b s b′ a
   put-to h k = record {
-    meant = rw (k .meant) (h .meant);
-    small = λ y. rw (k .small) (h .small (subst T (k .meant) y));
-    wrote = λ y z. rw (k .to) (h .wrote (subst T (k .meant) y) (subst T (k .small) z));
+    meaningful = rw (k .meaningful) (h .meaningful);
+    bounded = λ y. rw (k .bounded) (h .bounded (subst T (k .meaningful) y));
+    wrote = λ y z. rw (k .to) (h .wrote (subst T (k .meaningful) y) (subst T (k .bounded) z));
   }
 
 pub put-as : {A B : Type 0} {ok : A → Bool} {ok′ : B → Bool} {wire : A → List ℕ} {wire′ : B
     → List ℕ} {b b′ : List ℕ} {c r : Cursor} {a : A} {a′ : B} → ok′ a′ ≡ ok a → wire′ a′ ≡ wire a
     → Put ok wire c b r b′ a → Put ok′ wire′ c b r b′ a′
-put-as e d h = record { meant = rw e (h .meant); small = λ k. rw d (h .small k); wrote = λ k l. rw d (h .wrote k l) }
+put-as e d h = record {
+  meaningful = rw e (h .meaningful);
+  bounded = λ k. rw d (h .bounded k);
+  wrote = λ k l. rw d (h .wrote k l);
+}
 
 -- a value with no octets
 pub put-nothing : {A : Type 0} {ok : A → Bool} {wire : A → List ℕ} {t : List ℕ} {c r : Cursor} (b : List ℕ) {a : A}
     → Keeps t c r → ok a ≡ true → wire a ≡ [] → Put ok wire c b r b a
 put-nothing {c = c} {r = r} b k e d = record {
-  meant = k .meant ∙ rw e (sym (and-true (c .meant)));
-  small = λ y. k .small ∙ rw (d, le-leb (c .to + 0) 65535 (omega (arith, k .to, k .safe .room)))
-      (sym (and-true (c .small)));
+  meaningful = k .meaningful ∙ rw e (sym (and-true (c .meaningful)));
+  bounded = λ y. k .bounded ∙ rw (d, le-leb (c .to + 0) 65535 (omega (arith, k .to, k .safe .room)))
+      (sym (and-true (c .bounded)));
   wrote = λ y z. rw (d, k .to) (nothing b (c .to));
 }
 
@@ -274,108 +279,109 @@ module _ {A : Type 0} {ok : A → Bool} {wire : A → List ℕ} {p : List ℕ �
   step-lit {l} {c} {r} {s} q y = found-lit q (found-as y λ a h. put-from (q .keeps) h)
 
   pub step-behind : {l : List ℕ} {c r s : Cursor} → Step ok wire p t c b r b′ → Passed l t r s
-      → Step ok wire (λ w. and-then (p w) λ a w. and-then (strip l w) λ u r. took a r) t c b s b′
+      → Step ok wire (λ w. and-then (p w) λ a w. and-then (strip l w) λ u r. parsed a r) t c b s b′
   step-behind {l} {c} {r} {s} y q = found-behind (found-as y λ a h. put-to h (q .keeps)) q
 
   pub step-on : {B : Type 0} {ok′ : B → Bool} {wire′ : B → List ℕ} {c r : Cursor} (f : A → B)
       → ((a : A) → ok′ (f a) ≡ ok a) → ((a : A) → wire′ (f a) ≡ wire a) → Step ok wire p t c b r b′
-      → Step ok′ wire′ (λ w. and-then (p w) λ a r. took (f a) r) t c b r b′
+      → Step ok′ wire′ (λ w. and-then (p w) λ a r. parsed (f a) r) t c b r b′
   step-on f e d = found-map f λ a h. put-as (e a) (d a) h
 
   pub step-pair : {B : Type 0} {ok′ : B → Bool} {wire′ : B → List ℕ} {q : List ℕ
       → Parsed B} {c r s : Cursor} {b″ : List ℕ}
       → Step ok wire p t c b r b′ → Step ok′ wire′ q t r b′ s b″
       → Step {A = A × B} (λ u. ok (u .0) && ok′ (u .1)) (λ u. wire (u .0) ++ wire′ (u .1))
-      (λ w. and-then (p w) λ a w. and-then (q w) λ b r. took (a, b) r) t c b s b″
+      (λ w. and-then (p w) λ a w. and-then (q w) λ b r. parsed (a, b) r) t c b s b″
   step-pair x y = found-as (found-pair x y) λ u h. put-then (h .0) (h .1)
 
 -- ---- octets written and judgements made where nothing is read
 -- places for n octets of the message were held, unless they go past its limit; then the place is as it was
 pub record Held (n : ℕ) (c r : Cursor) : Type 0 where
   pub at : r .at ≡ c .at
-  pub spelled : r .spelled ≡ c .spelled
+  pub grammatical : r .grammatical ≡ c .grammatical
   pub room : r .to ≤ 65535
-  pub meant : r .meant ≡ c .meant
-  pub small : r .small ≡ (c .small && leb (c .to + n) 65535)
-  pub to : T (r .small) → r .to ≡ c .to + n
+  pub meaningful : r .meaningful ≡ c .meaningful
+  pub bounded : r .bounded ≡ (c .bounded && leb (c .to + n) 65535)
+  pub to : T (r .bounded) → r .to ≡ c .to + n
   pub place : r .to ≡ cond (leb (c .to + n) 65535) (c .to + n) (c .to)
 
-module _ {n : ℕ} {c r : Cursor} (k : c .to ≤ 65535) (at : r .at ≡ c .at) (spelled : r .spelled ≡ c .spelled)
-    (meant : r .meant ≡ c .meant) where
-  pub held-over : 65535 - c .to < n → r .to ≡ c .to → r .small ≡ false → Held n c r
-  held-over h to small = record {
+module _ {n : ℕ} {c r : Cursor} (k : c .to ≤ 65535) (at : r .at ≡ c .at) (grammatical : r .grammatical ≡ c .grammatical)
+    (meaningful : r .meaningful ≡ c .meaningful) where
+  pub held-over : 65535 - c .to < n → r .to ≡ c .to → r .bounded ≡ false → Held n c r
+  held-over h to bounded = record {
     at = at;
-    spelled = spelled;
+    grammatical = grammatical;
     room = omega (arith, to);
-    meant = meant;
-    small = small ∙ rw (lt-leb (c .to + n) 65535 (omega arith)) (sym (and-false (c .small)));
-    to = λ t. absurd (subst T small t);
+    meaningful = meaningful;
+    bounded = bounded ∙ rw (lt-leb (c .to + n) 65535 (omega arith)) (sym (and-false (c .bounded)));
+    to = λ t. absurd (subst T bounded t);
     place = rw (lt-leb (c .to + n) 65535 (omega arith)) to;
   }
 
-  pub held : n ≤ 65535 - c .to → r .to ≡ c .to + n → r .small ≡ c .small → Held n c r
-  held h to small = record {
+  pub held : n ≤ 65535 - c .to → r .to ≡ c .to + n → r .bounded ≡ c .bounded → Held n c r
+  held h to bounded = record {
     at = at;
-    spelled = spelled;
+    grammatical = grammatical;
     room = omega (arith, to);
-    meant = meant;
-    small = small ∙ rw (le-leb (c .to + n) 65535 (omega arith)) (sym (and-true (c .small)));
+    meaningful = meaningful;
+    bounded = bounded ∙ rw (le-leb (c .to + n) 65535 (omega arith)) (sym (and-true (c .bounded)));
     to = λ t. to;
     place = rw (le-leb (c .to + n) 65535 (omega arith)) to;
   }
 
 -- what was held is within the limit
-pub held-room : {n : ℕ} {c r : Cursor} → Held n c r → not (r .small) ≡ false → c .to + n ≤ 65535
+pub held-room : {n : ℕ} {c r : Cursor} → Held n c r → not (r .bounded) ≡ false → c .to + n ≤ 65535
 held-room {n} {c} {r} h e =
-    leb→le (c .to + n) 65535 (and-right (c .small) _ (subst T (h .small) (subst T (sym (not-false (r .small) e)) tt)))
+    leb→le (c .to + n) 65535
+    (and-right (c .bounded) _ (subst T (h .bounded) (subst T (sym (not-false (r .bounded) e)) tt)))
 
 -- these octets were written, unless the message is past its limit; then the buffer is as it was
 pub record Emits (xs : List ℕ) (c : Cursor) (b : List ℕ) (r : Cursor) (b′ : List ℕ) : Type 0 where
   pub at : r .at ≡ c .at
-  pub spelled : r .spelled ≡ c .spelled
+  pub grammatical : r .grammatical ≡ c .grammatical
   pub room : r .to ≤ 65535
-  pub meant : r .meant ≡ c .meant
-  pub small : r .small ≡ (c .small && leb (c .to + length xs) 65535)
-  pub wrote : T (r .small) → Wrote b (c .to) xs b′ (r .to)
+  pub meaningful : r .meaningful ≡ c .meaningful
+  pub bounded : r .bounded ≡ (c .bounded && leb (c .to + length xs) 65535)
+  pub wrote : T (r .bounded) → Wrote b (c .to) xs b′ (r .to)
   pub place : r .to ≡ cond (leb (c .to + length xs) 65535) (c .to + length xs) (c .to)
-  pub stays : r .small ≡ false → b′ ≡ b
+  pub stays : r .bounded ≡ false → b′ ≡ b
 
 module _ {xs : List ℕ} {c r : Cursor} (h : Held (length xs) c r) where
-  pub emits-none : (b : List ℕ) → not (r .small) ≡ true → Emits xs c b r b
+  pub emits-none : (b : List ℕ) → not (r .bounded) ≡ true → Emits xs c b r b
   emits-none b e = record {
     at = h .at;
-    spelled = h .spelled;
+    grammatical = h .grammatical;
     room = h .room;
-    meant = h .meant;
-    small = h .small;
-    wrote = λ s. absurd (subst T (not-true (r .small) e) s);
+    meaningful = h .meaningful;
+    bounded = h .bounded;
+    wrote = λ s. absurd (subst T (not-true (r .bounded) e) s);
     place = h .place;
     stays = λ k. refl;
   }
 
-  pub emits : {b b′ : List ℕ} {m : ℕ} → not (r .small) ≡ false → Wrote b (c .to) xs b′ m → Emits xs c b r b′
+  pub emits : {b b′ : List ℕ} {m : ℕ} → not (r .bounded) ≡ false → Wrote b (c .to) xs b′ m → Emits xs c b r b′
   emits e w = record {
     at = h .at;
-    spelled = h .spelled;
+    grammatical = h .grammatical;
     room = h .room;
-    meant = h .meant;
-    small = h .small;
+    meaningful = h .meaningful;
+    bounded = h .bounded;
     wrote = λ s. record { place = h .to s; text = w .text };
     place = h .place;
-    stays = λ k. clash k (not-false (r .small) e);
+    stays = λ k. clash k (not-false (r .bounded) e);
   }
 
--- `meant` only if this holds too
+-- `meaningful` only if this holds too
 pub record Judged (ok : Bool) (c r : Cursor) : Type 0 where
   pub at : r .at ≡ c .at
-  pub spelled : r .spelled ≡ c .spelled
+  pub grammatical : r .grammatical ≡ c .grammatical
   pub to : r .to ≡ c .to
-  pub meant : r .meant ≡ (c .meant && ok)
-  pub small : r .small ≡ c .small
+  pub meaningful : r .meaningful ≡ (c .meaningful && ok)
+  pub bounded : r .bounded ≡ c .bounded
 
 -- what a reader found, with more done at the same place; from another cursor at the same place
 pub found-at : {A : Type 0} {P Q : A → Type 0} {p : List ℕ → Parsed A} {t : List ℕ} {c r s : Cursor} → Found p P t c r
-    → s .at ≡ r .at → s .spelled ≡ r .spelled → s .to ≤ 65535 → ((a : A) → P a → Q a) → Found p Q t c s
+    → s .at ≡ r .at → s .grammatical ≡ r .grammatical → s .to ≤ 65535 → ((a : A) → P a → Q a) → Found p Q t c s
 found-at x e d h f = record {
   reads = reads-at (x .reads) d e f;
   moves = record {
@@ -385,7 +391,7 @@ found-at x e d h f = record {
 }
 
 pub found-from : {A : Type 0} {P : A → Type 0} {p : List ℕ → Parsed A} {t : List ℕ} {c d r : Cursor} → d .at ≡ c .at
-    → d .spelled ≡ c .spelled → Found p P t d r → Found p P t c r
+    → d .grammatical ≡ c .grammatical → Found p P t d r → Found p P t c r
 found-from {A} {P} {p} {t} {c} {d} {r} e f x = record {
   reads = rw (← e, ← f) (x .reads);
   moves = record { safe = x .moves .safe; onward = omega (arith, e, x .moves .onward) };
@@ -396,32 +402,38 @@ and-when : (x y z : Bool) → (T x → y ≡ z) → (x && y) ≡ (x && z)
 and-when true y z e = e tt
 and-when false y z e = refl
 
-pub judged-when : {k k′ : Bool} {c r : Cursor} → Judged k c r → (T (c .meant) → k ≡ k′) → Judged k′ c r
+pub judged-when : {k k′ : Bool} {c r : Cursor} → Judged k c r → (T (c .meaningful) → k ≡ k′) → Judged k′ c r
 judged-when {k} {k′} {c} j e =
     record {
       at = j .at;
-      spelled = j .spelled;
+      grammatical = j .grammatical;
       to = j .to;
-      meant = j .meant ∙ and-when (c .meant) k k′ e;
-      small = j .small;
+      meaningful = j .meaningful ∙ and-when (c .meaningful) k k′ e;
+      bounded = j .bounded;
     }
 
 pub put-when : {A : Type 0} {ok ok′ : A → Bool} {wire : A → List ℕ} {c r : Cursor} {b b′ : List ℕ} {a : A}
-    → (T (c .meant) → ok a ≡ ok′ a) → Put ok wire c b r b′ a → Put ok′ wire c b r b′ a
+    → (T (c .meaningful) → ok a ≡ ok′ a) → Put ok wire c b r b′ a → Put ok′ wire c b r b′ a
 put-when {ok = ok} {ok′ = ok′} {c = c} {a = a} e p =
-    record { meant = p .meant ∙ and-when (c .meant) (ok a) (ok′ a) e; small = p .small; wrote = p .wrote }
+    record {
+      meaningful = p .meaningful ∙ and-when (c .meaningful) (ok a) (ok′ a) e;
+      bounded = p .bounded;
+      wrote = p .wrote;
+    }
 
 module _ {A : Type 0} {wire : A → List ℕ} {c : Cursor} {b : List ℕ} {a : A} where
   -- octets written before those of a value, in the places held for them
   pub put-before : (front : A → List ℕ) {ok : A → Bool} {n e : ℕ} {h r : Cursor} {b₁ b₂ : List ℕ} → Held n c h
       → length (front a) ≡ n → Put ok wire h b r b₁ a
-      → (T (r .meant) → T (r .small) → Wrote b₁ (c .to) (front a) b₂ e) → Put ok (λ a. front a ++ wire a) c b r b₂ a
+      → (T (r .meaningful) → T (r .bounded) → Wrote b₁ (c .to) (front a) b₂ e)
+      → Put ok (λ a. front a ++ wire a) c b r b₂ a
   put-before front {ok} {n} {e} {h} {r} {b₁} {b₂} k l p w = record {
-    meant = p .meant ∙ rw (k .meant);
-    small = λ y. p .small y
+    meaningful = p .meaningful ∙ rw (k .meaningful);
+    bounded = λ y. p .bounded y
         ∙ rw (length-append (front a) (wire a), l)
-        (limit-then (c .small) (h .small) (c .to) (h .to) n (length (wire a)) (k .small) (k .to));
-    wrote = λ y z. before {n = h .to} (k .to (and-left (h .small) _ (subst T (p .small y) z)) ∙ rw l) (p .wrote y z)
+        (limit-then (c .bounded) (h .bounded) (c .to) (h .to) n (length (wire a)) (k .bounded) (k .to));
+    wrote = λ y z. wrote-before {n = h .to} (k .to (and-left (h .bounded) _ (subst T (p .bounded y) z)) ∙ rw l)
+        (p .wrote y z)
         (w y z);
   }
 
@@ -429,14 +441,14 @@ module _ {A : Type 0} {wire : A → List ℕ} {c : Cursor} {b : List ℕ} {a : A
   pub put-judged : {ok ok′ : A → Bool} {k : Bool} {r s : Cursor} {b′ : List ℕ} → Put ok wire c b r b′ a → Judged k r s
       → ok′ a ≡ (ok a && k) → Put ok′ wire c b s b′ a
   put-judged {ok} {ok′} {k} {r} {s} p j e = record {
-    meant = j .meant ∙ rw (p .meant, e) (and-assoc (c .meant) (ok a) k);
-    small = λ y. j .small ∙ p .small (earlier y);
-    wrote = λ y z. let w = p .wrote (earlier y) (subst T (j .small) z) in
+    meaningful = j .meaningful ∙ rw (p .meaningful, e) (and-assoc (c .meaningful) (ok a) k);
+    bounded = λ y. j .bounded ∙ p .bounded (earlier y);
+    wrote = λ y z. let w = p .wrote (earlier y) (subst T (j .bounded) z) in
         record { place = j .to ∙ w .place; text = w .text };
   }
     where
-      earlier : T (s .meant) → T (r .meant)
-      earlier y = and-left (r .meant) k (subst T (j .meant) y)
+      earlier : T (s .meaningful) → T (r .meaningful)
+      earlier y = and-left (r .meaningful) k (subst T (j .meaningful) y)
 
   -- octets after those of a value
   pub put-emit : {ok : A → Bool} {r s : Cursor} {b′ b″ xs : List ℕ} → Put ok wire c b r b′ a → Emits xs r b′ s b″
@@ -445,4 +457,8 @@ module _ {A : Type 0} {wire : A → List ℕ} {c : Cursor} {b : List ℕ} {a : A
       put-as {ok = λ (u : A × Unit {0}). ok (u .0) && true} (sym (and-true (ok a))) refl (put-then p written)
     where
       written : Put {A = Unit {0}} (λ u. true) (λ u. xs) r b′ s b″ tt
-      written = record { meant = e .meant ∙ sym (and-true (r .meant)); small = λ k. e .small; wrote = λ k. e .wrote }
+      written = record {
+        meaningful = e .meaningful ∙ sym (and-true (r .meaningful));
+        bounded = λ k. e .bounded;
+        wrote = λ k. e .wrote;
+      }

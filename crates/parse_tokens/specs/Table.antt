@@ -10,8 +10,8 @@ use lib.Dec.{leb}
 use lib.ListN.{length, take, drop, getD, length-append, length-drop}
 use lib.Seq.{take-at, drop-at, drop-drop}
 use Rattle.octets.specs.Lists.{ascii, each}
-use Rattle.octets.specs.Parsed.{Parsed, stuck, or-else}
-use Rattle.octets.specs.Codec.{tried}
+use Rattle.octets.specs.Parsed.{Parsed, failed, or-else}
+use Rattle.octets.specs.Codec.{tableParser}
 use Rattle.octets.specs.Fields.{drop-one}
 use Rattle.edns.specs.Table.{tableOctets}
 use Rattle.parse_tokens.specs.Leaf.{rowParser}
@@ -19,19 +19,19 @@ use Rattle.parse_tokens.specs.Choice.{choice}
 
 -- the titles of a table in turn, up to a row that is not whole; the first argument bounds the rows
 unfoldable pub triedRows : ℕ → List ℕ → List ℕ → Parsed ℕ
-triedRows zero table w = stuck w
-triedRows (suc n) [] w = stuck w
-triedRows (suc n) (key ∷ []) w = stuck w
+triedRows zero table w = failed w
+triedRows (suc n) [] w = failed w
+triedRows (suc n) (key ∷ []) w = failed w
 triedRows (suc n) (key ∷ size ∷ l) w =
-    cond (leb size (length l)) (or-else (rowParser (take size l) key w) (triedRows n (drop size l) w)) (stuck w)
+    cond (leb size (length l)) (or-else (rowParser (take size l) key w) (triedRows n (drop size l) w)) (failed w)
 
 abbrev pub triedIn : List ℕ → List ℕ → Parsed ℕ
 triedIn table = triedRows (length table) table
 
 -- the octets of rows are tried as the rows are
 pub rows-tried : (rows : List (ℕ × String)) (n : ℕ) (w : List ℕ) → length (tableOctets rows) ≤ n
-    → triedRows n (tableOctets rows) w ≡ tried rows w
-unfolding each triedRows tried
+    → triedRows n (tableOctets rows) w ≡ tableParser rows w
+unfolding each triedRows tableParser
 rows-tried [] zero w h = refl
 rows-tried [] (suc n) w h = refl
 rows-tried (row ∷ rows) zero w h = absurd (omega arith)
@@ -57,11 +57,11 @@ titleAt table from size = take (from + 2 + size - (from + 2)) (drop (from + 2) t
 
 module _ (table : List ℕ) (n from : ℕ) where
   -- no row
-  pub rows-end : length table - from < 2 → (w : List ℕ) → triedRows n (drop from table) w ≡ stuck w
+  pub rows-end : length table - from < 2 → (w : List ℕ) → triedRows n (drop from table) w ≡ failed w
   unfolding triedRows
   rows-end h w = go n (drop from table) (omega (arith, length-drop from table))
     where
-      go : (n : ℕ) (l : List ℕ) → length l < 2 → triedRows n l w ≡ stuck w
+      go : (n : ℕ) (l : List ℕ) → length l < 2 → triedRows n l w ≡ failed w
       go zero l h = refl
       go (suc n) [] h = refl
       go (suc n) (key ∷ []) h = refl
@@ -75,11 +75,11 @@ module _ (table : List ℕ) (n from : ℕ) where
 
   -- a row that is not whole
   pub rows-cut : {size : ℕ} → 2 ≤ length table - from → size ≡ getD table (from + 1) 0
-      → length table - (from + 2) < size → (w : List ℕ) → triedRows n (drop from table) w ≡ stuck w
+      → length table - (from + 2) < size → (w : List ℕ) → triedRows n (drop from table) w ≡ failed w
   unfolding triedRows
   rows-cut {size} h e k w = rw (front h, ← e) (go n)
     where
-      go : (n : ℕ) → triedRows n (getD table from 0 ∷ size ∷ drop (from + 2) table) w ≡ stuck w
+      go : (n : ℕ) → triedRows n (getD table from 0 ∷ size ∷ drop (from + 2) table) w ≡ failed w
       go zero = refl
       go (suc n) = rw (lt-leb size (length (drop (from + 2) table)) (omega (arith, length-drop (from + 2) table)))
 

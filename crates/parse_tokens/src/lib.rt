@@ -7,10 +7,10 @@ ghost use mathlib.Core.List.{[], _∷_};
 ghost use lib.ListN.{length};
 ghost use Rattle.octets.specs.Lists.{u8?, u16?, u32?};
 ghost use Rattle.octets.specs.Fields.{be16, be32};
-ghost use Rattle.octets.specs.Codec.{tried};
+ghost use Rattle.octets.specs.Codec.{tableParser};
 ghost use Rattle.options.specs.Options.{members};
 ghost use Rattle.edns.specs.Edns.{flags, rcodes};
-ghost use Rattle.parse_tokens.specs.Cursor.{Safe, Passed, Stopped, Came};
+ghost use Rattle.parse_tokens.specs.Cursor.{Safe, Passed, FailedAt, Advanced};
 ghost use Rattle.parse_tokens.specs.Step.{Held, Emits, Judged};
 ghost use Rattle.parse_tokens.specs.Place.{Byte};
 ghost use Rattle.parse_tokens.specs.Items.{comma-of};
@@ -25,40 +25,40 @@ use edns::rcode_names;
 use octets::put_all;
 use octets::wide;
 
-// Where the reader is in a text. `spelled`: all before `at` is within the grammar; if not, nothing more is read, and
-// `at` is the first octet at which no text goes on. `meant`: a message can have the text so far, limits of size aside.
-// `small`: the message so far is within its limit. `to`: where its next octet goes.
+// Where the reader is in a text. `grammatical`: all before `at` is within the grammar; if not, nothing more is read,
+// and `at` is the first octet at which no text goes on. `meaningful`: a message can have the text so far, limits of
+// size aside. `bounded`: the message so far is within its limit. `to`: where its next octet goes.
 pub struct Cursor {
     pub at: usize,
     pub to: usize,
-    pub spelled: bool,
-    pub meant: bool,
-    pub small: bool,
+    pub grammatical: bool,
+    pub meaningful: bool,
+    pub bounded: bool,
 }
 
 // The reader comes to a place.
 pub fn advance(c: Cursor, at: usize) -> Cursor
-    ensures { λ r. ⌜ Came c at r ⌝ }
+    ensures { λ r. ⌜ Advanced c at r ⌝ }
 {
     Cursor {
         at: at,
         to: c.to,
-        spelled: true,
-        meant: c.meant,
-        small: c.small,
+        grammatical: true,
+        meaningful: c.meaningful,
+        bounded: c.bounded,
     }
 }
 
 // The reader stops at a place.
 pub fn fail_at(c: Cursor, at: usize) -> Cursor
-    ensures { λ r. ⌜ Stopped c at r ⌝ }
+    ensures { λ r. ⌜ FailedAt c at r ⌝ }
 {
     Cursor {
         at: at,
         to: c.to,
-        spelled: false,
-        meant: c.meant,
-        small: c.small,
+        grammatical: false,
+        meaningful: c.meaningful,
+        bounded: c.bounded,
     }
 }
 
@@ -67,7 +67,7 @@ pub fn literal(text: &[u8], c: Cursor, lit: &[u8]) -> Cursor
     requires { ⌜ Safe (now text) c ⌝ }
     ensures { λ r. ⌜ Passed (now (lit .entry)) (now (text .entry)) c r ⌝ }
 {
-    if !c.spelled {
+    if !c.grammatical {
         return c;
     }
     let mut at = c.at;
@@ -96,17 +96,17 @@ pub fn comma(text: &[u8], c: Cursor, first: bool) -> Cursor
     literal(text, c, b",")
 }
 
-// `meant` only if this holds too.
+// `meaningful` only if this holds too.
 pub fn demand(c: Cursor, ok: bool) -> Cursor
     ensures { λ r. ⌜ Judged ok c r ⌝ }
 {
-    let meant = c.meant;
+    let meant = c.meaningful;
     Cursor {
         at: c.at,
         to: c.to,
-        spelled: c.spelled,
-        meant: meant && ok,
-        small: c.small,
+        grammatical: c.grammatical,
+        meaningful: meant && ok,
+        bounded: c.bounded,
     }
 }
 
@@ -120,17 +120,17 @@ pub fn reserve(c: Cursor, n: usize) -> Cursor
         return Cursor {
             at: c.at,
             to: to,
-            spelled: c.spelled,
-            meant: c.meant,
-            small: false,
+            grammatical: c.grammatical,
+            meaningful: c.meaningful,
+            bounded: false,
         };
     }
     Cursor {
         at: c.at,
         to: to + n,
-        spelled: c.spelled,
-        meant: c.meant,
-        small: c.small,
+        grammatical: c.grammatical,
+        meaningful: c.meaningful,
+        bounded: c.bounded,
     }
 }
 
@@ -140,7 +140,7 @@ pub fn emit(c: Cursor, octets: &[u8], out: &mut [u8]) -> Cursor
     ensures { λ r. ⌜ Emits (now (octets .entry)) c (now (out .entry)) r (now (out .exit)) ⌝ }
 {
     let r = reserve(c, octets.len());
-    if !r.small {
+    if !r.bounded {
         return r;
     }
     let to = c.to;
@@ -152,7 +152,7 @@ pub fn emit(c: Cursor, octets: &[u8], out: &mut [u8]) -> Cursor
 pub fn furthest_failure(c: Cursor, at: usize) -> Cursor
     ensures { λ r. ⌜ Further at c r ⌝ }
 {
-    if !c.spelled {
+    if !c.grammatical {
         if c.at < at {
             return fail_at(c, at);
         }
@@ -233,7 +233,7 @@ fn positive(text: &[u8], c: Cursor) -> Amount
     requires { ⌜ Safe (now text) c ⌝ }
     ensures { λ r. ⌜ PositiveRead (now (text .entry)) c r ⌝ }
 {
-    if !c.spelled {
+    if !c.grammatical {
         return Amount {
             cursor: c,
             value: 0,
@@ -276,7 +276,7 @@ pub fn number(text: &[u8], c: Cursor) -> Amount
     ensures { λ r. ⌜ NumberRead (now (text .entry)) c r ⌝ }
 {
     let z = literal(text, c, b"0");
-    if z.spelled {
+    if z.grammatical {
         return Amount {
             cursor: z,
             value: 0,
@@ -292,7 +292,7 @@ pub fn number_then(text: &[u8], c: Cursor, title: &[u8]) -> Amount
 {
     let n = number(text, c);
     let d = literal(text, n.cursor, title);
-    if !d.spelled {
+    if !d.grammatical {
         return Amount {
             cursor: d,
             value: 0,
@@ -364,7 +364,7 @@ pub fn signed(text: &[u8], c: Cursor) -> Ttl
     ensures { λ r. ⌜ SignedRead (now (text .entry)) c r ⌝ }
 {
     let m = literal(text, c, b"-");
-    if m.spelled {
+    if m.grammatical {
         return minus(positive(text, m));
     }
     plus(number(text, c))
@@ -420,7 +420,7 @@ fn pairs(text: &[u8], c: Cursor) -> Span
     ensures { λ r. ⌜ PairsRead (now (text .entry)) c r ⌝ }
 {
     let from = c.at;
-    if !c.spelled {
+    if !c.grammatical {
         return Span {
             cursor: c,
             from: from,
@@ -491,7 +491,7 @@ fn row_of(text: &[u8], c: Cursor, table: &[u8]) -> Row
         }
         let next = title + size;
         let d = literal(text, c, &table[title..next]);
-        if d.spelled {
+        if d.grammatical {
             return Row {
                 cursor: d,
                 key: wide(table[from]) as u32,
@@ -509,7 +509,7 @@ const FLAGS: [u8; 12] = *b"\x00\x02[]\
 // FLAGS.
 pub fn flags(text: &[u8], c: Cursor) -> Row
     requires { ⌜ Safe (now text) c ⌝ }
-    ensures { λ r. ⌜ RowRead (tried flags) (now (text .entry)) c r ⌝ }
+    ensures { λ r. ⌜ RowRead (tableParser flags) (now (text .entry)) c r ⌝ }
 {
     row_of(text, c, &FLAGS)
 }
@@ -517,7 +517,7 @@ pub fn flags(text: &[u8], c: Cursor) -> Row
 // RCODE.
 pub fn rcode(text: &[u8], c: Cursor) -> Row
     requires { ⌜ Safe (now text) c ⌝ }
-    ensures { λ r. ⌜ RowRead (tried rcodes) (now (text .entry)) c r ⌝ }
+    ensures { λ r. ⌜ RowRead (tableParser rcodes) (now (text .entry)) c r ⌝ }
 {
     let table = rcode_names();
     row_of(text, c, &table)
@@ -538,7 +538,7 @@ const OPTIONS: [u8; 70] = *b"\x03\x04NSID\
 // An option's name.
 pub fn option_name(text: &[u8], c: Cursor) -> Row
     requires { ⌜ Safe (now text) c ⌝ }
-    ensures { λ r. ⌜ RowRead (tried members) (now (text .entry)) c r ⌝ }
+    ensures { λ r. ⌜ RowRead (tableParser members) (now (text .entry)) c r ⌝ }
 {
     row_of(text, c, &OPTIONS)
 }

@@ -20,10 +20,10 @@ use Rattle.records.specs.Layout as layout
 use Rattle.records.specs.Message.{Record, opt?}
 use Rattle.records.specs.Read.{Entry, entry, recordAt, filled}
 use Rattle.records.specs.RecordLaws.{laid-octets, misfit≢laid}
-use Rattle.records.specs.Parts.{HeadOf, recordHeadAt, withRdata, with-rdata, record-head, head-next}
+use Rattle.records.specs.Parts.{RecordHead, recordHeadAt, withRdata, with-rdata, record-head, head-next}
 use Rattle.records.specs.Answer.{padded, headRead, recordRead}
-use Rattle.records.proofs.Told.{form-part, headed}
-use Rattle.records.specs.declared.Head.{Head}
+use Rattle.records.proofs.Told.{form-part, head-told}
+use Rattle.records.specs.declared.RecordFields.{RecordFields}
 use Rattle.records.specs.declared.Record.the-variants as record′
 use Rattle.records.specs.declared.RecordRead.{RecordRead}
 use Rattle.rdata.specs.Written.{digitsIf, PutsRdata}
@@ -49,24 +49,24 @@ quote-brace : (t d : List ℕ) → t ++ hexText d ++ ascii "}" ≡ t ++ ascii "\
 unfolding hexText
 quote-brace t d = rw (each-ended hexOctet 34 d) (simp append-assoc)
 
-module _ (s form : List ℕ) (h : Head) {b₁ b₂ : List ℕ} {n₁ : ℕ} {r : RdataEnd}
-    (q : PutsRdata true s (h .kind) (h .rdata) (h .rdlength) b₁ n₁ b₂ r) where
+module _ (s form : List ℕ) (h : RecordFields) {b₁ b₂ : List ℕ} {n₁ : ℕ} {r : RdataEnd}
+    (q : PutsRdata true s (h .rtype) (h .rdata) (h .rdlength) b₁ n₁ b₂ r) where
   -- one that is readable has no fault
   pub ordinary-faultless : {f : FaultRead} → Readable (ordinaryText s form h) → r ≡ Misfit f → ⊥
   unfolding ordinaryText rdataText
   ordinary-faultless k e =
-      let (fault, u, v) = puts-misfit s (h .kind) (h .rdata) (h .rdlength) q e in
-      readable≢bad (readable-value (λ t. fieldsText form (h .kind) (h .class) (h .ttl) ++ t ++ ascii "}")
-      (rdataText s (h .kind) (h .rdata) (h .rdlength)) k)
+      let (fault, u, v) = puts-misfit s (h .rtype) (h .rdata) (h .rdlength) q e in
+      readable≢bad (readable-value (λ t. fieldsText form (h .rtype) (h .class) (h .ttl) ++ t ++ ascii "}")
+      (rdataText s (h .rtype) (h .rdata) (h .rdlength)) k)
       (ap (hexOfRdata (h .rdata + h .rdlength)) u)
 
   pub ordinary-prints : {b b₀ b₃ : List ℕ} {to n₀ n₂ n₃ : ℕ}
-      → Wrote b to (fieldsText form (h .kind) (h .class) (h .ttl)) b₀ n₀ → Wrote b₀ n₀ (34 ∷ []) b₁ n₁ → r ≡ To n₂
+      → Wrote b to (fieldsText form (h .rtype) (h .class) (h .ttl)) b₀ n₀ → Wrote b₀ n₀ (34 ∷ []) b₁ n₁ → r ≡ To n₂
       → Wrote b₂ n₂ (34 ∷ 125 ∷ []) b₃ n₃ → Prints (ordinaryText s form h) b to b₃ (h .rdata + h .rdlength) n₃
   unfolding ordinaryText rdataText digitsIf
   ordinary-prints p o e v =
-      let fields = fieldsText form (h .kind) (h .class) (h .ttl) in
-      let (d, u, w) = puts-laid s (h .kind) (h .rdata) (h .rdlength) q e in
+      let fields = fieldsText form (h .rtype) (h .class) (h .ttl) in
+      let (d, u, w) = puts-laid s (h .rtype) (h .rdata) (h .rdlength) q e in
       record {
         text = fields ++ hexText d ++ ascii "}";
         reads = ap (λ (x : layout.Laid). texts (λ t. fields ++ t ++ ascii "}") (hexOfRdata (h .rdata + h .rdlength) x))
@@ -83,7 +83,7 @@ record-parts r h =
     ap (λ (t : List ℕ). t ++ ascii ",\"TTL\":" ++ signedText (signed (r .ttl)) ++ ascii ",\"RDATAHEX\":"
     ++ hexText (r .rdata) ++ ascii "}") (front-text (r .name) (r .type) (r .class) h)
 
-ordinary-text : (s : List ℕ) (k : HeadOf) → Sized (k .name)
+ordinary-text : (s : List ℕ) (k : RecordHead) → Sized (k .name)
     → ordinaryText s (nameForm (k .name)) (headRead k) ≡ texts (λ (r : Record). recordText (recordItem r))
     (with-rdata s (entry k (k .rdata + k .rdlength)))
 unfolding ordinaryText rdataText
@@ -136,7 +136,7 @@ root-form (l ∷ n) = ne-eqb _ 1 λ e. some-octet n e
         omega arith in omega arith
 
 -- the record of a head, where RDATA is read
-module _ (s : List ℕ) (k : HeadOf) (lone : Bool) where
+module _ (s : List ℕ) (k : RecordHead) (lone : Bool) where
   size-same : k .rdata + k .rdlength - k .rdata ≡ k .rdlength
   size-same = omega arith
 
@@ -187,20 +187,21 @@ shows-root true ttl rcode d e = e
 shows-root false ttl rcode d e = absurd (false≢true e)
 
 -- the record is of TYPE 41, and is an element
-pub element-shows : (s : List ℕ) (h : Head) (lone : Bool) {t : Bool} {rcode : ℕ} → t ≡ shows? s h lone → t ≡ true
+pub element-shows : (s : List ℕ) (h : RecordFields) (lone : Bool) {t : Bool} {rcode : ℕ} → t ≡ shows? s h lone
+    → t ≡ true
     → rcode ≡ rcodeOf s → showsEdns true (h .ttl) rcode (rdataOf s h) ≡ true
 unfolding shows?
 element-shows s h lone p q e =
     rw e (shows-root (eqb (h .size) 1) (h .ttl) (rcodeOf s) (rdataOf s h)
-    (both-true (lone && eqb (h .kind) 41) _ (sym p ∙ q) .1))
+    (both-true (lone && eqb (h .rtype) 41) _ (sym p ∙ q) .1))
 
-element-kind : (s : List ℕ) (h : Head) (lone : Bool) → shows? s h lone ≡ true → h .kind ≡ 41
+element-kind : (s : List ℕ) (h : RecordFields) (lone : Bool) → shows? s h lone ≡ true → h .rtype ≡ 41
 unfolding shows?
 element-kind s h lone e =
-    let p = both-true (lone && eqb (h .kind) 41) _ e .0 in
-    eqb-true (h .kind) 41 (both-true lone (eqb (h .kind) 41) p .1)
+    let p = both-true (lone && eqb (h .rtype) 41) _ e .0 in
+    eqb-true (h .rtype) 41 (both-true lone (eqb (h .rtype) 41) p .1)
 
-element-rdata : (s : List ℕ) (k : HeadOf) → k .type ≡ 41
+element-rdata : (s : List ℕ) (k : RecordHead) → k .type ≡ 41
     → rdataAt true s (k .type) (k .rdata) (k .rdlength) ≡ laid (rdataOf s (headRead k))
 element-rdata s k e =
     let z : k .rdata + k .rdlength - k .rdata ≡ k .rdlength = omega arith in
@@ -208,26 +209,26 @@ element-rdata s k e =
     ∙ ap (λ (n : ℕ). laid (part s (k .rdata) n)) (sym z)
 
 -- the test as the code makes it
-pub shows-many : (s : List ℕ) (h : Head) (lone : Bool) → not lone ≡ true → false ≡ shows? s h lone
+pub shows-many : (s : List ℕ) (h : RecordFields) (lone : Bool) → not lone ≡ true → false ≡ shows? s h lone
 unfolding shows?
 shows-many s h true e = absurd (false≢true e)
 shows-many s h false e = refl
 
-pub shows-other : (s : List ℕ) (h : Head) (lone : Bool) → (h .kind ≡ 41 → ⊥) → false ≡ shows? s h lone
+pub shows-other : (s : List ℕ) (h : RecordFields) (lone : Bool) → (h .rtype ≡ 41 → ⊥) → false ≡ shows? s h lone
 unfolding shows?
-shows-other s h true e = rw (ne-eqb (h .kind) 41 e)
+shows-other s h true e = rw (ne-eqb (h .rtype) 41 e)
 shows-other s h false e = refl
 
-pub shows-lone : (s : List ℕ) (h : Head) (lone : Bool) {r : Bool} {rcode : ℕ} → not lone ≡ false → h .kind ≡ 41
+pub shows-lone : (s : List ℕ) (h : RecordFields) (lone : Bool) {r : Bool} {rcode : ℕ} → not lone ≡ false → h .rtype ≡ 41
     → rcode ≡ rcodeOf s
     → r ≡ showsEdns (eqb (h .size) 1) (h .ttl) rcode (rdataOf s h) → r ≡ shows? s h lone
 unfolding shows?
-shows-lone s h true e k c p = rw (eq-eqb (h .kind) 41 k, ← c) p
+shows-lone s h true e k c p = rw (eq-eqb (h .rtype) 41 k, ← c) p
 shows-lone s h false e k c p = absurd (false≢true (sym e))
 
 -- ---- records
 -- the record's text by its head and RDATA
-record-text : (lone : Bool) (s : List ℕ) (at : ℕ) (k : HeadOf) (next : ℕ) → recordHeadAt s at ≡ entry k next
+record-text : (lone : Bool) (s : List ℕ) (at : ℕ) (k : RecordHead) (next : ℕ) → recordHeadAt s at ≡ entry k next
     → recordTextAt lone s at ≡ texts (entryText (rcodeOf s) lone)
     (filled (withRdata k) (k .rdata + k .rdlength) (rdataAt true s (k .type) (k .rdata) (k .rdlength)))
 unfolding recordTextAt
@@ -242,24 +243,24 @@ module _ (s : List ℕ) (at : ℕ) (lone : Bool) {r : RecordRead} (e : r ≡ rec
   pub record-faultless : {f : FaultRead} → Readable (recordTextAt lone s at) → r .answer ≡ record′.Faulty f → ⊥
   unfolding recordTextAt
   record-faultless h p =
-      let (fault, u, v) = headed (recordHeadAt s at) e p in
+      let (fault, u, v) = head-told (recordHeadAt s at) e p in
       readable≢bad (readable-value (entryText (rcodeOf s) lone) (recordAt s at) h) (record-head s at
       ∙ ap (with-rdata s) u)
 
   -- the text of a record by what was read
-  record-same : {h : Head} → r .answer ≡ record′.Read h
+  record-same : {h : RecordFields} → r .answer ≡ record′.Read h
       → recordTextAt lone s at ≡ shownText lone s (take (h .size - 0) (r .name)) h
   unfolding shownText
-  record-same {h} p = go (headed (recordHeadAt s at) e p)
+  record-same {h} p = go (head-told (recordHeadAt s at) e p)
     where
-      go : (z : (k : HeadOf) × (next : ℕ) × (recordHeadAt s at ≡ entry k next) × (h ≡ headRead k)
+      go : (z : (k : RecordHead) × (next : ℕ) × (recordHeadAt s at ≡ entry k next) × (h ≡ headRead k)
           × (r .name ≡ padded (nameForm (k .name))))
           → recordTextAt lone s at ≡ shownText lone s (take (h .size - 0) (r .name)) h
       go (k, next, u, v, l) =
           record-text lone s at k next u ∙ shown (shows? s (headRead k) lone) refl
           ∙ ap (λ (form : List ℕ). shownText lone s form (headRead k))
           (sym (form-part (nameForm (k .name)) (r .name) (length (nameForm (k .name))) refl l))
-          ∙ ap (λ (h : Head). shownText lone s (take (h .size - 0) (r .name)) h) (sym v)
+          ∙ ap (λ (h : RecordFields). shownText lone s (take (h .size - 0) (r .name)) h) (sym v)
         where
           shown : (t : Bool) → shows? s (headRead k) lone ≡ t
               → texts (entryText (rcodeOf s) lone)
@@ -268,7 +269,7 @@ module _ (s : List ℕ) (at : ℕ) (lone : Bool) {r : RecordRead} (e : r ≡ rec
           shown true q = as-element s k lone _ refl (element-rdata s k (element-kind s (headRead k) lone q)) q ∙ rw q
           shown false q = as-is s k lone _ refl q ∙ sym (ordinary-text s k (head-sized s at k next u)) ∙ rw q
 
-  module _ {h : Head} (p : r .answer ≡ record′.Read h) where
+  module _ {h : RecordFields} (p : r .answer ≡ record′.Read h) where
     pub record-readable : Readable (recordTextAt lone s at)
         → Readable (shownText lone s (take (h .size - 0) (r .name)) h)
     record-readable k = subst (λ (w : Entry (List ℕ)). Readable w) (record-same p) k
@@ -279,7 +280,7 @@ module _ (s : List ℕ) (at : ℕ) (lone : Bool) {r : RecordRead} (e : r ≡ rec
     record-prints d = rw (record-same p) d
 
 -- by what the code's test answers
-module _ (s form : List ℕ) (h : Head) (lone : Bool) {t : Bool} (x : t ≡ shows? s h lone) where
+module _ (s form : List ℕ) (h : RecordFields) (lone : Bool) {t : Bool} (x : t ≡ shows? s h lone) where
   pub shown-element : {rcode : ℕ} {b b′ : List ℕ} {to n : ℕ} → t ≡ true → rcode ≡ rcodeOf s
       → Wrote b to (elementText (h .class) (h .ttl) rcode (rdataOf s h)) b′ n
       → Prints (shownText lone s form h) b to b′ (h .rdata + h .rdlength) n

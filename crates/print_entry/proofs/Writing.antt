@@ -13,7 +13,7 @@ use Rattle.octets.specs.Lists.{ascii, ended}
 use Rattle.octets.specs.Fields.{be16At, be32At}
 use Rattle.octets.specs.Overlay.{Wrote, then}
 use Rattle.octets.specs.Decimal.{decimal}
-use Rattle.records.proofs.Told.{form-part, asked, asks-after, heads-after, heads-inside}
+use Rattle.records.proofs.Told.{form-part, question-told, asks-after, heads-after, heads-inside}
 use Rattle.names.specs.Name.{Name, nameForm, cut, Fault}
 use Rattle.names.specs.Walk.{message, Named, named, faulty, nameAt}
 use Rattle.names.specs.NameLaws.{Sized, read-sized, named-name, faulty≢named}
@@ -21,10 +21,10 @@ use Rattle.names.specs.declared.Fault.{Fault as FaultRead}
 use Rattle.records.specs.Message.{Question}
 use Rattle.records.specs.Read.{Entry, entry, bad, with-name, firstCut, questionAt}
 use Rattle.records.specs.RecordLaws.{bad≢entry, entry-value}
-use Rattle.records.specs.Parts.{fitted, begun, begunAt, question-begun, HeadOf, recordHeadAt, headed}
-use Rattle.records.specs.Answer.{padded, askedOf, questionRead, Asks, Heads}
-use Rattle.records.specs.declared.Asked.{Asked}
-use Rattle.records.specs.declared.Head.{Head}
+use Rattle.records.specs.Parts.{fitted, begun, begunAt, question-begun, RecordHead, recordHeadAt, headed}
+use Rattle.records.specs.Answer.{padded, questionFields, questionRead, Asks, Heads}
+use Rattle.records.specs.declared.QuestionFields.{QuestionFields}
+use Rattle.records.specs.declared.RecordFields.{RecordFields}
 use Rattle.records.specs.declared.Question.{Question as QuestionAnswer}
 use Rattle.records.specs.declared.Question.the-variants as question
 use Rattle.records.specs.declared.Record.{Record as RecordAnswer}
@@ -98,16 +98,16 @@ question-sized s at q next e =
     begun-entry (λ (q : Question). q .name) s (2 ∷ 2 ∷ []) at _
     (λ n i a j p. sym (ap (λ (q : Question). q .name) (entry-value p))) q next (sym (question-begun s at) ∙ e)
 
-pub head-sized : (s : List ℕ) (at : ℕ) (h : HeadOf) (next : ℕ) → recordHeadAt s at ≡ entry h next → Sized (h .name)
+pub head-sized : (s : List ℕ) (at : ℕ) (h : RecordHead) (next : ℕ) → recordHeadAt s at ≡ entry h next → Sized (h .name)
 unfolding recordHeadAt
-head-sized s at h next e = begun-entry (λ (h : HeadOf). h .name) s (2 ∷ 2 ∷ 4 ∷ 2 ∷ []) at (headed s) same h next e
+head-sized s at h next e = begun-entry (λ (h : RecordHead). h .name) s (2 ∷ 2 ∷ 4 ∷ 2 ∷ []) at (headed s) same h next e
   where
-    room : (n : Name) (b : Bool) (fault : Fault) (k : HeadOf) (i : ℕ) (a : HeadOf) (j : ℕ) → k .name ≡ n
+    room : (n : Name) (b : Bool) (fault : Fault) (k : RecordHead) (i : ℕ) (a : RecordHead) (j : ℕ) → k .name ≡ n
         → cond b (bad fault) (entry k i) ≡ entry a j → a .name ≡ n
     room n true fault k i a j p q = absurd (bad≢entry q)
-    room n false fault k i a j p q = sym (ap (λ (h : HeadOf). h .name) (entry-value q)) ∙ p
+    room n false fault k i a j p q = sym (ap (λ (h : RecordHead). h .name) (entry-value q)) ∙ p
 
-    same : (n : Name) (i : ℕ) (a : HeadOf) (j : ℕ) → headed s n i ≡ entry a j → a .name ≡ n
+    same : (n : Name) (i : ℕ) (a : RecordHead) (j : ℕ) → headed s n i ≡ entry a j → a .name ≡ n
     same n i a j p = room n (ltb (length s) (i + 10 + be16At s (i + 8))) (record { kind = cut; octet = i + 10 })
         (record {
           name = n;
@@ -144,27 +144,28 @@ module _ (s : List ℕ) (at : ℕ) {r : QuestionRead} (e : r ≡ questionRead (q
   pub question-faultless : {f : FaultRead} → Readable (questionTextAt s at) → r .answer ≡ question.Faulty f → ⊥
   unfolding questionTextAt
   question-faultless h p =
-      readable≢bad (readable-value questionText (questionAt s at) h) (asked (questionAt s at) e p .1)
+      readable≢bad (readable-value questionText (questionAt s at) h) (question-told (questionAt s at) e p .1)
 
-  pub question-prints : {a : Asked} {b b₁ b₂ : List ℕ} {to n₁ n₂ : ℕ} → r .answer ≡ question.Read a
-      → Wrote b to (startText (take (a .size - 0) (r .name)) (a .kind) (a .class)) b₁ n₁ → Wrote b₁ n₁ (125 ∷ []) b₂ n₂
+  pub question-prints : {a : QuestionFields} {b b₁ b₂ : List ℕ} {to n₁ n₂ : ℕ} → r .answer ≡ question.Read a
+      → Wrote b to (startText (take (a .size - 0) (r .name)) (a .rtype) (a .class)) b₁ n₁ → Wrote b₁ n₁ (125 ∷ []) b₂ n₂
       → Prints (questionTextAt s at) b to b₂ (a .next) n₂
   unfolding questionTextAt
-  question-prints {a} {b} {b₁} {b₂} {to} {n₁} {n₂} p x y = go (asked (questionAt s at) e p) x
+  question-prints {a} {b} {b₁} {b₂} {to} {n₁} {n₂} p x y = go (question-told (questionAt s at) e p) x
     where
-      go : (z : (q : Question) × (next : ℕ) × (questionAt s at ≡ entry q next) × (a ≡ askedOf q next)
+      go : (z : (q : Question) × (next : ℕ) × (questionAt s at ≡ entry q next) × (a ≡ questionFields q next)
           × (r .name ≡ padded (nameForm (q .name))))
-          → Wrote b to (startText (take (a .size - 0) (r .name)) (a .kind) (a .class)) b₁ n₁
+          → Wrote b to (startText (take (a .size - 0) (r .name)) (a .rtype) (a .class)) b₁ n₁
           → Prints (texts questionText (questionAt s at)) b to b₂ (a .next) n₂
       go (q, next, u, v, l) =
-          rw u (subst (λ (c : Asked). Wrote b to (startText (take (c .size - 0) (r .name)) (c .kind) (c .class)) b₁ n₁
+          rw u (subst (λ (c : QuestionFields). Wrote b to
+          (startText (take (c .size - 0) (r .name)) (c .rtype) (c .class)) b₁ n₁
           → Prints (entry (questionText q) next) b to b₂ (c .next) n₂) (sym v)
           λ x. prints-text (rw (question-parts q (question-sized s at q next u))
           (then (rw (form-part (nameForm (q .name)) (r .name) (length (nameForm (q .name))) refl l) at x) y)))
 
 -- ---- bounds
 -- a question's text, by the offset after it
-module _ (x : QuestionAnswer) (at end : ℕ) {a : Asked} (h : Asks x at end) (e : x ≡ question.Read a) where
+module _ (x : QuestionAnswer) (at end : ℕ) {a : QuestionFields} (h : Asks x at end) (e : x ≡ question.Read a) where
   pub question-later : at < a .next
   question-later = omega (arith, asks-after x at end h e)
 
@@ -173,7 +174,7 @@ module _ (x : QuestionAnswer) (at end : ℕ) {a : Asked} (h : Asks x at end) (e 
   question-place to k w = omega (arith, w .place, asks-after x at end h e)
 
 -- a record's
-module _ (x : RecordAnswer) (at end : ℕ) {a : Head} (h : Heads x at end) (e : x ≡ record′.Read a) where
+module _ (x : RecordAnswer) (at end : ℕ) {a : RecordFields} (h : Heads x at end) (e : x ≡ record′.Read a) where
   pub record-fits : end ≤ 65535 → a .rdata + a .rdlength < 18446744073709551616
   record-fits k = omega (arith, heads-inside x at end h e)
 

@@ -10,7 +10,7 @@ use Rattle.names.specs.Walk.{part}
 use Rattle.records.specs.Layout.{Laid, laid, misfit, rdataAt}
 use Rattle.records.specs.Message.{Record}
 use Rattle.records.specs.Read.{Entry, entry, bad, questionAt, recordAt}
-use Rattle.records.specs.declared.Head.{Head}
+use Rattle.records.specs.declared.RecordFields.{RecordFields}
 use Rattle.spelling.specs.Spelling.{signed, signedText}
 use Rattle.spelling.specs.Form.{formText}
 use Rattle.edns.specs.Element.{showsEdns, elementText}
@@ -42,25 +42,25 @@ unfoldable pub rdataText : List ℕ → ℕ → ℕ → ℕ → Entry (List ℕ)
 rdataText s type start size = hexOfRdata (start + size) (rdataAt true s type start size)
 
 -- a record as it is, by its owner's form and what the code reads of it before RDATA
-unfoldable pub ordinaryText : List ℕ → List ℕ → Head → Entry (List ℕ)
+unfoldable pub ordinaryText : List ℕ → List ℕ → RecordFields → Entry (List ℕ)
 ordinaryText s form h =
-    texts (λ t. fieldsText form (h .kind) (h .class) (h .ttl) ++ t ++ ascii "}")
-    (rdataText s (h .kind) (h .rdata) (h .rdlength))
+    texts (λ t. fieldsText form (h .rtype) (h .class) (h .ttl) ++ t ++ ascii "}")
+    (rdataText s (h .rtype) (h .rdata) (h .rdlength))
 
 -- the header's RCODE
 abbrev pub rcodeOf : List ℕ → ℕ
 rcodeOf s = getD s 3 0 % 16
 
 -- RDATA as it is in the message
-abbrev pub rdataOf : List ℕ → Head → List ℕ
+abbrev pub rdataOf : List ℕ → RecordFields → List ℕ
 rdataOf s h = part s (h .rdata) (h .rdata + h .rdlength - h .rdata)
 
 -- it is an EDNS element
-unfoldable pub shows? : List ℕ → Head → Bool → Bool
-shows? s h lone = lone && eqb (h .kind) 41 && showsEdns (eqb (h .size) 1) (h .ttl) (rcodeOf s) (rdataOf s h)
+unfoldable pub shows? : List ℕ → RecordFields → Bool → Bool
+shows? s h lone = lone && eqb (h .rtype) 41 && showsEdns (eqb (h .size) 1) (h .ttl) (rcodeOf s) (rdataOf s h)
 
 -- a record by its owner's form and what the code reads of it before RDATA: an EDNS element, or as it is
-unfoldable pub shownText : Bool → List ℕ → List ℕ → Head → Entry (List ℕ)
+unfoldable pub shownText : Bool → List ℕ → List ℕ → RecordFields → Entry (List ℕ)
 shownText lone s form h =
     cond (shows? s h lone) (entry (elementText (h .class) (h .ttl) (rcodeOf s) (rdataOf s h)) (h .rdata + h .rdlength))
     (ordinaryText s form h)

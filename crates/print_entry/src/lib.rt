@@ -14,9 +14,9 @@ use print_edns::put_edns;
 use print_head::put_number;
 use rdata::RdataEnd;
 use rdata::put_rdata;
-use records::Head;
 use records::Question;
 use records::Record;
+use records::RecordFields;
 use records::question_at;
 use records::record_at;
 use spelling::put_name;
@@ -36,40 +36,40 @@ pub enum Element {
 }
 
 // Writes the members that a question and a record begin with: NAME by the name's form, TYPE, CLASS.
-fn put_start(form: &[u8], kind: u32, class: u32, out: &mut [u8], to: usize) -> usize
+fn put_start(form: &[u8], rtype: u32, class: u32, out: &mut [u8], to: usize) -> usize
     requires { ⌜ (to < 2 ^ 37) × (length (now form) ≤ 255) ⌝ }
-    ensures { λ r. ⌜ Wrote (now (out .entry)) to (startText (now (form .entry)) kind class) (now (out .exit)) r ⌝ }
+    ensures { λ r. ⌜ Wrote (now (out .entry)) to (startText (now (form .entry)) rtype class) (now (out .exit)) r ⌝ }
     ensures { λ r. ⌜ r ≤ to + 1326 ⌝ }
 {
     let title = put_all(b"{\"NAME\":", out, to);
     let name = put_name(form, out, title);
-    let number = put_number(b",\"TYPE\":", kind, out, name);
+    let number = put_number(b",\"TYPE\":", rtype, out, name);
     put_number(b",\"CLASS\":", class, out, number)
 }
 
 // Writes a record up to its RDATA.
-fn put_fields(form: &[u8], kind: u32, class: u32, ttl: u32, out: &mut [u8], to: usize) -> usize
+fn put_fields(form: &[u8], rtype: u32, class: u32, ttl: u32, out: &mut [u8], to: usize) -> usize
     requires { ⌜ (to < 2 ^ 36) × (length (now form) ≤ 255) ⌝ }
-    ensures { λ r. ⌜ Wrote (now (out .entry)) to (fieldsText (now (form .entry)) kind class ttl) (now (out .exit)) r ⌝ }
+    ensures { λ r. ⌜ Wrote (now (out .entry)) to (fieldsText (now (form .entry)) rtype class ttl) (now (out .exit)) r ⌝ }
     ensures { λ r. ⌜ r ≤ to + 1356 ⌝ }
 {
-    let start = put_start(form, kind, class, out, to);
+    let start = put_start(form, rtype, class, out, to);
     let title = put_all(b",\"TTL\":", out, start);
     let number = put_signed(ttl, out, title);
     put_all(b",\"RDATAHEX\":", out, number)
 }
 
 // Writes a record as it is, by its owner's form and its fields.
-fn put_ordinary(s: &[u8], form: &[u8], head: Head, out: &mut [u8], to: usize) -> usize
+fn put_ordinary(s: &[u8], form: &[u8], head: RecordFields, out: &mut [u8], to: usize) -> usize
     requires { ⌜ (length (now s) ≤ 65535) × (length (now form) ≤ 255) × (head .rdata + head .rdlength ≤ length (now s))
         × (to < 2 ^ 36) × Readable (ordinaryText (now s) (now form) head) ⌝ }
     ensures { λ r. ⌜ Prints (ordinaryText (now (s .entry)) (now (form .entry)) head) (now (out .entry)) to
         (now (out .exit)) (head .rdata + head .rdlength) r ⌝ }
     ensures { λ r. ⌜ r ≤ to + 2419 + 2 * head .rdlength ⌝ }
 {
-    let fields = put_fields(form, head.kind, head.class, head.ttl, out, to);
+    let fields = put_fields(form, head.rtype, head.class, head.ttl, out, to);
     let open = put(b'"', out, fields);
-    let rdata = put_rdata(s, head.kind, head.rdata, head.rdlength, true, out, open);
+    let rdata = put_rdata(s, head.rtype, head.rdata, head.rdlength, true, out, open);
     let RdataEnd::To(end) = rdata else {
         // not reached
         return to;
@@ -88,14 +88,14 @@ fn rcode_of(s: &[u8]) -> u32
 }
 
 // Whether a record is an EDNS element.
-fn is_element(s: &[u8], head: Head, lone: bool) -> bool
+fn is_element(s: &[u8], head: RecordFields, lone: bool) -> bool
     requires { ⌜ (12 ≤ length (now s)) × (length (now s) ≤ 65535) × (head .rdata + head .rdlength ≤ length (now s)) ⌝ }
     ensures { λ r. ⌜ r ≡ shows? (now (s .entry)) head lone ⌝ }
 {
     if !lone {
         return false;
     }
-    if head.kind != 41 {
+    if head.rtype != 41 {
         return false;
     }
     let rcode = rcode_of(s);
@@ -119,7 +119,7 @@ fn put_question(s: &[u8], at: usize, out: &mut [u8], to: usize) -> Position
         return Position { at, to };
     };
     let size = asked.size;
-    let end = put_start(&name[0..size], asked.kind, asked.class, out, to);
+    let end = put_start(&name[0..size], asked.rtype, asked.class, out, to);
     Position {
         at: asked.next,
         to: put(b'}', out, end),
@@ -127,7 +127,14 @@ fn put_question(s: &[u8], at: usize, out: &mut [u8], to: usize) -> Position
 }
 
 // Writes a record by its owner's form and its fields: as an EDNS element, or as it is.
-fn put_shown(s: &[u8], form: &[u8], head: Head, lone: bool, out: &mut [u8], to: usize) -> usize
+fn put_shown(
+    s: &[u8],
+    form: &[u8],
+    head: RecordFields,
+    lone: bool,
+    out: &mut [u8],
+    to: usize,
+) -> usize
     requires { ⌜ (12 ≤ length (now s)) × (length (now s) ≤ 65535) × (length (now form) ≤ 255)
         × (head .rdata + head .rdlength ≤ length (now s)) × (to < 2 ^ 36)
         × Readable (shownText lone (now s) (now form) head) ⌝ }

@@ -60,13 +60,13 @@ puts-none {hex} {b = b} {to = to} e = record { next = to; wrote = rw (digitsIf-n
 
 -- RDATA from the i-th piece on, and its form
 abbrev piecesAt : List ℕ → ℕ → ℕ → ℕ → ℕ → ℕ → Laid
-piecesAt s kind start size i at = pieces true (drop i (layoutIn kind size)) s start (start + size) at
+piecesAt s rtype start size i at = pieces true (drop i (layoutIn rtype size)) s start (start + size) at
 
 abbrev formAt : List ℕ → ℕ → ℕ → ℕ → ℕ → ℕ → List ℕ
-formAt s kind start size i at = piecesForm (drop i (layoutIn kind size)) s start (start + size) at
+formAt s rtype start size i at = piecesForm (drop i (layoutIn rtype size)) s start (start + size) at
 
 -- the pieces before the i-th are written: to put the rest is to put all of RDATA
-pub record RdataLoop (hex : Bool) (s : List ℕ) (kind start size : ℕ) (b₀ : List ℕ) (to i at : ℕ) (b : List ℕ)
+pub record RdataLoop (hex : Bool) (s : List ℕ) (rtype start size : ℕ) (b₀ : List ℕ) (to i at : ℕ) (b : List ℕ)
     (next : ℕ) : Type 0 where
   pub sized : length s ≤ 65535
   pub inside : start + size ≤ length s
@@ -74,13 +74,14 @@ pub record RdataLoop (hex : Bool) (s : List ℕ) (kind start size : ℕ) (b₀ :
   pub few : i ≤ 3
   pub place : next ≤ 2 ^ 37 + 510 * i + 2 * at
   pub long : length b ≡ length b₀
-  pub rest : Continues (PutsForm hex (piecesAt s kind start size i at) (formAt s kind start size i at) b next)
-      (PutsRdata hex s kind start size b₀ to)
+  pub rest : Continues (PutsForm hex (piecesAt s rtype start size i at) (formAt s rtype start size i at) b next)
+      (PutsRdata hex s rtype start size b₀ to)
 
-pub loop-start : {hex : Bool} {s : List ℕ} {kind start size : ℕ} {b : List ℕ} {to : ℕ}
-    → (length s ≤ 65535) × (start + size ≤ length s) × (to < 2 ^ 37) → RdataLoop hex s kind start size b to 0 start b to
+pub loop-start : {hex : Bool} {s : List ℕ} {rtype start size : ℕ} {b : List ℕ} {to : ℕ}
+    → (length s ≤ 65535) × (start + size ≤ length s) × (to < 2 ^ 37)
+    → RdataLoop hex s rtype start size b to 0 start b to
 unfolding rdataForm
-loop-start {s = s} {kind = kind} {start = start} {size = size} (h, k, j) =
+loop-start {s = s} {rtype = rtype} {start = start} {size = size} (h, k, j) =
     record {
       sized = h;
       inside = k;
@@ -88,39 +89,39 @@ loop-start {s = s} {kind = kind} {start = start} {size = size} (h, k, j) =
       few = omega arith;
       place = omega arith;
       long = refl;
-      rest = record { goes = λ b′ r p. rw (rdata-pieces true s kind start size) p };
+      rest = record { goes = λ b′ r p. rw (rdata-pieces true s rtype start size) p };
     }
 
-module _ {hex : Bool} {s : List ℕ} {kind start size : ℕ} {b₀ : List ℕ} {to i at : ℕ} {b : List ℕ} {next : ℕ}
-    {r : Stepped} (w : RdataLoop hex s kind start size b₀ to i at b next)
-    (e : r ≡ stepRead (stepAt (drop i (layoutIn kind size)) s start (start + size) at)) where
+module _ {hex : Bool} {s : List ℕ} {rtype start size : ℕ} {b₀ : List ℕ} {to i at : ℕ} {b : List ℕ} {next : ℕ}
+    {r : Stepped} (w : RdataLoop hex s rtype start size b₀ to i at b next)
+    (e : r ≡ stepRead (stepAt (drop i (layoutIn rtype size)) s start (start + size) at)) where
   -- the rest by its first step
-  by-step : {x : StepOf} → stepAt (drop i (layoutIn kind size)) s start (start + size) at ≡ x
-      → Continues (PutsForm hex (follow s at (piecesAt s kind start size (i + 1)) x)
-      (formThen s at (formAt s kind start size (i + 1)) x) b next) (PutsRdata hex s kind start size b₀ to)
+  by-step : {x : StepOf} → stepAt (drop i (layoutIn rtype size)) s start (start + size) at ≡ x
+      → Continues (PutsForm hex (follow s at (piecesAt s rtype start size (i + 1)) x)
+      (formThen s at (formAt s rtype start size (i + 1)) x) b next) (PutsRdata hex s rtype start size b₀ to)
   by-step q =
       rw (
-        ← pieces-next s (layoutIn kind size) start (start + size) at i q,
-        ← form-next s (layoutIn kind size) start (start + size) at i q,
+        ← pieces-next s (layoutIn rtype size) start (start + size) at i q,
+        ← form-next s (layoutIn rtype size) start (start + size) at i q,
       ) (w .rest)
 
   -- the end
   pub loop-done : r .step ≡ step.Done
-      → PutsRdata hex s kind start size b₀ to b (To next)
+      → PutsRdata hex s rtype start size b₀ to b (To next)
   loop-done q = by-step (tells _ e q) .goes b (To next) (puts-none refl)
 
   -- a fault
   pub loop-misfit : {f : FaultRead} → r .step ≡ step.Misfit f
-      → PutsRdata hex s kind start size b₀ to b (Misfit f)
+      → PutsRdata hex s rtype start size b₀ to b (Misfit f)
   loop-misfit {f} q = let (fault, x, y) = tells _ e q in by-step x .goes b (Misfit f) (puts-none (ap Misfit y))
 
   -- a piece of the form xs, which ends at n, was written
   onward : (xs : List ℕ) {x : StepOf} {n n₁ : ℕ} {b₁ : List ℕ}
-      → stepAt (drop i (layoutIn kind size)) s start (start + size) at ≡ x
+      → stepAt (drop i (layoutIn rtype size)) s start (start + size) at ≡ x
       → ((later : ℕ → Laid) → follow s at later x ≡ before xs (later n))
       → ((later : ℕ → List ℕ) → formThen s at later x ≡ xs ++ later n)
       → (i < 3) × (n ≤ start + size) × (n₁ ≤ 2 ^ 37 + 510 * (i + 1) + 2 * n) → Wrote b next (digitsIf hex xs) b₁ n₁
-      → RdataLoop hex s kind start size b₀ to (i + 1) n b₁ n₁
+      → RdataLoop hex s rtype start size b₀ to (i + 1) n b₁ n₁
   onward xs q f g (h, k, j) p =
       record {
         sized = w .sized;
@@ -130,7 +131,7 @@ module _ {hex : Bool} {s : List ℕ} {kind start size : ℕ} {b₀ : List ℕ} {
         place = j;
         long = same-long p ∙ w .long;
         rest = continues-step (by-step q)
-            (rw (f (piecesAt s kind start size (i + 1)), g (formAt s kind start size (i + 1))) (puts-before _ xs p));
+            (rw (f (piecesAt s rtype start size (i + 1)), g (formAt s rtype start size (i + 1))) (puts-before _ xs p));
       }
 
   module _ (h : Steps (r .step) i at (start + size)) where
@@ -146,7 +147,7 @@ module _ {hex : Bool} {s : List ℕ} {kind start size : ℕ} {b₀ : List ℕ} {
       room-part = let k = part-within _ h q in let j = length-take (n - at) (drop at s) in omega arith
 
       pub loop-part : {b₁ : List ℕ} {n₁ : ℕ} → Wrote b next (digitsIf hex (part s at (n - at))) b₁ n₁
-          → n₁ ≤ next + 2 * length (part s at (n - at)) → RdataLoop hex s kind start size b₀ to (i + 1) n b₁ n₁
+          → n₁ ≤ next + 2 * length (part s at (n - at)) → RdataLoop hex s rtype start size b₀ to (i + 1) n b₁ n₁
       loop-part p z =
           let k = part-within _ h q in
           let j = length-take (n - at) (drop at s) in
@@ -159,7 +160,7 @@ module _ {hex : Bool} {s : List ℕ} {kind start size : ℕ} {b₀ : List ℕ} {
 
       pub loop-name : {b₁ : List ℕ} {n₁ : ℕ} → Wrote b next (digitsIf hex (take (long - 0) (r .octets))) b₁ n₁
           → n₁ ≤ next + 2 * length (take (long - 0) (r .octets))
-          → RdataLoop hex s kind start size b₀ to (i + 1) n b₁ n₁
+          → RdataLoop hex s rtype start size b₀ to (i + 1) n b₁ n₁
       loop-name {b₁} {n₁} p z =
           let (m, x, u, v) = tells _ e q in
           let k = name-within _ h q in

@@ -32,7 +32,7 @@ fn put_piece(hex: bool, octets: &[u8], out: &mut [u8], to: usize) -> usize
 // fault are written.
 pub fn put_rdata(
     s: &[u8],
-    kind: u32,
+    rtype: u32,
     start: usize,
     size: usize,
     hex: bool,
@@ -40,14 +40,14 @@ pub fn put_rdata(
     to: usize,
 ) -> RdataEnd
     requires { ⌜ (length (now s) ≤ 65535) × (start + size ≤ length (now s)) × (to < 2 ^ 37) ⌝ }
-    ensures { λ r. ⌜ PutsRdata hex (now (s .entry)) kind start size (now (out .entry)) to (now (out .exit)) r ⌝ }
+    ensures { λ r. ⌜ PutsRdata hex (now (s .entry)) rtype start size (now (out .entry)) to (now (out .exit)) r ⌝ }
     ensures { λ r. ⌜ Ends hex r to size ⌝ }
 {
     let mut i = 0;
     let mut at = start;
     let mut next = to;
     loop {
-        let stepped = rdata_step(s, kind, start, size, i, at);
+        let stepped = rdata_step(s, rtype, start, size, i, at);
         let step = stepped.step;
         let octets = stepped.octets;
         match step {

@@ -106,23 +106,23 @@ nth-layout (suc (suc (suc i))) l h =
     ∙ ap pieceRead (sym (drop-of-length-le l e))
 
 -- RDATA of no octets has no piece
-pub piece-none : (kind size i : ℕ) → size ≡ 0 → piece.End ≡ pieceRead (drop i (layoutIn kind size))
+pub piece-none : (rtype size i : ℕ) → size ≡ 0 → piece.End ≡ pieceRead (drop i (layoutIn rtype size))
 unfolding layoutIn
-piece-none kind size i e = rw e (ap pieceRead (sym (drop-of-length-le {A = Piece} [] {i = i} (omega arith))))
+piece-none rtype size i e = rw e (ap pieceRead (sym (drop-of-length-le {A = Piece} [] {i = i} (omega arith))))
 
 -- a listed TYPE
-pub piece-listed : (l : List Piece) (kind size i : ℕ) {r : PieceRead} → layoutOf kind ≡ some l → length l ≤ 3
+pub piece-listed : (l : List Piece) (rtype size i : ℕ) {r : PieceRead} → layoutOf rtype ≡ some l → length l ≤ 3
     → (size ≡ 0 → ⊥)
     → r ≡ nthOf i (pieceRead l) (pieceRead (drop 1 l)) (pieceRead (drop 2 l))
-    → r ≡ pieceRead (drop i (layoutIn kind size))
+    → r ≡ pieceRead (drop i (layoutIn rtype size))
 unfolding layoutIn
-piece-listed l kind size i q n h p = p ∙ nth-layout i l n ∙ rw (ne-eqb size 0 h, q)
+piece-listed l rtype size i q n h p = p ∙ nth-layout i l n ∙ rw (ne-eqb size 0 h, q)
 
 -- any other TYPE
-pub piece-free : (kind size i : ℕ) {r : PieceRead} → layoutOf kind ≡ none → (size ≡ 0 → ⊥)
-    → r ≡ nthOf i (piece.Fixed size) piece.End piece.End → r ≡ pieceRead (drop i (layoutIn kind size))
+pub piece-free : (rtype size i : ℕ) {r : PieceRead} → layoutOf rtype ≡ none → (size ≡ 0 → ⊥)
+    → r ≡ nthOf i (piece.Fixed size) piece.End piece.End → r ≡ pieceRead (drop i (layoutIn rtype size))
 unfolding layoutIn
-piece-free kind size i q h p = p ∙ nth-layout i (fixed size ∷ []) (omega arith) ∙ rw (ne-eqb size 0 h, q)
+piece-free rtype size i q h p = p ∙ nth-layout i (fixed size ∷ []) (omega arith) ∙ rw (ne-eqb size 0 h, q)
 
 -- no TYPE over 16 bits is listed
 pub layout-beyond : (type : ℕ) → 65536 ≤ type → layoutOf type ≡ none
@@ -141,13 +141,13 @@ piece-head [] = refl
 piece-head (fixed n ∷ l) = refl
 piece-head (name ∷ l) = refl
 
-pub headed : (l : List Piece) (p : PieceRead) → p ≡ pieceRead l → headPiece p l
-headed l p e = subst (λ (q : PieceRead). headPiece q l) (sym e) (piece-head l)
+pub layout-head : (l : List Piece) (p : PieceRead) → p ≡ pieceRead l → headPiece p l
+layout-head l p e = subst (λ (q : PieceRead). headPiece q l) (sym e) (piece-head l)
 
 module _ (s : List ℕ) (l : List Piece) (start end at : ℕ) {p : PieceRead} (e : p ≡ pieceRead l) where
   module _ (q : p ≡ piece.End) where
     empty : l ≡ []
-    empty = headed l piece.End (sym q ∙ e)
+    empty = layout-head l piece.End (sym q ∙ e)
 
     -- octets are left over
     pub step-surplus : {r : Stepped} → at < end → r ≡ plainly (step.Misfit (Surplus at))
@@ -162,7 +162,7 @@ module _ (s : List ℕ) (l : List Piece) (start end at : ℕ) {p : PieceRead} (e
 
   module _ {n : ℕ} (q : p ≡ piece.Fixed n) where
     octets : l ≡ fixed n ∷ drop 1 l
-    octets = headed l (piece.Fixed n) (sym q ∙ e)
+    octets = layout-head l (piece.Fixed n) (sym q ∙ e)
 
     -- RDATA ends before them
     pub step-short : {r : Stepped} → at ≤ end → end - at < n → r ≡ plainly (step.Misfit (Short start))
@@ -179,7 +179,7 @@ module _ (s : List ℕ) (l : List Piece) (start end at : ℕ) {p : PieceRead} (e
 
   module _ (q : p ≡ piece.Name) {r : NameRead} (k : r ≡ nameRead (nameAt s (rdata start end) at)) where
     naming : l ≡ name ∷ drop 1 l
-    naming = headed l piece.Name (sym q ∙ e)
+    naming = layout-head l piece.Name (sym q ∙ e)
 
     at-name : stepRead (stepAt l s start end at) ≡ stepRead (nameStep (nameAt s (rdata start end) at))
     unfolding stepAt
@@ -228,11 +228,11 @@ module _ (s : List ℕ) (start end at i : ℕ) (h : end ≤ length s) (k : at �
       go (faulty fault) p = tt
 
   -- a step of RDATA, with its bounds
-  pub with-steps : (kind size : ℕ) {r : Stepped} → r ≡ stepRead (stepAt (drop i (layoutIn kind size)) s start end at)
-      → (r ≡ stepRead (stepAt (drop i (layoutIn kind size)) s start end at)) × Steps (r .step) i at end
-  with-steps kind size e =
-      let l = layoutIn kind size in
-      let few = layout-small kind size .0 in
+  pub with-steps : (rtype size : ℕ) {r : Stepped} → r ≡ stepRead (stepAt (drop i (layoutIn rtype size)) s start end at)
+      → (r ≡ stepRead (stepAt (drop i (layoutIn rtype size)) s start end at)) × Steps (r .step) i at end
+  with-steps rtype size e =
+      let l = layoutIn rtype size in
+      let few = layout-small rtype size .0 in
       let long = length-drop i l in
       (e, subst (λ (x : Stepped). Steps (x .step) i at end) (sym e) (step-within (drop i l) (λ j. omega arith)))
 

@@ -16,7 +16,7 @@ use Rattle.names.specs.Name as name
 use Rattle.names.specs.Walk.{message, named, faulty, nameAt}
 use Rattle.names.specs.Walk as walk
 use Rattle.names.specs.NameLaws.{read-sized}
-use Rattle.names.specs.Answer.{faultOf, failed, nameRead}
+use Rattle.names.specs.Answer.{faultOf, faultRead, nameRead}
 use Rattle.names.specs.declared.Fault.{Fault}
 use Rattle.names.specs.declared.Fault.the-variants.{Cut}
 use Rattle.names.specs.declared.Named.{Named}
@@ -26,7 +26,7 @@ use Rattle.records.specs.Read.{firstCut, questionAt}
 use Rattle.records.specs.RecordLaws.{sum}
 use Rattle.records.specs.Parts.{begunAt, question-begun, recordHeadAt}
 use Rattle.records.specs.declared.Question.the-variants as question
-use Rattle.records.specs.declared.Head.{Head}
+use Rattle.records.specs.declared.RecordFields.{RecordFields}
 use Rattle.records.specs.declared.Record.{Record}
 use Rattle.records.specs.declared.Record.the-variants as record′
 use Rattle.records.specs.declared.RecordRead.{RecordRead}
@@ -57,7 +57,7 @@ module _ {r : NameRead} where
   -- a name was read
   pub name-read : (w : walk.Named) → r ≡ nameRead w → {next size : ℕ} → r .answer ≡ Read next size
       → (n : Name) × (w ≡ named n next) × (size ≡ length (nameForm n)) × (r .octets ≡ padded (nameForm n))
-  unfolding nameRead failed
+  unfolding nameRead faultRead
   name-read (named n i) e p =
       let q = sym (ap (λ (x : NameRead). x .answer) e) ∙ p in
       (n, ap (named n) (ap nextOf q), sym (ap sizeOf q), ap (λ (x : NameRead). x .octets) e)
@@ -66,7 +66,7 @@ module _ {r : NameRead} where
   -- a fault was met
   pub name-faulty : (w : walk.Named) → r ≡ nameRead w → {f : Fault} → r .answer ≡ Faulty f
       → (fault : name.Fault) × (w ≡ faulty fault) × (f ≡ faultOf fault) × (r .octets ≡ replicate 255 0)
-  unfolding nameRead failed
+  unfolding nameRead faultRead
   name-faulty (named n i) e p = absurd (faulty≢read (sym p ∙ ap (λ (x : NameRead). x .answer) e))
   name-faulty (faulty fault) e {f} p =
       let q = sym (ap (λ (x : NameRead). x .answer) e) ∙ p in
@@ -136,7 +136,7 @@ module _ (s widths : List ℕ) (at : ℕ) {r : NameRead} (e : r ≡ nameRead (na
     pub begun-cut : {place i width : ℕ} → FieldsLoop s widths next place i → i < length widths → width ≡ getD widths i 0
         → length s < place + width
         → record { answer = Faulty (Cut place); octets = replicate 255 0 } ≡ nameRead (begunAt s at widths)
-    unfolding begunAt nameRead failed
+    unfolding begunAt nameRead faultRead
     begun-cut f h k l =
         let (n, q, a, b) = name-read (nameAt s message at) e p in
         rw (q, fields-cut f h k l)
@@ -169,19 +169,19 @@ module _ (s : List ℕ) (at : ℕ) {r : NameRead} (e : r ≡ nameRead (begunAt s
           → record { answer = question.Faulty f; name = r .octets } ≡ questionRead (questionAt s at)
       go (fault, q, a, b) = rw (question-begun s at, q, a, b)
 
-  pub question-whole : {next size kind class : ℕ} → r .answer ≡ Read next size → kind ≡ be16At s next
+  pub question-whole : {next size rtype class : ℕ} → r .answer ≡ Read next size → rtype ≡ be16At s next
       → class ≡ be16At s (next + 2)
       → record {
-        answer = question.Read (record { size = size; kind = kind; class = class; next = next + 4 });
+        answer = question.Read (record { size = size; rtype = rtype; class = class; next = next + 4 });
         name = r .octets;
       } ≡ questionRead (questionAt s at)
   unfolding questionRead
-  question-whole {next} {size} {kind} {class} p k c = go (name-read (begunAt s at (2 ∷ 2 ∷ [])) e p)
+  question-whole {next} {size} {rtype} {class} p k c = go (name-read (begunAt s at (2 ∷ 2 ∷ [])) e p)
     where
       go : (x : (n : Name) × (begunAt s at (2 ∷ 2 ∷ []) ≡ named n next) × (size ≡ length (nameForm n))
           × (r .octets ≡ padded (nameForm n)))
           → record {
-            answer = question.Read (record { size = size; kind = kind; class = class; next = next + 4 });
+            answer = question.Read (record { size = size; rtype = rtype; class = class; next = next + 4 });
             name = r .octets;
           } ≡ questionRead (questionAt s at)
       go (n, q, a, b) = rw (question-begun s at, q, a, b, k, c)
@@ -223,7 +223,7 @@ module _ (s : List ℕ) (at : ℕ) {r : NameRead} (e : r ≡ nameRead (begunAt s
         → record { answer = record′.Faulty f; name = replicate 255 0 } ≡ recordRead (recordHeadAt s at)
     head-cut q = ap (withName (r .octets)) (sym q) ∙ with-fields
 
-    pub head-whole : {h : Head} → x ≡ record′.Read h
+    pub head-whole : {h : RecordFields} → x ≡ record′.Read h
         → record { answer = record′.Read h; name = r .octets } ≡ recordRead (recordHeadAt s at)
     head-whole q = ap (withName (r .octets)) (sym q) ∙ with-fields
 
@@ -233,10 +233,10 @@ module _ (s : List ℕ) (next size : ℕ) {rdlength : ℕ} (l : rdlength ≡ be1
   unfolding fieldsRead
   rdata-cut h = rw (← l, lt-ltb (length s) (next + 10 + rdlength) h)
 
-  pub rdata-whole : {kind class ttl : ℕ} → next + 10 + rdlength ≤ length s → kind ≡ be16At s next
+  pub rdata-whole : {rtype class ttl : ℕ} → next + 10 + rdlength ≤ length s → rtype ≡ be16At s next
       → class ≡ be16At s (next + 2) → ttl ≡ be32At s (next + 4)
       → record′.Read
-      (record { size = size; kind = kind; class = class; ttl = ttl; rdata = next + 10; rdlength = rdlength })
+      (record { size = size; rtype = rtype; class = class; ttl = ttl; rdata = next + 10; rdlength = rdlength })
       ≡ fieldsRead s next size
   unfolding fieldsRead
   rdata-whole h k c t = rw (k, c, t, ← l, le-ltb (length s) (next + 10 + rdlength) h)
@@ -254,7 +254,7 @@ module _ {w : Named} {next size : ℕ} (e : w ≡ Read next size) (at end : ℕ)
   owner-size = begins w (2 ∷ 2 ∷ 4 ∷ 2 ∷ []) h e .2
 
   -- RDATA starts 11 octets or more after the owner's start
-  pub rdata-after : {x : Record} {a : Head} → x ≡ record′.Read a → Heads x (next - 1) end → at + 11 ≤ a .rdata
+  pub rdata-after : {x : Record} {a : RecordFields} → x ≡ record′.Read a → Heads x (next - 1) end → at + 11 ≤ a .rdata
   rdata-after q k =
       let b = begins w (2 ∷ 2 ∷ 4 ∷ 2 ∷ []) h e in
       omega (arith, subst (λ (y : Record). Heads y (next - 1) end) q k)

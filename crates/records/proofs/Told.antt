@@ -11,12 +11,13 @@ use Rattle.names.specs.Answer.{faultOf}
 use Rattle.records.specs.Layout.{Piece, pieces}
 use Rattle.records.specs.Message.{Question}
 use Rattle.records.specs.Read.{Entry, entry, bad, questionAt}
-use Rattle.records.specs.Parts.{HeadOf, recordHeadAt, StepOf, stepAt, follow, pieces-step, part-to, name-to, done}
+use Rattle.records.specs.Parts.{RecordHead, recordHeadAt, StepOf, stepAt, follow, pieces-step, part-to, name-to}
+use Rattle.records.specs.Parts.{done}
 use Rattle.records.specs.Parts.{stops}
-use Rattle.records.specs.Answer.{padded, askedOf, questionRead, Asks, headRead, recordRead, Heads, plainly}
+use Rattle.records.specs.Answer.{padded, questionFields, questionRead, Asks, headRead, recordRead, Heads, plainly}
 use Rattle.records.specs.Answer.{stepRead}
-use Rattle.records.specs.declared.Asked.{Asked}
-use Rattle.records.specs.declared.Head.{Head}
+use Rattle.records.specs.declared.QuestionFields.{QuestionFields}
+use Rattle.records.specs.declared.RecordFields.{RecordFields}
 use Rattle.records.specs.declared.Question.{Question as QuestionAnswer}
 use Rattle.records.specs.declared.Question.the-variants as question
 use Rattle.records.specs.declared.QuestionRead.{QuestionRead}
@@ -39,7 +40,7 @@ form-room l o size e p = let q : length o ≡ length l + length (replicate {A = 
 
 -- ---- questions
 abbrev Asking : QuestionAnswer → List ℕ → Entry Question → Type 0
-Asking (question.Read a) l e = (q : Question) × (next : ℕ) × (e ≡ entry q next) × (a ≡ askedOf q next)
+Asking (question.Read a) l e = (q : Question) × (next : ℕ) × (e ≡ entry q next) × (a ≡ questionFields q next)
     × (l ≡ padded (nameForm (q .name)))
 Asking (question.Faulty f) l e = (fault : Fault) × (e ≡ bad fault) × (f ≡ faultOf fault)
 
@@ -48,26 +49,26 @@ unfolding questionRead
 asking (entry q next) = (q, next, refl, refl, refl)
 asking (bad fault) = (fault, refl, refl)
 
-pub asked : (e : Entry Question) {r : QuestionRead} {y : QuestionAnswer} → r ≡ questionRead e → r .answer ≡ y
+pub question-told : (e : Entry Question) {r : QuestionRead} {y : QuestionAnswer} → r ≡ questionRead e → r .answer ≡ y
     → Asking y (r .name) e
-asked e {r} {y} p q =
+question-told e {r} {y} p q =
     subst (λ (z : QuestionAnswer). Asking z (r .name) e) q
     (subst (λ (z : QuestionRead). Asking (z .answer) (z .name) e) (sym p) (asking e))
 
 -- ---- records
-abbrev Heading : RecordAnswer → List ℕ → Entry HeadOf → Type 0
-Heading (record′.Read h) l e = (k : HeadOf) × (next : ℕ) × (e ≡ entry k next) × (h ≡ headRead k)
+abbrev Heading : RecordAnswer → List ℕ → Entry RecordHead → Type 0
+Heading (record′.Read h) l e = (k : RecordHead) × (next : ℕ) × (e ≡ entry k next) × (h ≡ headRead k)
     × (l ≡ padded (nameForm (k .name)))
 Heading (record′.Faulty f) l e = (fault : Fault) × (e ≡ bad fault) × (f ≡ faultOf fault)
 
-heading : (e : Entry HeadOf) → Heading (recordRead e .answer) (recordRead e .name) e
+heading : (e : Entry RecordHead) → Heading (recordRead e .answer) (recordRead e .name) e
 unfolding recordRead
 heading (entry k next) = (k, next, refl, refl, refl)
 heading (bad fault) = (fault, refl, refl)
 
-pub headed : (e : Entry HeadOf) {r : RecordRead} {y : RecordAnswer} → r ≡ recordRead e → r .answer ≡ y
+pub head-told : (e : Entry RecordHead) {r : RecordRead} {y : RecordAnswer} → r ≡ recordRead e → r .answer ≡ y
     → Heading y (r .name) e
-headed e {r} {y} p q =
+head-told e {r} {y} p q =
     subst (λ (z : RecordAnswer). Heading z (r .name) e) q
     (subst (λ (z : RecordRead). Heading (z .answer) (z .name) e) (sym p) (heading e))
 
@@ -109,14 +110,14 @@ pieces-next s l start end at i q =
 part-short : (size : ℕ) (l : List ℕ) → size ≤ 255 → length (take (size - 0) l) ≤ 255
 part-short size l h = omega (arith, length-take (size - 0) l)
 
-module _ (x : QuestionAnswer) (at end : ℕ) {a : Asked} (h : Asks x at end) (e : x ≡ question.Read a) where
+module _ (x : QuestionAnswer) (at end : ℕ) {a : QuestionFields} (h : Asks x at end) (e : x ≡ question.Read a) where
   asks : Asks (question.Read a) at end
   asks = subst (λ (y : QuestionAnswer). Asks y at end) e h
 
   pub asks-name : (l : List ℕ) → length (take (a .size - 0) l) ≤ 255
   asks-name l = part-short (a .size) l (asks .0)
 
-  pub asks-kind : a .kind < 65536
+  pub asks-kind : a .rtype < 65536
   asks-kind = asks .1
 
   pub asks-class : a .class < 65536
@@ -128,7 +129,7 @@ module _ (x : QuestionAnswer) (at end : ℕ) {a : Asked} (h : Asks x at end) (e 
   pub asks-inside : a .next ≤ end
   asks-inside = asks .4
 
-module _ (x : RecordAnswer) (at end : ℕ) {a : Head} (h : Heads x at end) (e : x ≡ record′.Read a) where
+module _ (x : RecordAnswer) (at end : ℕ) {a : RecordFields} (h : Heads x at end) (e : x ≡ record′.Read a) where
   heads : Heads (record′.Read a) at end
   heads = subst (λ (y : RecordAnswer). Heads y at end) e h
 
@@ -138,7 +139,7 @@ module _ (x : RecordAnswer) (at end : ℕ) {a : Head} (h : Heads x at end) (e : 
   pub heads-size : a .size ≤ 255
   heads-size = heads .0
 
-  pub heads-kind : a .kind < 65536
+  pub heads-kind : a .rtype < 65536
   heads-kind = heads .1
 
   pub heads-class : a .class < 65536
@@ -154,14 +155,14 @@ module _ (x : RecordAnswer) (at end : ℕ) {a : Head} (h : Heads x at end) (e : 
   heads-short = heads .5
 
 -- the arrays have room for the names
-pub question-room : (s : List ℕ) (at : ℕ) {r : QuestionRead} {a : Asked} → r ≡ questionRead (questionAt s at)
+pub question-room : (s : List ℕ) (at : ℕ) {r : QuestionRead} {a : QuestionFields} → r ≡ questionRead (questionAt s at)
     → r .answer ≡ question.Read a → a .size ≤ length (r .name)
 question-room s at {r} {a} e p =
-    let (q, next, u, v, l) = asked (questionAt s at) e p in
-    form-room (nameForm (q .name)) (r .name) (a .size) (ap (λ (c : Asked). c .size) v) l
+    let (q, next, u, v, l) = question-told (questionAt s at) e p in
+    form-room (nameForm (q .name)) (r .name) (a .size) (ap (λ (c : QuestionFields). c .size) v) l
 
-pub record-room : (s : List ℕ) (at : ℕ) {r : RecordRead} {a : Head} → r ≡ recordRead (recordHeadAt s at)
+pub record-room : (s : List ℕ) (at : ℕ) {r : RecordRead} {a : RecordFields} → r ≡ recordRead (recordHeadAt s at)
     → r .answer ≡ record′.Read a → a .size ≤ length (r .name)
 record-room s at {r} {a} e p =
-    let (k, next, u, v, l) = headed (recordHeadAt s at) e p in
-    form-room (nameForm (k .name)) (r .name) (a .size) (ap (λ (c : Head). c .size) v) l
+    let (k, next, u, v, l) = head-told (recordHeadAt s at) e p in
+    form-room (nameForm (k .name)) (r .name) (a .size) (ap (λ (c : RecordFields). c .size) v) l

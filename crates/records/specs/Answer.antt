@@ -16,9 +16,9 @@ use Rattle.records.specs.Layout as layout
 use Rattle.records.specs.Message as message
 use Rattle.records.specs.Read.{Entry, entry, bad}
 use Rattle.records.specs.RecordLaws.{sum}
-use Rattle.records.specs.Parts.{HeadOf, StepOf, part-to, name-to, done, stops}
-use Rattle.records.specs.declared.Asked.{Asked}
-use Rattle.records.specs.declared.Head.{Head}
+use Rattle.records.specs.Parts.{RecordHead, StepOf, part-to, name-to, done, stops}
+use Rattle.records.specs.declared.QuestionFields.{QuestionFields}
+use Rattle.records.specs.declared.RecordFields.{RecordFields}
 use Rattle.records.specs.declared.Question.{Question}
 use Rattle.records.specs.declared.Question.the-variants as question
 use Rattle.records.specs.declared.QuestionRead.{QuestionRead}
@@ -41,30 +41,31 @@ Begins (named.Read next size) at widths end = (at < next) × (next + sum widths 
 Begins (named.Faulty fault) at widths end = Unit {0}
 
 -- ---- questions
-abbrev pub askedOf : message.Question → ℕ → Asked
-askedOf q next = record { size = length (nameForm (q .name)); kind = q .type; class = q .class; next = next }
+abbrev pub questionFields : message.Question → ℕ → QuestionFields
+questionFields q next = record { size = length (nameForm (q .name)); rtype = q .type; class = q .class; next = next }
 
 unfoldable pub questionRead : Entry message.Question → QuestionRead
-questionRead (entry q next) = record { answer = question.Read (askedOf q next); name = padded (nameForm (q .name)) }
+questionRead (entry q next) =
+    record { answer = question.Read (questionFields q next); name = padded (nameForm (q .name)) }
 questionRead (bad fault) = record { answer = question.Faulty (faultOf fault); name = replicate 255 0 }
 
 abbrev pub Asks : Question → ℕ → ℕ → Type 0
-Asks (question.Read a) at end = (a .size ≤ 255) × (a .kind < 65536) × (a .class < 65536) × (at + 5 ≤ a .next)
+Asks (question.Read a) at end = (a .size ≤ 255) × (a .rtype < 65536) × (a .class < 65536) × (at + 5 ≤ a .next)
     × (a .next ≤ end)
 Asks (question.Faulty fault) at end = Unit {0}
 
 -- ---- records without what is inside RDATA
-abbrev pub headRead : HeadOf → Head
+abbrev pub headRead : RecordHead → RecordFields
 headRead h = record {
   size = length (nameForm (h .name));
-  kind = h .type;
+  rtype = h .type;
   class = h .class;
   ttl = h .ttl;
   rdata = h .rdata;
   rdlength = h .rdlength;
 }
 
-unfoldable pub recordRead : Entry HeadOf → RecordRead
+unfoldable pub recordRead : Entry RecordHead → RecordRead
 recordRead (entry h next) = record { answer = record′.Read (headRead h); name = padded (nameForm (h .name)) }
 recordRead (bad fault) = record { answer = record′.Faulty (faultOf fault); name = replicate 255 0 }
 
@@ -75,7 +76,7 @@ fieldsRead s next size =
     (record′.Read
     (record {
       size = size;
-      kind = be16At s next;
+      rtype = be16At s next;
       class = be16At s (next + 2);
       ttl = be32At s (next + 4);
       rdata = next + 10;
@@ -84,7 +85,7 @@ fieldsRead s next size =
 
 abbrev pub Heads : Record → ℕ → ℕ → Type 0
 Heads (record′.Read h) at end =
-    (h .size ≤ 255) × (h .kind < 65536) × (h .class < 65536) × (at + 11 ≤ h .rdata) × (h .rdata + h .rdlength ≤ end)
+    (h .size ≤ 255) × (h .rtype < 65536) × (h .class < 65536) × (at + 11 ≤ h .rdata) × (h .rdata + h .rdlength ≤ end)
     × (h .rdlength < 65536)
 Heads (record′.Faulty fault) at end = Unit {0}
 

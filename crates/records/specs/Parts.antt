@@ -51,7 +51,7 @@ question-begun s at = begun-fields s (2 ∷ 2 ∷ []) _ (nameAt s message at)
 
 -- ---- a record without what is inside RDATA
 -- `rdata` is the offset of RDATA, of RDLENGTH octets
-pub record HeadOf : Type 0 where
+pub record RecordHead : Type 0 where
   pub name : Name
   pub type : ℕ
   pub class : ℕ
@@ -60,11 +60,11 @@ pub record HeadOf : Type 0 where
   pub rdlength : ℕ
 
 -- the record of a head, with RDATA
-abbrev pub withRdata : HeadOf → List ℕ → Record
+abbrev pub withRdata : RecordHead → List ℕ → Record
 withRdata h d = record { name = h .name; type = h .type; class = h .class; ttl = h .ttl; rdata = d }
 
 -- TYPE, CLASS, TTL, RDLENGTH after the name; RDATA must end within the message
-abbrev pub headed : List ℕ → Name → ℕ → Entry HeadOf
+abbrev pub headed : List ℕ → Name → ℕ → Entry RecordHead
 headed s n next =
     let size = be16At s (next + 8) in
     cond (ltb (length s) (next + 10 + size)) (past-end (next + 10))
@@ -77,11 +77,11 @@ headed s n next =
       rdlength = size;
     }) (next + 10 + size))
 
-unfoldable pub recordHeadAt : List ℕ → ℕ → Entry HeadOf
+unfoldable pub recordHeadAt : List ℕ → ℕ → Entry RecordHead
 recordHeadAt s at = with-name (begunAt s at (2 ∷ 2 ∷ 4 ∷ 2 ∷ [])) (headed s)
 
 -- a record's head, then its RDATA
-abbrev pub with-rdata : List ℕ → Entry HeadOf → Entry Record
+abbrev pub with-rdata : List ℕ → Entry RecordHead → Entry Record
 with-rdata s (entry h next) = filled (withRdata h) next (rdataAt true s (h .type) (h .rdata) (h .rdlength))
 with-rdata s (bad fault) = bad fault
 
@@ -154,15 +154,15 @@ record-head s at = begun-fields s (2 ∷ 2 ∷ 4 ∷ 2 ∷ []) read (nameAt s me
     go (faulty fault) = refl
 
 -- a record ends after its RDATA
-pub head-next : (s : List ℕ) (at : ℕ) (h : HeadOf) (next : ℕ) → recordHeadAt s at ≡ entry h next
+pub head-next : (s : List ℕ) (at : ℕ) (h : RecordHead) (next : ℕ) → recordHeadAt s at ≡ entry h next
     → next ≡ h .rdata + h .rdlength
 unfolding recordHeadAt
 head-next s at h next e = go (begunAt s at (2 ∷ 2 ∷ 4 ∷ 2 ∷ [])) e
   where
-    room : (b : Bool) (i : ℕ) (k : HeadOf) → cond b (past-end i) (entry k (k .rdata + k .rdlength)) ≡ entry h next
+    room : (b : Bool) (i : ℕ) (k : RecordHead) → cond b (past-end i) (entry k (k .rdata + k .rdlength)) ≡ entry h next
         → next ≡ h .rdata + h .rdlength
     room true i k q = absurd (bad≢entry q)
-    room false i k q = sym (entry-next q) ∙ ap (λ (x : HeadOf). x .rdata + x .rdlength) (entry-value q)
+    room false i k q = sym (entry-next q) ∙ ap (λ (x : RecordHead). x .rdata + x .rdlength) (entry-value q)
 
     go : (w : Named) → with-name w (headed s) ≡ entry h next → next ≡ h .rdata + h .rdlength
     go (named n i) q = room (ltb (length s) (i + 10 + be16At s (i + 8))) (i + 10) _ q

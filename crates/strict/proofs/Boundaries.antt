@@ -4,7 +4,7 @@ use mathlib.Core.List.{List, [], _∷_, _++_, map}
 use Prim.Native.Nat.{ℕ}
 use Rattle.octets.specs.Decimal.{natural, positive, decimal}
 use Rattle.octets.specs.Hexadecimal.{hex, hexPairs, unhex, hexText}
-use Rattle.octets.specs.Codec.{tried}
+use Rattle.octets.specs.Codec.{tableParser}
 use Rattle.octets.specs.Lists.{ascii, lookup, rowText, key?, each}
 use Rattle.octets.specs.Answer.{Output, output, refused}
 use Rattle.names.specs.Name.{name?, label?, nameForm}
@@ -16,7 +16,7 @@ use Rattle.edns.specs.Edns.{rcodes, edns?, option?, rising?, divided, optionsOf
 use Rattle.edns.specs.Edns.{small-option?, flags}
 use Rattle.json.specs.Sample.{textWith}
 use Rattle.spelling.specs.Spelling.{plain?, printable?, spelled, stringOctet}
-use Rattle.options.specs.Options.{members, rows, formOf, shape, words}
+use Rattle.options.specs.Options.{members, rows, syntaxOf, shape, words}
 use Rattle.json.specs.View.{view?, additionals?, additional?, settled?, opt-entry?, messageOf, recordOf}
 use Rattle.json.specs.Limits.{within?, small-rdata?, small-options?}
 use Rattle.strict.specs.Members.{value?, member?, optionOf, octetsOf}
@@ -612,5 +612,5 @@ readings =
 -- every row, computed
 pub readings-hold : map (λ (r : Reading). outcome (reading (r .text))) readings ≡ map
     (λ (r : Reading). r .gives) readings
-unfolding readings parse document head natural positive questionCodec recordCodec name rootOrLabels label spelledOctet spelledAt escape ddd leads? coded-from? coded? plain? signedNumber hex hexPairs unhex string stringChars stringChar stringAt bare? printable? quoted itemCodec ednsElement optionMembers member knownMember otherMember value expiryNumber tried members rows flags rcodes formOf lookup rowText decimal spelled stringOctet hexText reading meaning documentView itemRecord itemEdns itemAdditional unsigned agrees? counts? ttl? ednsItem? item? view? additionals? additional? settled? opt-entry? edns? option? header? question? record? name? label? nameForm rdataFits? walk nameFrom layouts layoutOf pieces rdataAt rising? divided optionsOf ednsOf key? shape words value? member? optionOf octetsOf within? small-rdata? small-option? small-options? messageOf recordOf ednsRecord optionForm each form headerForm questionForm recordForm
+unfolding readings parse document head natural positive questionCodec recordCodec name rootOrLabels label spelledOctet spelledAt escape ddd leads? coded-from? coded? plain? signedNumber hex hexPairs unhex string stringChars stringChar stringAt bare? printable? quoted itemCodec ednsElement optionMembers member knownMember otherMember value expiryNumber tableParser members rows flags rcodes syntaxOf lookup rowText decimal spelled stringOctet hexText reading meaning documentView itemRecord itemEdns itemAdditional unsigned agrees? counts? ttl? ednsItem? item? view? additionals? additional? settled? opt-entry? edns? option? header? question? record? name? label? nameForm rdataFits? walk nameFrom layouts layoutOf pieces rdataAt rising? divided optionsOf ednsOf key? shape words value? member? optionOf octetsOf within? small-rdata? small-option? small-options? messageOf recordOf ednsRecord optionForm each form headerForm questionForm recordForm
 readings-hold = refl

@@ -17,8 +17,9 @@ use Rattle.octets.specs.Fields.{be16, be32, be16At, be32At, two-back, four-at, 
 use Rattle.octets.specs.Fields.{fourAt-long, two-same}
 use Rattle.names.specs.NameLaws.{drop-octets, take-octets}
 use Rattle.spelling.specs.Spelling.{printable?}
-use Rattle.options.specs.Options.{Form, hexObject, octetList, expiry, hexList, word, padding, wordList, extendedError}
-use Rattle.options.specs.Options.{unlisted, Value, Row, rows, members, row-form, formOf, zero?, words, present, shape}
+use Rattle.options.specs.Options.{Syntax, hexObject, octetList, expiry, hexList, word, padding, wordList, extendedError}
+use Rattle.options.specs.Options.{unlisted, Value, Row, rows, members, row-syntax, syntaxOf, zero?, words, present}
+use Rattle.options.specs.Options.{shape}
 use Rattle.options.specs.Options.{EdnsOption, Member, known, other, chosen, memberOf}
 use Rattle.strict.specs.Members.{octetsOf, value?, optionOf, member?}
 use Rattle.strict.specs.Grammar.{Number, StringIn, Maybe, ValueIn, MemberIn}
@@ -130,7 +131,7 @@ module _ {A : Type 0} (P : A → Type 0) where
   either-some false c x y v f g e = one-some c y v g e
 
 -- a value in the grammar that can be an option's, and these are its octets
-abbrev pub Stands : (form : Form) → List ℕ → Value form → Type 0
+abbrev pub Stands : (form : Syntax) → List ℕ → Value form → Type 0
 Stands form l v = T (value? form v) × ValueIn form v × (octetsOf form v ≡ l)
 
 -- a list of length 0
@@ -180,7 +181,7 @@ error-stands l o h =
     go (x ∷ t) p e = (both (u16? (be16At l 0)) true range tt, (tt, all→All printable? (x ∷ t) p), e)
 
 -- a value that octets have the shape of is valid, and they are its octets
-pub shape-value : (form : Form) (l : List ℕ) (v : Value form) → Octets l → shape form l ≡ some v → Stands form l v
+pub shape-value : (form : Syntax) (l : List ℕ) (v : Value form) → Octets l → shape form l ≡ some v → Stands form l v
 unfolding shape value? octetsOf each
 shape-value hexObject l v o e = subst (Stands hexObject l) (Option·some-injective l v e) (tt, o, refl)
 shape-value octetList l v o e =
@@ -205,7 +206,7 @@ shape-value unlisted l v o e = absurd (Option·none-ne-some v e)
 
 -- ---- from a value to octets
 -- octets that have the shape of a value
-abbrev pub ShapedBy : (form : Form) → Value form → Type 0
+abbrev pub ShapedBy : (form : Syntax) → Value form → Type 0
 ShapedBy form v = (shape form (octetsOf form v) ≡ some v) × Octets (octetsOf form v)
 
 -- expiry: nothing, or four octets
@@ -278,7 +279,7 @@ error-shaped n (some (x ∷ l)) h o =
     )
 
 -- a valid value's octets have its shape
-pub value-shape : (form : Form) (v : Value form) → T (value? form v) → ValueIn form v → ShapedBy form v
+pub value-shape : (form : Syntax) (v : Value form) → T (value? form v) → ValueIn form v → ShapedBy form v
 unfolding shape value? octetsOf
 value-shape hexObject v h i = (refl, i)
 value-shape octetList v h i = (refl, octets-in v h)
@@ -307,7 +308,7 @@ key-holds p (row ∷ rows) n h k =
     go false e k f = f k
 
 -- the form of a row
-abbrev pub Listed : Form → Type 0
+abbrev pub Listed : Syntax → Type 0
 Listed hexObject = Unit {0}
 Listed octetList = Unit {0}
 Listed expiry = Unit {0}
@@ -319,7 +320,7 @@ Listed extendedError = Unit {0}
 Listed unlisted = ⊥
 
 -- a code with a row in a table is a key of the table of members
-rows-key : (table : List (ℕ × Row)) (code : ℕ) → Listed (row-form (lookup code table))
+rows-key : (table : List (ℕ × Row)) (code : ℕ) → Listed (row-syntax (lookup code table))
     → T (key? code (map (λ (row : ℕ × Row). (row .0, row .1 .member)) table))
 unfolding lookup key?
 rows-key [] code h = absurd h
@@ -328,15 +329,15 @@ rows-key (row ∷ table) code h = go (eqb (row .0) code) h (λ h. rows-key table
     rest : List (ℕ × String)
     rest = map (λ (row : ℕ × Row). (row .0, row .1 .member)) table
 
-    go : (b : Bool) → Listed (row-form (cond b (some (row .1)) (lookup code table)))
-        → (Listed (row-form (lookup code table)) → T (key? code rest))
+    go : (b : Bool) → Listed (row-syntax (cond b (some (row .1)) (lookup code table)))
+        → (Listed (row-syntax (lookup code table)) → T (key? code rest))
         → T (cond b true (key? code rest))
     go true h f = tt
     go false h f = f h
 
 -- a code with a row is a key of the members
-pub listed-key : (code : ℕ) → Listed (formOf code) → T (key? code members)
-unfolding formOf members
+pub listed-key : (code : ℕ) → Listed (syntaxOf code) → T (key? code members)
+unfolding syntaxOf members
 listed-key code h = rows-key rows code h
 
 -- a key of the members is a number of 16 bits
@@ -345,7 +346,7 @@ unfolding members rows
 key-word code k = ltb→lt code 65536 (key-holds u16? members code tt k)
 
 -- only a form of a row has a value
-shape-listed : (form : Form) (l : List ℕ) (v : Value form) → shape form l ≡ some v → Listed form
+shape-listed : (form : Syntax) (l : List ℕ) (v : Value form) → shape form l ≡ some v → Listed form
 unfolding shape
 shape-listed hexObject l v e = tt
 shape-listed octetList l v e = tt
@@ -362,24 +363,24 @@ shape-listed unlisted l v e = Option·none-ne-some v e
 pub member-option : (o : EdnsOption) → Octets (o .value) → o .code < 65536
     → (optionOf (memberOf o) ≡ o) × T (member? (memberOf o)) × MemberIn (memberOf o)
 unfolding memberOf optionOf member?
-member-option o i h = go (shape (formOf (o .code)) (o .value)) refl
+member-option o i h = go (shape (syntaxOf (o .code)) (o .value)) refl
   where
-    chosen-of : Option (Value (formOf (o .code))) → Member
+    chosen-of : Option (Value (syntaxOf (o .code))) → Member
     chosen-of = chosen (o .code) (o .value)
 
-    go : (x : Option (Value (formOf (o .code)))) → shape (formOf (o .code)) (o .value) ≡ x
+    go : (x : Option (Value (syntaxOf (o .code)))) → shape (syntaxOf (o .code)) (o .value) ≡ x
         → (optionOf (chosen-of x) ≡ o) × T (member? (chosen-of x)) × MemberIn (chosen-of x)
     go none e = (
       refl,
-      both (u16? (o .code)) (not (present? (shape (formOf (o .code)) (o .value))))
+      both (u16? (o .code)) (not (present? (shape (syntaxOf (o .code)) (o .value))))
           (lt→ltb (o .code) 65536 h) (rw e tt),
       (tt, i),
     )
     go (some v) e =
-        let s = shape-value (formOf (o .code)) (o .value) v i e in (
+        let s = shape-value (syntaxOf (o .code)) (o .value) v i e in (
           λ i. record { code = o .code; value = s .2 i },
           s .0,
-          (listed-key (o .code) (shape-listed (formOf (o .code)) (o .value) v e), s .1),
+          (listed-key (o .code) (shape-listed (syntaxOf (o .code)) (o .value) v e), s .1),
         )
 
 -- an answer that is absent
@@ -391,14 +392,14 @@ absent-none (some a) h = absurd h
 pub option-member : (m : Member) → MemberIn m → T (member? m) → (memberOf (optionOf m) ≡ m) × T (option? (optionOf m))
 unfolding memberOf optionOf member? option?
 option-member (known code v) i h =
-    let w = value-shape (formOf code) v h (i .1) in (
-      ap (chosen code (octetsOf (formOf code) v)) (w .0),
-      both (u16? code) (all u8? (octetsOf (formOf code) v)) (lt→ltb code 65536 (key-word code (i .0)))
-          (octets-test (octetsOf (formOf code) v) (w .1)),
+    let w = value-shape (syntaxOf code) v h (i .1) in (
+      ap (chosen code (octetsOf (syntaxOf code) v)) (w .0),
+      both (u16? code) (all u8? (octetsOf (syntaxOf code) v)) (lt→ltb code 65536 (key-word code (i .0)))
+          (octets-test (octetsOf (syntaxOf code) v) (w .1)),
     )
 option-member (other code hex) i h = (
-  ap (chosen code hex) (absent-none (shape (formOf code) hex)
-      (and-right (u16? code) (not (present? (shape (formOf code) hex))) h)),
-  both (u16? code) (all u8? hex) (and-left (u16? code) (not (present? (shape (formOf code) hex))) h)
+  ap (chosen code hex) (absent-none (shape (syntaxOf code) hex)
+      (and-right (u16? code) (not (present? (shape (syntaxOf code) hex))) h)),
+  both (u16? code) (all u8? hex) (and-left (u16? code) (not (present? (shape (syntaxOf code) hex))) h)
       (octets-test hex (i .1)),
 )

@@ -10,7 +10,7 @@ use lib.Dec.{T, le→leb, leb→le}
 use lib.ListN.{length}
 use Rattle.octets.specs.Lists.{All, Octets}
 use Rattle.octets.specs.Bits.{is-true}
-use Rattle.octets.specs.Parsed.{Parsed, took, stuck}
+use Rattle.octets.specs.Parsed.{Parsed, parsed, failed}
 use Rattle.octets.specs.Codec.{Splits}
 use Rattle.octets.specs.Answer.{Output, output, refused}
 use Rattle.records.specs.Message.{Message, form, valid?}
@@ -26,14 +26,14 @@ use Rattle.strict.specs.Meaning.{meaning}
 use Rattle.strict.proofs.MeaningLaws.{view-in, meaning-document, document-meaning}
 use Rattle.strict.specs.Parser.{parse, parse-exact, parse-ends, document-unique, document-filled}
 use Rattle.strict.proofs.Visible.{visible}
-use Rattle.strict.specs.Reading.{meant, parsed, reading}
+use Rattle.strict.specs.Reading.{ofMeaning, ofParsed, reading}
 
 -- ---- a text and its meaning
 -- the text means the view: it is within the grammar, and its document has this meaning
 pub record Means (t : List ℕ) (v : View) : Type 0 where
   pub document : Document
-  pub spelled : parse t ≡ took document []
-  pub meant : meaning document ≡ some v
+  pub parses : parse t ≡ parsed document []
+  pub means : meaning document ≡ some v
 
 -- a text has a meaning exactly if a message, of any size, has this text
 pub means-text : (t : List ℕ) (v : View) → Means t v ↔ (T (view? v) × (viewText v ≡ t))
@@ -42,15 +42,15 @@ means-text t v = (forward, backward)
   where
     forward : Means t v → T (view? v) × (documentText (documentOf v) ≡ t)
     forward m =
-        let e = parse-exact t (m .document) .0 (m .spelled) in
-        let k = document-meaning (m .document) v (e .0) (m .meant) in
+        let e = parse-exact t (m .document) .0 (m .parses) in
+        let k = document-meaning (m .document) v (e .0) (m .means) in
         (k .1, ap documentText (k .0) ∙ e .1)
 
     backward : T (view? v) × (documentText (documentOf v) ≡ t) → Means t v
     backward h = record {
       document = documentOf v;
-      spelled = parse-exact t (documentOf v) .1 (view-in v (h .0), h .1);
-      meant = meaning-document v (h .0);
+      parses = parse-exact t (documentOf v) .1 (view-in v (h .0), h .1);
+      means = meaning-document v (h .0);
     }
 
 -- the texts of views split in one way only
@@ -97,7 +97,7 @@ reads-text m h =
     let k = means-text (viewText v) v .1 (view-valid m (h .0), refl) in
     let e : messageOf v ≡ m = message-view m (h .0) in
     let w : T (within? v) = small-form v (rw e (le→leb (length (form m)) 65535 (h .1))) in
-    rw (k .spelled, k .meant, is-true (within? v) w, e)
+    rw (k .parses, k .means, is-true (within? v) w, e)
 
 -- what the reader took
 pub record Read (t o : List ℕ) : Type 0 where
@@ -139,14 +139,15 @@ read-only t o e = first (parse t) refl e
         }
     third v m false w e = refused≢output e
 
-    second : (d : Document) → parse t ≡ took d [] → (v : Option View) → meaning d ≡ v → meant v ≡ output o → Read t o
+    second : (d : Document) → parse t ≡ parsed d [] → (v : Option View) → meaning d ≡ v → ofMeaning v ≡ output o
+        → Read t o
     second d p none q e = refused≢output e
-    second d p (some v) q e = third v (record { document = d; spelled = p; meant = q }) (within? v) refl e
+    second d p (some v) q e = third v (record { document = d; parses = p; means = q }) (within? v) refl e
 
-    first : (p : Parsed Document) → parse t ≡ p → parsed p ≡ output o → Read t o
-    first (took d []) q e = second d q (meaning d) refl e
-    first (took d (x ∷ r)) q e = absurd (nil≢cons (sym (parse-ends t d (x ∷ r) q)))
-    first (stuck w) q e = refused≢output e
+    first : (p : Parsed Document) → parse t ≡ p → ofParsed p ≡ output o → Read t o
+    first (parsed d []) q e = second d q (meaning d) refl e
+    first (parsed d (x ∷ r)) q e = absurd (nil≢cons (sym (parse-ends t d (x ∷ r) q)))
+    first (failed w) q e = refused≢output e
 
 -- ---- both round trips
 -- reading the text of an accepted message gives its uncompressed form

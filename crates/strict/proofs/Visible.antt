@@ -15,8 +15,8 @@ use Rattle.records.specs.Message.{Question}
 use Rattle.names.specs.Name.{Name}
 use Rattle.spelling.specs.Spelling.{plain?, three-digits, spelled, labelText, nameText, Signed, plus, minus, signedText}
 use Rattle.spelling.specs.Spelling.{printable?, stringOctet, stringText}
-use Rattle.options.specs.Options.{rows, members, Form, hexObject, octetList, expiry, hexList, word, padding, wordList}
-use Rattle.options.specs.Options.{extendedError, unlisted, formOf, Value}
+use Rattle.options.specs.Options.{rows, members, Syntax, hexObject, octetList, expiry, hexList, word, padding, wordList}
+use Rattle.options.specs.Options.{extendedError, unlisted, syntaxOf, Value}
 use Rattle.options.specs.Options.{paddingTail, errorTail, expiryText, valueText, Member, known, other}
 use Rattle.options.specs.Options.{memberText}
 use Rattle.edns.specs.Edns.{rcodes, EdnsItem, flags, ednsText}
@@ -144,7 +144,7 @@ expiry-seen : (n : Option ℕ) → Seen (expiryText n)
 expiry-seen none = quote "\"NONE\"" tt
 expiry-seen (some n) = decimal-seen n
 
-value-seen : (form : Form) (v : Value form) → ValueIn form v → Seen (valueText form v)
+value-seen : (form : Syntax) (v : Value form) → ValueIn form v → Seen (valueText form v)
 unfolding valueText
 value-seen hexObject v h = quote "{\"HEX\":" tt ⊕ hex-seen v h ⊕ quote "}" tt
 value-seen octetList v h = listed-seen decimal (λ n k. decimal-seen n) v h
@@ -159,7 +159,7 @@ value-seen unlisted v h = absurd h
 member-seen : (m : Member) → MemberIn m → Seen (memberText m)
 unfolding memberText members rows
 member-seen (known code v) h =
-    quote "\"" tt ⊕ textOf-seen members tt code ⊕ quote "\":" tt ⊕ value-seen (formOf code) v (h .1)
+    quote "\"" tt ⊕ textOf-seen members tt code ⊕ quote "\":" tt ⊕ value-seen (syntaxOf code) v (h .1)
 member-seen (other n l) h = quote "\"OPT" tt ⊕ decimal-seen n ⊕ quote "\":" tt ⊕ hex-seen l (h .1)
 
 -- ---- the document

@@ -8,8 +8,8 @@ use Rattle.octets.specs.Codec.{OneOrMore}
 use Rattle.names.specs.Name.{Name}
 use Rattle.records.specs.Message.{Question}
 use Rattle.spelling.specs.Spelling.{Signed, plus, minus, printable?}
-use Rattle.options.specs.Options.{Form, hexObject, octetList, expiry, hexList, word, padding, wordList, extendedError}
-use Rattle.options.specs.Options.{unlisted, Value, formOf, members, Member, known, other}
+use Rattle.options.specs.Options.{Syntax, hexObject, octetList, expiry, hexList, word, padding, wordList, extendedError}
+use Rattle.options.specs.Options.{unlisted, Value, syntaxOf, members, Member, known, other}
 use Rattle.edns.specs.Edns.{rcodes, EdnsItem, flags}
 use Rattle.json.specs.Document.{RecordItem, Item, ordinary, edns, Document}
 
@@ -44,7 +44,7 @@ Maybe P (some a) = P a
 abbrev pub StringIn : List ℕ → Type 0
 StringIn = All (λ x. T (printable? x))
 
-abbrev pub ValueIn : (form : Form) → Value form → Type 0
+abbrev pub ValueIn : (form : Syntax) → Value form → Type 0
 ValueIn hexObject hex = Octets hex
 ValueIn octetList l = All Number l
 ValueIn expiry n = Maybe Number n
@@ -56,7 +56,7 @@ ValueIn extendedError e = Number (e .0) × Maybe StringIn (e .1)
 ValueIn unlisted u = ⊥
 
 abbrev pub MemberIn : Member → Type 0
-MemberIn (known code v) = T (key? code members) × ValueIn (formOf code) v
+MemberIn (known code v) = T (key? code members) × ValueIn (syntaxOf code) v
 MemberIn (other n hex) = Number n × Octets hex
 
 abbrev pub EdnsIn : EdnsItem → Type 0

@@ -7,8 +7,8 @@ use lib.Dec.{leb, eqb}
 use lib.ListN.{length, replicate}
 use Rattle.octets.specs.Lists.{all, none?, u8?, u16?, u32?, each, present?}
 use Rattle.octets.specs.Fields.{be16, be32}
-use Rattle.options.specs.Options.{Form, hexObject, octetList, expiry, hexList, word, padding, wordList, extendedError}
-use Rattle.options.specs.Options.{unlisted, Value, formOf, zero?, shape, EdnsOption, Member, known, other}
+use Rattle.options.specs.Options.{Syntax, hexObject, octetList, expiry, hexList, word, padding, wordList, extendedError}
+use Rattle.options.specs.Options.{unlisted, Value, syntaxOf, zero?, shape, EdnsOption, Member, known, other}
 
 -- the octets of a value
 abbrev pub optional : Option (List ℕ) → List ℕ
@@ -23,7 +23,7 @@ abbrev pub paddingOctets : ℕ → Option (List ℕ) → List ℕ
 paddingOctets n none = replicate n 0
 paddingOctets n (some hex) = hex
 
-unfoldable pub octetsOf : (form : Form) → Value form → List ℕ
+unfoldable pub octetsOf : (form : Syntax) → Value form → List ℕ
 octetsOf hexObject hex = hex
 octetsOf octetList l = l
 octetsOf expiry n = expiryOctets n
@@ -54,7 +54,7 @@ abbrev pub text? : Option (List ℕ) → Bool
 text? none = true
 text? (some text) = not (none? text)
 
-unfoldable pub value? : (form : Form) → Value form → Bool
+unfoldable pub value? : (form : Syntax) → Value form → Bool
 value? hexObject hex = true
 value? octetList l = all u8? l
 value? expiry n = expiry? n
@@ -67,10 +67,10 @@ value? unlisted u = false
 
 -- the option of a member
 unfoldable pub optionOf : Member → EdnsOption
-optionOf (known code v) = record { code = code; value = octetsOf (formOf code) v }
+optionOf (known code v) = record { code = code; value = octetsOf (syntaxOf code) v }
 optionOf (other code hex) = record { code = code; value = hex }
 
 -- a member that is one of an option: `OPTn` only where the value doesn't have the shape of a row of that code
 unfoldable pub member? : Member → Bool
-member? (known code v) = value? (formOf code) v
-member? (other code hex) = u16? code && not (present? (shape (formOf code) hex))
+member? (known code v) = value? (syntaxOf code) v
+member? (other code hex) = u16? code && not (present? (shape (syntaxOf code) hex))

@@ -9,23 +9,23 @@ use Prim.Native.String.{String}
 use lib.Dec.{T, eqb}
 use Rattle.octets.specs.Lists.{ascii, all, All, ended, key?, rowText}
 use Rattle.octets.specs.Bits.{and-left, and-right}
-use Rattle.octets.specs.Parsed.{Parsed, took, stuck, missed}
-use Rattle.octets.specs.Codec.{Avoids, Any, Codec, fronts, unique, whole, whole-exact, whole-ends, joined, on, titled}
-use Rattle.octets.specs.Codec.{weaken, ranged, only, many, array, pair-by}
-use Rattle.octets.specs.Codec.{tried, apart?, apart-texts, distinct, table, _▷_, _◁_, _⊗_}
-use Rattle.octets.specs.Decimal.{decimal, NoDigit, natural, number, number-avoids, decimal-avoids, till}
+use Rattle.octets.specs.Parsed.{Parsed, parsed, failed, missed}
+use Rattle.octets.specs.Codec.{Avoids, Any, Codec, fronts, unique, whole, whole-exact, whole-ends, joined, iso, retext}
+use Rattle.octets.specs.Codec.{weaken, reindex, literalAs, many, array, pair-by}
+use Rattle.octets.specs.Codec.{tableParser, apart?, apart-texts, distinct, table, _▷_, _◁_, _⊗_}
+use Rattle.octets.specs.Decimal.{decimal, NoDigit, natural, number, number-avoids, decimal-avoids, numberThen}
 use Rattle.octets.specs.Hexadecimal.{hexText, unhex, hexPairs, hex, hexText-avoids}
 use Rattle.records.specs.Message.{Header}
 use Rattle.spelling.specs.Spelling.{plain?, stringText}
-use Rattle.options.specs.Options.{rows, members, Form, hexObject, octetList, expiry, hexList, word, padding, wordList}
-use Rattle.options.specs.Options.{extendedError, unlisted, formOf, Value}
+use Rattle.options.specs.Options.{rows, members, Syntax, hexObject, octetList, expiry, hexList, word, padding, wordList}
+use Rattle.options.specs.Options.{extendedError, unlisted, syntaxOf, Value}
 use Rattle.options.specs.Options.{paddingTail, errorTail, expiryText, valueText, Member, known, other, memberText}
 use Rattle.edns.specs.Edns.{rcodes, EdnsItem, flags, ednsText}
 use Rattle.json.specs.Document.{RecordItem, Item, ordinary, edns, Document, questionText, recordText, itemText}
 use Rattle.json.specs.Document.{headText, documentText}
 use Rattle.strict.specs.Grammar.{Number, QuestionIn, RecordIn, Maybe, ValueIn, MemberIn, EdnsIn, ItemIn}
 use Rattle.strict.specs.Grammar.{DocumentIn}
-use Rattle.strict.specs.Spelt.{made, kinds, coded?, coded-from?, leads?, ddd, escape, spelledAt, spelledOctet}
+use Rattle.strict.specs.Spelt.{fromSum, sum, coded?, coded-from?, leads?, ddd, escape, spelledAt, spelledOctet}
 use Rattle.strict.specs.Spelt.{label, rootOrLabels, name, signedNumber, string}
 
 -- ---- values of options
@@ -44,16 +44,16 @@ presence (some a) = inr a
 
 abbrev pub maybe : {A : Type 0} {I : A → Type 0} {f : A → List ℕ} {F : List ℕ → Type 0} (l : String) → Codec I f F
     → ((a : A) (r s : List ℕ) → I a → ascii l ++ r ≡ f a ++ s → ⊥) → Codec (Maybe I) (maybeText l f) F
-maybe {A} l p apart = kinds (λ u. none) some presence whole (λ u. refl) (λ a. refl)
-    (ranged (λ u. (λ h. refl, λ h. tt)) (free (only tt l))) p (λ u a r s h k e. apart a r s k e)
+maybe {A} l p apart = sum (λ u. none) some presence whole (λ u. refl) (λ a. refl)
+    (reindex (λ u. (λ h. refl, λ h. tt)) (free (literalAs tt l))) p (λ u a r s h k e. apart a r s k e)
   where
-    whole : (n : Option A) → made (λ u. none) some (presence n) ≡ n
+    whole : (n : Option A) → fromSum (λ u. none) some (presence n) ≡ n
     whole none = refl
     whole (some a) = refl
 
 -- `"NONE"` or a number
 unfoldable pub expiryNumber : Codec (Maybe Number) expiryText NoDigit
-expiryNumber = titled same (maybe "\"NONE\"" number (λ a r s h e. decimal-avoids 34 tt a s _ (sym e)))
+expiryNumber = retext same (maybe "\"NONE\"" number (λ a r s h e. decimal-avoids 34 tt a s _ (sym e)))
   where
     same : (n : Option ℕ) → expiryText n ≡ maybeText "\"NONE\"" decimal n
     same none = refl
@@ -69,7 +69,7 @@ abbrev pub numbered : {A : Type 0} {I : A → Type 0} {f : A → List ℕ} {g : 
     → Codec I f Any → Codec {A = ℕ × Option A} (λ u. Number (u .0) × Maybe I (u .1)) (λ u. decimal (u .0)
     ++ g (u .1)) Any
 numbered {A} {f} l same p =
-    joined number (titled same (maybe "}" ("," ▷ l ▷ p ◁ "}") (λ a r s h e. fronts tt e)))
+    joined number (retext same (maybe "}" ("," ▷ l ▷ p ◁ "}") (λ a r s h e. fronts tt e)))
     (λ n r h m. rw (same n) (fits n r))
   where
     fits : (n : Option A) (r : List ℕ) → NoDigit (endText l f n ++ r)
@@ -85,7 +85,7 @@ error-same none = refl
 error-same (some l) = refl
 
 -- a value of each form
-unfoldable pub value : (form : Form) → Codec (ValueIn form) (valueText form) NoDigit
+unfoldable pub value : (form : Syntax) → Codec (ValueIn form) (valueText form) NoDigit
 unfolding valueText
 value hexObject = free ("{\"HEX\":" ▷ hex ◁ "}")
 value octetList = free (array (number-avoids 93 tt) (λ r. tt) (λ r. tt) number)
@@ -95,7 +95,7 @@ value word = number
 value padding = free ("{\"LENGTH\":" ▷ numbered "\"HEX\":" padding-same hex)
 value wordList = free (array (number-avoids 93 tt) (λ r. tt) (λ r. tt) number)
 value extendedError = free ("{\"CODE\":" ▷ numbered "\"TEXT\":" error-same string)
-value unlisted = record { parse = λ t. stuck t; back = λ u r h m. absurd h; sound = λ t. missed t }
+value unlisted = record { parse = λ t. failed t; back = λ u r h m. absurd h; sound = λ t. missed t }
 
 -- ---- members of options
 -- the names of the table tell the codes
@@ -123,54 +123,54 @@ member-apart code r s h =
     apart-texts (rowText code members) (ascii "OPT") r s (row-apart (ascii "OPT") members code tt h)
 
 -- a member of the table, whose code decides the form of its value
-unfoldable pub knownMember : Codec {A = (code : ℕ) × Value (formOf code)} (λ u. MemberIn (known (u .0) (u .1)))
+unfoldable pub knownMember : Codec {A = (code : ℕ) × Value (syntaxOf code)} (λ u. MemberIn (known (u .0) (u .1)))
     (λ u. memberText (known (u .0) (u .1))) NoDigit
 unfolding memberText
-knownMember = pair-by ("\"" ▷ table members members-distinct ◁ "\":") (λ code. value (formOf code))
+knownMember = pair-by ("\"" ▷ table members members-distinct ◁ "\":") (λ code. value (syntaxOf code))
 
 -- `OPTn` and hex
 unfoldable pub otherMember : Codec {A = ℕ × List ℕ} (λ u. MemberIn (other (u .0) (u .1)))
     (λ u. memberText (other (u .0) (u .1))) NoDigit
 unfolding memberText
-otherMember = titled (λ u. simp append-assoc) (free ("\"OPT" ▷ till "\":" tt number ⊗ hex))
+otherMember = retext (λ u. simp append-assoc) (free ("\"OPT" ▷ numberThen "\":" tt number ⊗ hex))
 
 -- the two never begin alike
-pub members-apart : (u : (code : ℕ) × Value (formOf code)) (v : ℕ × List ℕ) (r s : List ℕ) → T (key? (u .0) members)
+pub members-apart : (u : (code : ℕ) × Value (syntaxOf code)) (v : ℕ × List ℕ) (r s : List ℕ) → T (key? (u .0) members)
     → memberText (known (u .0) (u .1)) ++ r ≡ memberText (other (v .0) (v .1)) ++ s → ⊥
 unfolding memberText
 members-apart u v r s h e = member-apart (u .0) _ _ h (tail-eq-of-cons-eq (simp append-assoc at e))
 
-abbrev memberKind : Member → ((code : ℕ) × Value (formOf code)) ⊎ (ℕ × List ℕ)
+abbrev memberKind : Member → ((code : ℕ) × Value (syntaxOf code)) ⊎ (ℕ × List ℕ)
 memberKind (known code v) = inl (code, v)
 memberKind (other n hex) = inr (n, hex)
 
 unfoldable pub member : Codec MemberIn memberText NoDigit
-member = kinds (λ u. known (u .0) (u .1)) (λ u. other (u .0) (u .1)) memberKind whole (λ u. refl)
+member = sum (λ u. known (u .0) (u .1)) (λ u. other (u .0) (u .1)) memberKind whole (λ u. refl)
     (λ u. refl) knownMember otherMember
     (λ u v r s h k e. members-apart u v r s (h .0) e)
   where
-    whole : (m : Member) → made (λ u. known (u .0) (u .1)) (λ u. other (u .0) (u .1)) (memberKind m) ≡ m
+    whole : (m : Member) → fromSum (λ u. known (u .0) (u .1)) (λ u. other (u .0) (u .1)) (memberKind m) ≡ m
     whole (known code v) = refl
     whole (other n hex) = refl
 
 -- ---- questions and records
 unfoldable pub questionCodec : Codec QuestionIn questionText Any
 unfolding questionText
-questionCodec = titled (λ q. simp append-assoc) (on (λ q. (q .name, (q .type, q .class)))
+questionCodec = retext (λ q. simp append-assoc) (iso (λ q. (q .name, (q .type, q .class)))
     (λ (n, (t, c)). record { name = n; type = t; class = c }) (λ q h. (h, refl)) (λ q h. (h, refl))
     ("{\"NAME\":" ▷ name
-    ⊗ ",\"TYPE\":" ▷ till ",\"CLASS\":" tt number
-    ⊗ till "}" tt number))
+    ⊗ ",\"TYPE\":" ▷ numberThen ",\"CLASS\":" tt number
+    ⊗ numberThen "}" tt number))
 
 unfoldable pub recordCodec : Codec RecordIn recordText Any
 unfolding recordText
-recordCodec = titled (λ r. simp append-assoc) (on (λ r. (r .name, (r .type, (r .class, (r .ttl, r .rdata)))))
+recordCodec = retext (λ r. simp append-assoc) (iso (λ r. (r .name, (r .type, (r .class, (r .ttl, r .rdata)))))
     (λ (n, (t, (c, (l, d)))). record { name = n; type = t; class = c; ttl = l; rdata = d }) (λ r h. (h, refl))
     (λ r h. (h, refl))
     ("{\"NAME\":" ▷ name
-    ⊗ ",\"TYPE\":" ▷ till ",\"CLASS\":" tt number
-    ⊗ till ",\"TTL\":" tt number
-    ⊗ till ",\"RDATAHEX\":" tt signedNumber
+    ⊗ ",\"TYPE\":" ▷ numberThen ",\"CLASS\":" tt number
+    ⊗ numberThen ",\"TTL\":" tt number
+    ⊗ numberThen ",\"RDATAHEX\":" tt signedNumber
     ⊗ hex ◁ "}"))
 
 -- ---- the EDNS element
@@ -196,10 +196,10 @@ optionMembers = many (λ a r s h e. fronts tt e) (λ r. tt) (λ b r h. tt) ("," 
 -- the whole element
 unfoldable pub ednsElement : Codec EdnsIn ednsText Any
 unfolding ednsText
-ednsElement = titled (λ e. simp append-assoc) (on (λ e. (e .version, (e .flags, (e .rcode, (e .size, e .options)))))
+ednsElement = retext (λ e. simp append-assoc) (iso (λ e. (e .version, (e .flags, (e .rcode, (e .size, e .options)))))
     (λ (v, (f, (c, (s, o)))). record { version = v; flags = f; rcode = c; size = s; options = o }) (λ e h. (h, refl))
     (λ e h. (h, refl))
-    ("{\"EDNS\":{\"Version\":" ▷ till ",\"FLAGS\":" tt number
+    ("{\"EDNS\":{\"Version\":" ▷ numberThen ",\"FLAGS\":" tt number
     ⊗ table flags flags-distinct
     ⊗ ",\"RCODE\":\"" ▷ table rcodes rcodes-distinct ◁ "\",\"UDPSIZE\":"
     ⊗ joined number optionMembers (λ o r h m. options-fit o r)))
@@ -217,10 +217,10 @@ itemKind (edns e) = inr e
 
 unfoldable pub itemCodec : Codec ItemIn itemText Any
 unfolding itemText
-itemCodec = kinds ordinary edns itemKind whole (λ r. refl) (λ e. refl) recordCodec ednsElement
+itemCodec = sum ordinary edns itemKind whole (λ r. refl) (λ e. refl) recordCodec ednsElement
     (λ a b r s h k e. item-apart a b r s e)
   where
-    whole : (i : Item) → made ordinary edns (itemKind i) ≡ i
+    whole : (i : Item) → fromSum ordinary edns (itemKind i) ≡ i
     whole (ordinary r) = refl
     whole (edns e) = refl
 
@@ -263,7 +263,7 @@ headOf d = (d .header, (d .qdcount, (d .ancount, (d .nscount, d .arcount))))
 -- the 14 numbers, up to the last digit: ID; the flags of the header's third octet and of its fourth; the counts
 unfoldable pub head : Codec {A = Head} (λ h. Unit {0}) (λ h. headText (bareDocument h)) NoDigit
 unfolding headText
-head = titled (λ h. simp append-assoc) (on
+head = retext (λ h. simp append-assoc) (iso
     (λ (h, n). (h .id, ((h .qr, (h .opcode, (h .aa, (h .tc, h .rd)))), ((h .ra, (h .ad, (h .cd, h .rcode))), n))))
     (λ (id, ((qr, (opcode, (aa, (tc, rd)))), ((ra, (ad, (cd, rcode))), n))). (
       record {
@@ -282,12 +282,15 @@ head = titled (λ h. simp append-assoc) (on
     ))
     (λ h i. ((tt, ((tt, (tt, (tt, (tt, tt)))), ((tt, (tt, (tt, tt))), (tt, (tt, (tt, tt)))))), refl))
     (λ u i. (tt, refl))
-    ("{\"ID\":" ▷ till ",\"QR\":" tt number
-    ⊗ (till ",\"Opcode\":" tt number ⊗ till ",\"AA\":" tt number ⊗ till ",\"TC\":" tt number ⊗ till ",\"RD\":" tt number
-    ⊗ till ",\"RA\":" tt number)
-    ⊗ (till ",\"AD\":" tt number ⊗ till ",\"CD\":" tt number ⊗ till ",\"RCODE\":" tt number ⊗ till ",\"QDCOUNT\":" tt
+    ("{\"ID\":" ▷ numberThen ",\"QR\":" tt number
+    ⊗ (numberThen ",\"Opcode\":" tt number ⊗ numberThen ",\"AA\":" tt number ⊗ numberThen ",\"TC\":" tt number ⊗
+    numberThen ",\"RD\":" tt number
+    ⊗ numberThen ",\"RA\":" tt number)
+    ⊗ (numberThen ",\"AD\":" tt number ⊗ numberThen ",\"CD\":" tt number ⊗ numberThen ",\"RCODE\":" tt number ⊗
+    numberThen ",\"QDCOUNT\":" tt
     number)
-    ⊗ till ",\"ANCOUNT\":" tt number ⊗ till ",\"NSCOUNT\":" tt number ⊗ till ",\"ARCOUNT\":" tt number ⊗ number))
+    ⊗ numberThen ",\"ANCOUNT\":" tt number ⊗ numberThen ",\"NSCOUNT\":" tt number ⊗ numberThen ",\"ARCOUNT\":" tt number
+    ⊗ number))
 
 -- the text of a document's head is that of its header and counts alone
 pub head-same : (d : Document) → headText d ≡ headText (bareDocument (headOf d))
@@ -297,7 +300,7 @@ head-same d = refl
 -- the head and the four arrays
 unfoldable pub document : Codec DocumentIn documentText Any
 unfolding documentText
-document = titled (λ d. rw (head-same d) (simp append-assoc)) (on
+document = retext (λ d. rw (head-same d) (simp append-assoc)) (iso
     (λ d. (headOf d, (d .questions, (d .answers, (d .authority, d .additional)))))
     (λ ((h, (qn, (an, (nn, rn)))), (qs, (ans, (auth, add)))).
     record {
@@ -324,11 +327,11 @@ document = titled (λ d. rw (head-same d) (simp append-assoc)) (on
 unfoldable pub parse : List ℕ → Parsed Document
 parse = whole document
 
-pub parse-exact : (t : List ℕ) (d : Document) → (parse t ≡ took d []) ↔ (DocumentIn d × (documentText d ≡ t))
+pub parse-exact : (t : List ℕ) (d : Document) → (parse t ≡ parsed d []) ↔ (DocumentIn d × (documentText d ≡ t))
 unfolding parse
 parse-exact = whole-exact document tt
 
-pub parse-ends : (t : List ℕ) (d : Document) (r : List ℕ) → parse t ≡ took d r → r ≡ []
+pub parse-ends : (t : List ℕ) (d : Document) (r : List ℕ) → parse t ≡ parsed d r → r ≡ []
 unfolding parse
 parse-ends = whole-ends document
 
@@ -344,27 +347,27 @@ document-filled d e = nil≢cons (sym e)
 
 -- ---- where the parser stops, computed
 -- at the digit after a 0
-leading-zero : parse (ascii "{\"ID\":01,\"QR\":0") ≡ stuck (ascii "1,\"QR\":0")
+leading-zero : parse (ascii "{\"ID\":01,\"QR\":0") ≡ failed (ascii "1,\"QR\":0")
 unfolding parse document head natural
 leading-zero = refl
 
 -- at the second digit where none of 40 to 49 is written in digits, and at the third of a number past 255
-escaped-plain : (name .parse (ascii "\"a\\\\046.\"") ≡ stuck (ascii "46.\""))
-    × (name .parse (ascii "\"a\\\\256.\"") ≡ stuck (ascii "6.\""))
+escaped-plain : (name .parse (ascii "\"a\\\\046.\"") ≡ failed (ascii "46.\""))
+    × (name .parse (ascii "\"a\\\\256.\"") ≡ failed (ascii "6.\""))
 unfolding name rootOrLabels label spelledOctet spelledAt escape ddd leads? coded-from? coded? plain?
 escaped-plain = (refl, refl)
 
 -- at the second digit of an option's number that begins with 0
-option-zero : member .parse (ascii "\"OPT05\":\"\"") ≡ stuck (ascii "5\":\"\"")
-unfolding member knownMember otherMember natural tried members rows
+option-zero : member .parse (ascii "\"OPT05\":\"\"") ≡ failed (ascii "5\":\"\"")
+unfolding member knownMember otherMember natural tableParser members rows
 option-zero = refl
 
 -- at the first octet that no member's name has there
-member-unknown : member .parse (ascii "\"NSIX\":1") ≡ stuck (ascii "X\":1")
-unfolding member knownMember otherMember natural tried members rows
+member-unknown : member .parse (ascii "\"NSIX\":1") ≡ failed (ascii "X\":1")
+unfolding member knownMember otherMember natural tableParser members rows
 member-unknown = refl
 
 -- at the quote where a second digit should be
-hex-odd : hex .parse (ascii "\"0A1\"}") ≡ stuck (ascii "\"}")
+hex-odd : hex .parse (ascii "\"0A1\"}") ≡ failed (ascii "\"}")
 unfolding hex hexPairs unhex
 hex-odd = refl

@@ -9,10 +9,11 @@ use borrow.Author.Tests.{eqb-true, eqb-false}
 use lib.Dec.{T, T-not, leb, ltb, eqb, leb→le, ltb→lt, lt→ltb}
 use Rattle.octets.specs.Lists.{ascii, none?, ended}
 use Rattle.octets.specs.Bits.{is-true, is-false, unequal, both, and-left, and-right}
-use Rattle.octets.specs.Parsed.{Parsed, took, stuck, and-then, strip, Holds, missed, found, map-holds, then-holds}
+use Rattle.octets.specs.Parsed.{Parsed, parsed, failed, and-then, strip, Holds, missed, found, map-holds, then-holds}
 use Rattle.octets.specs.Parsed.{strip-sound}
-use Rattle.octets.specs.Codec.{Avoids, OneOrMore, Any, Codec, fronts, some-avoids, on, titled, only, either, Either}
-use Rattle.octets.specs.Codec.{eitherText, many, several, _▷_}
+use Rattle.octets.specs.Codec.{Avoids, OneOrMore, Any, Codec, fronts, some-avoids, iso, retext, literalAs, either}
+use Rattle.octets.specs.Codec.{Either}
+use Rattle.octets.specs.Codec.{eitherText, many, many1, _▷_}
 use Rattle.octets.specs.Decimal.{digit?, digit-in, digit-test, NoDigit, number, positiveNumber, decimal-avoids}
 use Rattle.names.specs.Name.{Name}
 use Rattle.spelling.specs.Spelling.{plain?, three-digits, spelled, labelText, nameText, Signed, plus, minus, signedText}
@@ -20,33 +21,33 @@ use Rattle.spelling.specs.Spelling.{printable?, stringOctet, stringText}
 use Rattle.strict.specs.Grammar.{Label, Labels, SignedNumber, StringIn}
 
 -- ---- a thing of two kinds, each made in its own way
-abbrev pub made : {A B C : Type 0} → (A → C) → (B → C) → A ⊎ B → C
-made left right (inl a) = left a
-made left right (inr b) = right b
+abbrev pub fromSum : {A B C : Type 0} → (A → C) → (B → C) → A ⊎ B → C
+fromSum left right (inl a) = left a
+fromSum left right (inr b) = right b
 
 module _ {A B C : Type 0} {J : C → Type 0} {g : C → List ℕ} {F : List ℕ → Type 0} (left : A → C) (right : B
     → C) (kind : C → A ⊎ B) where
   -- a codec for each kind, whose texts never begin alike
-  abbrev pub kinds : ((c : C) → made left right (kind c) ≡ c) → ((a : A) → kind (left a) ≡ inl a)
+  abbrev pub sum : ((c : C) → fromSum left right (kind c) ≡ c) → ((a : A) → kind (left a) ≡ inl a)
       → ((b : B) → kind (right b) ≡ inr b)
       → Codec (λ a. J (left a)) (λ a. g (left a)) F → Codec (λ b. J (right b)) (λ b. g (right b)) F
       → ((a : A) (b : B) (r s : List ℕ) → J (left a) → J (right b) → g (left a) ++ r ≡ g (right b) ++ s → ⊥)
       → Codec J g F
-  kinds whole at-left at-right p q apart =
-      titled (λ c. ap g (sym (whole c)) ∙ text (kind c))
-      (on kind (made left right) (λ c h. (range (kind c) (subst J (sym (whole c)) h), whole c)) back
+  sum whole at-left at-right p q apart =
+      retext (λ c. ap g (sym (whole c)) ∙ text (kind c))
+      (iso kind (fromSum left right) (λ c h. (range (kind c) (subst J (sym (whole c)) h), whole c)) back
       (either p q apart))
     where
-      text : (u : A ⊎ B) → g (made left right u) ≡ eitherText (λ a. g (left a)) (λ b. g (right b)) u
+      text : (u : A ⊎ B) → g (fromSum left right u) ≡ eitherText (λ a. g (left a)) (λ b. g (right b)) u
       text (inl a) = refl
       text (inr b) = refl
 
-      range : (u : A ⊎ B) → J (made left right u) → Either (λ a. J (left a)) (λ b. J (right b)) u
+      range : (u : A ⊎ B) → J (fromSum left right u) → Either (λ a. J (left a)) (λ b. J (right b)) u
       range (inl a) h = h
       range (inr b) h = h
 
       back : (u : A ⊎ B) → Either (λ a. J (left a)) (λ b. J (right b)) u
-          → J (made left right u) × (kind (made left right u) ≡ u)
+          → J (fromSum left right u) × (kind (fromSum left right u) ≡ u)
       back (inl a) h = (h, at-left a)
       back (inr b) h = (h, at-right b)
 
@@ -66,23 +67,23 @@ leads? k n d = digit? d && coded-from? ((n * 10 + (d - 48)) * 10 ^ k) (10 ^ k)
 
 -- `k` more digits after those of `n`
 unfoldable pub ddd : ℕ → ℕ → List ℕ → Parsed ℕ
-ddd zero n t = took n t
-ddd (suc k) n [] = stuck []
-ddd (suc k) n (d ∷ t) = elim (leads? k n d) [ true ↦ ddd k (n * 10 + (d - 48)) t | false ↦ stuck (d ∷ t) ]
+ddd zero n t = parsed n t
+ddd (suc k) n [] = failed []
+ddd (suc k) n (d ∷ t) = elim (leads? k n d) [ true ↦ ddd k (n * 10 + (d - 48)) t | false ↦ failed (d ∷ t) ]
 
 -- what follows the two backslashes
 unfoldable pub escape : List ℕ → Parsed ℕ
-escape [] = stuck []
+escape [] = failed []
 escape (c ∷ t) = elim (eqb c 46) [
-  | true ↦ took 46 t
-  | false ↦ elim (eqb c 92) [ true ↦ and-then (strip (ascii "\\") t) (λ u r. took 92 r) | false ↦ ddd 3 0 (c ∷ t) ]
+  | true ↦ parsed 46 t
+  | false ↦ elim (eqb c 92) [ true ↦ and-then (strip (ascii "\\") t) (λ u r. parsed 92 r) | false ↦ ddd 3 0 (c ∷ t) ]
 ]
 
 -- an octet as `spelled` writes it
 unfoldable pub spelledAt : List ℕ → Parsed ℕ
-spelledAt [] = stuck []
+spelledAt [] = failed []
 spelledAt (c ∷ t) = elim (plain? c) [
-  | true ↦ took c t
+  | true ↦ parsed c t
   | false ↦ and-then (strip (ascii "\\\\") (c ∷ t))
       (λ u r. escape r)
 ]
@@ -131,14 +132,14 @@ ddd-digit k n d t h c =
     )
 
 -- three digits of an octet that is written so
-ddd-back : (x : ℕ) (r : List ℕ) → T (coded? x) → x < 256 → ddd 3 0 (three-digits x ++ r) ≡ took x r
+ddd-back : (x : ℕ) (r : List ℕ) → T (coded? x) → x < 256 → ddd 3 0 (three-digits x ++ r) ≡ parsed x r
 unfolding ddd
 ddd-back x r c h =
     let z : ((0 * 10 + x / 100) * 10 + x / 10 % 10) * 10 + x % 10 ≡ x = omega arith in
     ddd-digit 2 0 (x / 100) _ (omega arith) (coded-among _ 100 x c (omega arith) (omega arith))
     ∙ ddd-digit 1 _ (x / 10 % 10) _ (omega arith) (coded-among _ 10 x c (omega arith) (omega arith))
     ∙ ddd-digit 0 _ (x % 10) _ (omega arith) (coded-among _ 1 x c (omega arith) (omega arith))
-    ∙ ap (λ y. took y r) z
+    ∙ ap (λ y. parsed y r) z
 
 -- what holds of the answer for each digit that leads to an octet holds of the answer
 ddd-holds : {P : ℕ → List ℕ → Type 0} (k n : ℕ) (t : List ℕ)
@@ -219,17 +220,17 @@ unfolding spelled
 spelled-plain x h = rw (is-true (plain? x) h)
 
 -- the value that a test has found
-took-same : (x y : ℕ) (r : List ℕ) → eqb x y ≡ true → took y r ≡ took x r
-took-same x y r e = ap (λ z. took z r) (sym (eqb-true x y e))
+took-same : (x y : ℕ) (r : List ℕ) → eqb x y ≡ true → parsed y r ≡ parsed x r
+took-same x y r e = ap (λ z. parsed z r) (sym (eqb-true x y e))
 
 -- a spelling is taken back, and what is taken is one
-pub spelledAt-back : (x : ℕ) (r : List ℕ) → x < 256 → spelledAt (spelled x ++ r) ≡ took x r
+pub spelledAt-back : (x : ℕ) (r : List ℕ) → x < 256 → spelledAt (spelled x ++ r) ≡ parsed x r
 unfolding spelled spelledAt plain? escape
 spelledAt-back x r h = go (plain? x) (eqb x 46) (eqb x 92) refl refl refl
   where
     go : (a b c : Bool) → plain? x ≡ a → eqb x 46 ≡ b → eqb x 92 ≡ c
         → spelledAt (cond a (x ∷ [])
-        (cond b (ascii "\\\\.") (cond c (ascii "\\\\\\\\") (ascii "\\\\" ++ three-digits x))) ++ r) ≡ took x r
+        (cond b (ascii "\\\\.") (cond c (ascii "\\\\\\\\") (ascii "\\\\" ++ three-digits x))) ++ r) ≡ parsed x r
     go true b c e f g = rw (e, spelledAt)
     go false true c e f g = took-same x 46 r f
     go false false true e f g = took-same x 92 r g
@@ -282,7 +283,7 @@ spelled-avoids y h k x r s i e = go (plain? x) (eqb x 46) (eqb x 92) refl e
 -- octets and the dot
 unfoldable pub label : Codec Label labelText Any
 unfolding labelText plain?
-label = several (spelled-avoids 46 tt tt) (λ r. tt) (λ b r h. tt) spelledOctet
+label = many1 (spelled-avoids 46 tt tt) (λ r. tt) (λ b r h. tt) spelledOctet
 
 -- a label begins as its first octet does
 pub label-avoids : (y : ℕ) → T (not (plain? y)) → T (not (eqb 92 y)) → Avoids Label labelText y
@@ -301,8 +302,8 @@ nameFrom (inr n) = n
 -- the root or labels, and the quote after them
 unfoldable pub rootOrLabels : Codec Labels (λ n. cond (none? n) (ascii ".\"") (ended labelText 34 n)) Any
 unfolding plain?
-rootOrLabels = titled same (on rootOr nameFrom one two
-    (either (only tt ".\"") (several (label-avoids 34 tt tt) (λ r. tt) (λ b r h. tt) label)
+rootOrLabels = retext same (iso rootOr nameFrom one two
+    (either (literalAs tt ".\"") (many1 (label-avoids 34 tt tt) (λ r. tt) (λ b r h. tt) label)
     (λ a b r s h k e. some-avoids labelText 34 (label-avoids 46 tt tt) b s _ k (sym e))))
   where
     same : (n : Name) → cond (none? n) (ascii ".\"") (ended labelText 34 n)
@@ -333,10 +334,10 @@ signOf (minus n) = inr n
 
 unfoldable pub signedNumber : Codec SignedNumber signedText NoDigit
 unfolding signedText
-signedNumber = kinds plus minus signOf whole (λ n. refl) (λ n. refl) number ("-" ▷ positiveNumber)
+signedNumber = sum plus minus signOf whole (λ n. refl) (λ n. refl) number ("-" ▷ positiveNumber)
     (λ m n r s h k e. decimal-avoids 45 tt m r _ e)
   where
-    whole : (n : Signed) → made plus minus (signOf n) ≡ n
+    whole : (n : Signed) → fromSum plus minus (signOf n) ≡ n
     whole (plus n) = refl
     whole (minus n) = refl
 
@@ -347,16 +348,20 @@ bare? x = printable? x && (not (eqb x 34) && not (eqb x 92))
 
 -- what follows the backslash: the quote or the backslash
 unfoldable pub quoted : List ℕ → Parsed ℕ
-quoted [] = stuck []
+quoted [] = failed []
 quoted (c ∷ t) = elim (eqb c 34) [
-  | true ↦ took 34 t
-  | false ↦ elim (eqb c 92) [ true ↦ took 92 t | false ↦ stuck (c ∷ t) ]
+  | true ↦ parsed 34 t
+  | false ↦ elim (eqb c 92) [ true ↦ parsed 92 t | false ↦ failed (c ∷ t) ]
 ]
 
 -- an octet as `stringOctet` writes it
 unfoldable pub stringAt : List ℕ → Parsed ℕ
-stringAt [] = stuck []
-stringAt (c ∷ t) = elim (bare? c) [ true ↦ took c t | false ↦ and-then (strip (ascii "\\") (c ∷ t)) (λ u r. quoted r) ]
+stringAt [] = failed []
+stringAt (c ∷ t) = elim (bare? c) [
+  | true ↦ parsed c t
+  | false ↦ and-then (strip (ascii "\\") (c ∷ t))
+      (λ u r. quoted r)
+]
 
 -- what stands for itself is printable, and written so
 bare-in : (x : ℕ) → T (printable? x) → eqb x 34 ≡ false → eqb x 92 ≡ false → T (bare? x)
@@ -372,12 +377,12 @@ bare-out x h =
     )
 
 -- an octet of a string is taken back, and what is taken is one
-pub stringAt-back : (x : ℕ) (r : List ℕ) → T (printable? x) → stringAt (stringOctet x ++ r) ≡ took x r
+pub stringAt-back : (x : ℕ) (r : List ℕ) → T (printable? x) → stringAt (stringOctet x ++ r) ≡ parsed x r
 unfolding stringOctet stringAt bare? printable? quoted
 stringAt-back x r h = go (eqb x 34) (eqb x 92) refl refl
   where
     go : (a b : Bool) → eqb x 34 ≡ a → eqb x 92 ≡ b
-        → stringAt (cond a (ascii "\\\"") (cond b (ascii "\\\\") (x ∷ [])) ++ r) ≡ took x r
+        → stringAt (cond a (ascii "\\\"") (cond b (ascii "\\\\") (x ∷ [])) ++ r) ≡ parsed x r
     go true b e f = took-same x 34 r e
     go false true e f = took-same x 92 r f
     go false false e f = rw (is-true (bare? x) (bare-in x h e f), stringAt)

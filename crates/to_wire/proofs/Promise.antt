@@ -10,7 +10,7 @@ use borrow.Author.Tests.{not-true, not-false}
 use lib.Dec.{T, leb}
 use lib.ListN.{length, drop, drop-of-length-le}
 use Rattle.octets.specs.Bits.{is-true, and-left, and-right}
-use Rattle.octets.specs.Parsed.{took, took-value, took≢stuck}
+use Rattle.octets.specs.Parsed.{parsed, parsed-value, parsed≢failed}
 use Rattle.octets.specs.Answer.{output}
 use Rattle.octets.specs.Calls.{Gives, gives-refusal, gives-none, gives-written}
 use Rattle.octets.specs.declared.Outcome.the-variants.{Length, Refused}
@@ -24,7 +24,7 @@ use Rattle.json.specs.Limits.{within?}
 use Rattle.json.specs.Document.{Document}
 use Rattle.strict.specs.Meaning.{documentView, counts?, meaning}
 use Rattle.strict.specs.Parser.{document, parse}
-use Rattle.strict.specs.Reading.{meant, reading, toWire}
+use Rattle.strict.specs.Reading.{ofMeaning, reading, toWire}
 use Rattle.parse_tokens.specs.declared.Cursor.{Cursor}
 use Rattle.parse_tokens.specs.Cursor.{Finds, reads-bad, reads-got, Got}
 use Rattle.parse_tokens.specs.Step.{found-there, Put, Step}
@@ -73,13 +73,13 @@ module _ (t b l : List ℕ) (z : length l ≡ 0) {c : Cursor}
   refuses n e = rw (empty l z, e) (gives-refusal 23 b n 0)
 
   -- the text is not within the grammar
-  pub read-stopped : not (c .spelled) ≡ true → Gives (toWire t b) (Refused 20 0) (l ++ b)
+  pub read-stopped : not (c .grammatical) ≡ true → Gives (toWire t b) (Refused 20 0) (l ++ b)
   unfolding reading parse
-  read-stopped g = refuses 20 (rw (reads-bad (found-there x refl) (not-true (c .spelled) g)))
+  read-stopped g = refuses 20 (rw (reads-bad (found-there x refl) (not-true (c .grammatical) g)))
 
-  module _ (g : not (c .spelled) ≡ false) where
+  module _ (g : not (c .grammatical) ≡ false) where
     got : Got (document .parse t) (Put documentMeant? documentOctets start [] c l) (drop (c .at) t)
-    got = reads-got (found-there x refl) (not-false (c .spelled) g)
+    got = reads-got (found-there x refl) (not-false (c .grammatical) g)
 
     -- octets are left after it
     pub read-left : c .at < length t → Gives (toWire t b) (Refused 20 0) (l ++ b)
@@ -87,40 +87,40 @@ module _ (t b l : List ℕ) (z : length l ≡ 0) {c : Cursor}
     read-left h = refuses 20 (rw (got .is, drop-one t (c .at) h))
 
     module _ (h : length t ≤ c .at) where
-      whole : parse t ≡ took (got .value) []
+      whole : parse t ≡ parsed (got .value) []
       unfolding parse
       whole = rw (got .is, drop-of-length-le t h)
 
-      judged : c .meant ≡ documentMeant? (got .value)
-      judged = got .holds .meant
+      judged : c .meaningful ≡ documentMeant? (got .value)
+      judged = got .holds .meaningful
 
-      pub read-meaningless : not (c .meant) ≡ true → Gives (toWire t b) (Refused 21 0) (l ++ b)
+      pub read-meaningless : not (c .meaningful) ≡ true → Gives (toWire t b) (Refused 21 0) (l ++ b)
       unfolding reading
-      read-meaningless k = refuses 21 (rw (whole, meaning-none (got .value) (sym judged ∙ not-true (c .meant) k)))
+      read-meaningless k = refuses 21 (rw (whole, meaning-none (got .value) (sym judged ∙ not-true (c .meaningful) k)))
 
-      module _ (k : not (c .meant) ≡ false) where
-        holds : T (c .meant)
-        holds = subst T (sym (not-false (c .meant) k)) tt
+      module _ (k : not (c .meaningful) ≡ false) where
+        holds : T (c .meaningful)
+        holds = subst T (sym (not-false (c .meaningful) k)) tt
 
         means : T (documentMeant? (got .value))
         means = subst T judged holds
 
-        limit : c .small ≡ leb (length (documentOctets (got .value))) 65535
-        limit = got .holds .small holds ∙ rw zero-add
+        limit : c .bounded ≡ leb (length (documentOctets (got .value))) 65535
+        limit = got .holds .bounded holds ∙ rw zero-add
 
-        pub read-large : not (c .small) ≡ true → Gives (toWire t b) (Refused 22 0) (l ++ b)
+        pub read-large : not (c .bounded) ≡ true → Gives (toWire t b) (Refused 22 0) (l ++ b)
         unfolding reading
         read-large m = refuses 22 (rw (
           whole,
           meaning-some (got .value) means,
           within-same (got .value) means,
           sym limit
-              ∙ not-true (c .small) m,
+              ∙ not-true (c .bounded) m,
         ))
 
-        module _ (m : not (c .small) ≡ false) where
-          small : T (c .small)
-          small = subst T (sym (not-false (c .small) m)) tt
+        module _ (m : not (c .bounded) ≡ false) where
+          bounded : T (c .bounded)
+          bounded = subst T (sym (not-false (c .bounded) m)) tt
 
           says : reading t ≡ output (documentOctets (got .value))
           unfolding reading
@@ -129,11 +129,11 @@ module _ (t b l : List ℕ) (z : length l ≡ 0) {c : Cursor}
             meaning-some (got .value) means,
             within-same (got .value) means,
             sym limit
-                ∙ not-false (c .small) m,
+                ∙ not-false (c .bounded) m,
           ) (ap output (sym (octets-form (got .value) means)))
 
           size : c .to ≡ length (documentOctets (got .value))
-          size = omega (arith, got .holds .wrote holds small .place)
+          size = omega (arith, got .holds .wrote holds bounded .place)
 
           pub read-long : length (l ++ b) < c .to → Gives (toWire t b) (Refused 23 0) (l ++ b)
           unfolding toWire
@@ -154,17 +154,18 @@ module _ (t b l : List ℕ) (z : length l ≡ 0) {c : Cursor}
               same d e p =
                   let q : Put documentMeant? documentOctets start b c′ b′ (got .value) =
                   subst (λ (x : Document). Put documentMeant? documentOctets start b c′ b′ x) e p in
-                  let i : T (c′ .meant) = subst T (sym (q .meant)) means in
-                  let j : T (c′ .small) = subst T (sym (q .small i)) (subst T (got .holds .small holds) small) in
+                  let i : T (c′ .meaningful) = subst T (sym (q .meaningful)) means in
+                  let j : T (c′ .bounded) =
+                  subst T (sym (q .bounded i)) (subst T (got .holds .bounded holds) bounded) in
                   q .wrote i j
 
-              good : (v : Bool) → c′ .spelled ≡ v
+              good : (v : Bool) → c′ .grammatical ≡ v
                   → Finds t (Put documentMeant? documentOctets start b c′ b′) c′ (document .parse t)
                   → Wrote b 0 (documentOctets (got .value)) b′ (c′ .to)
-              good true e r = let o = reads-got r e in same (o .value) (took-value (sym (o .is) ∙ got .is)) (o .holds)
-              good false e r = absurd (took≢stuck (sym (got .is) ∙ reads-bad r e))
+              good true e r = let o = reads-got r e in same (o .value) (parsed-value (sym (o .is) ∙ got .is)) (o .holds)
+              good false e r = absurd (parsed≢failed (sym (got .is) ∙ reads-bad r e))
 
               go : c .to ≤ length b → Step documentMeant? documentOctets (document .parse) t start b c′ b′
                   → Gives (toWire t b) (Length (c .to)) b′
               go n y = rw says (gives-written 23 b (documentOctets (got .value))
-                  (good (c′ .spelled) refl (found-there y refl)) size n)
+                  (good (c′ .grammatical) refl (found-there y refl)) size n)

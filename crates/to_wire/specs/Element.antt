@@ -10,9 +10,9 @@ use lib.ListN.{length}
 use Rattle.octets.specs.Lists.{ascii, all, All, each, u8?, key?, rowText}
 use Rattle.octets.specs.Bits.{is-true, and-left, and-right}
 use Rattle.octets.specs.Fields.{be16, be32}
-use Rattle.octets.specs.Parsed.{Parsed, took, stuck, and-then, strip}
-use Rattle.octets.specs.Codec.{Any, Codec, on, joined, table, _▷_, _◁_, _⊗_, tried}
-use Rattle.octets.specs.Decimal.{decimal, number, till}
+use Rattle.octets.specs.Parsed.{Parsed, parsed, failed, and-then, strip}
+use Rattle.octets.specs.Codec.{Any, Codec, iso, joined, table, _▷_, _◁_, _⊗_, tableParser}
+use Rattle.octets.specs.Decimal.{decimal, number, numberThen}
 use Rattle.octets.specs.Overlay.{Wrote, then}
 use Rattle.names.specs.Name.{nameForm}
 use Rattle.records.specs.Message.{recordForm, bit?}
@@ -48,9 +48,9 @@ behindText e = (decimal (e .version) ++ ascii ",\"FLAGS\":")
     ++ (decimal (e .size) ++ membersEndText (e .options))))
 
 unfoldable pub ednsBehind : Codec EdnsIn behindText Any
-ednsBehind = on (λ e. (e .version, (e .flags, (e .rcode, (e .size, e .options))))) itemOf (λ e h. (h, refl))
+ednsBehind = iso (λ e. (e .version, (e .flags, (e .rcode, (e .size, e .options))))) itemOf (λ e h. (h, refl))
     (λ e h. (h, refl))
-    (till ",\"FLAGS\":" tt number
+    (numberThen ",\"FLAGS\":" tt number
     ⊗ table flags flags-distinct
     ⊗ ",\"RCODE\":\"" ▷ table rcodes rcodes-distinct ◁ "\",\"UDPSIZE\":"
     ⊗ joined number optionMembers (λ o r h m. options-fit o r))
@@ -62,14 +62,14 @@ ednsRest = ednsBehind .parse
 then-thrice : {A B C D : Type 0} (o : Parsed A) (f : A → List ℕ → Parsed B) (g : B → List ℕ → Parsed C) (h : C → List ℕ
     → Parsed D)
     → and-then (and-then (and-then o f) g) h ≡ and-then o (λ a r. and-then (and-then (f a r) g) h)
-then-thrice (took a r) f g h = refl
-then-thrice (stuck w) f g h = refl
+then-thrice (parsed a r) f g h = refl
+then-thrice (failed w) f g h = refl
 
 pub edns-parse : (w : List ℕ)
     → ednsElement .parse w ≡ and-then (strip (ascii "{\"EDNS\":{\"Version\":") w) (λ u r. ednsRest r)
 unfolding ednsElement ednsRest ednsBehind
 edns-parse w = then-thrice (strip (ascii "{\"EDNS\":{\"Version\":") w)
-    (λ u r. till ",\"FLAGS\":" tt number .parse r) _ _
+    (λ u r. numberThen ",\"FLAGS\":" tt number .parse r) _ _
 
 -- ---- its fields
 abbrev pub rcodeCodec : Codec (λ n. T (key? n rcodes)) (λ n. ascii ",\"RCODE\":\""
@@ -81,7 +81,7 @@ pub record RcodeRead (t : List ℕ) (c : Cursor) (r : Row) : Type 0 where
   pub keeps : Keeps t c (r .cursor)
 
 pub rcode-read : {t : List ℕ} {c r s : Cursor} {n : Row} → Passed (ascii ",\"RCODE\":\"") t c r
-    → RowRead (tried rcodes) t r n → Passed (ascii "\",\"UDPSIZE\":") t (n .cursor) s
+    → RowRead (tableParser rcodes) t r n → Passed (ascii "\",\"UDPSIZE\":") t (n .cursor) s
     → RcodeRead t c (record { cursor = s; key = n .key })
 rcode-read q x e = record {
   found = found-lit q (found-behind (x .found) e);
@@ -194,7 +194,8 @@ abbrev pub EdnsStep : ℕ → List ℕ → Cursor → List ℕ → Cursor → Li
 EdnsStep rcode t c b r b′ = Step (element? rcode) elementForm ednsRest t c b r b′
 
 pub edns-read : (rcode : ℕ) {t : List ℕ} {c h o j : Cursor} {b b₁ b₂ : List ℕ} {v s : Amount} {f x : Row} {ok : Bool}
-    {e : ℕ} → TillRead (ascii ",\"FLAGS\":") t c v → RowRead (tried flags) t (v .cursor) f → RcodeRead t (f .cursor) x
+    {e : ℕ} → TillRead (ascii ",\"FLAGS\":") t c v → RowRead (tableParser flags) t (v .cursor) f
+    → RcodeRead t (f .cursor) x
     → NumberRead t (x .cursor) s
     → Held 11 (s .cursor) h → OptionsStep (optionMembers .parse) t h b o b₁
     → ok ≡ ednsFits? (v .value) (x .key) rcode (s .value) → Judged ok o j
@@ -202,7 +203,7 @@ pub edns-read : (rcode : ℕ) {t : List ℕ} {c h o j : Cursor} {b b₁ b₂ : L
 unfolding ednsRest ednsBehind
 edns-read rcode {t} {c} {h} {o} {j} {b} {b₁} {b₂} {v} {s} {f} {x} {ok} {e = end} version row full size places members
     fit judged front =
-    found-at (found-sound ednsBehind fields) (judged .at) (judged .spelled)
+    found-at (found-sound ednsBehind fields) (judged .at) (judged .grammatical)
     (omega (arith, judged .to, members .moves .safe .room)) λ e k. done e (k .0) (k .1)
   where
     Q : EdnsItem → Type 0
@@ -215,7 +216,7 @@ edns-read rcode {t} {c} {h} {o} {j} {b} {b₁} {b₂} {v} {s} {f} {x} {ok} {e = 
     fields = found-map itemOf (λ u k. k)
         (found-pair (version .found)
         (found-pair (row .found)
-        (found-pair (full .found) (found-pair (size .found) (found-from (places .at) (places .spelled) members)))))
+        (found-pair (full .found) (found-pair (size .found) (found-from (places .at) (places .grammatical) members)))))
 
     frontOf : EdnsItem → List ℕ
     frontOf e = optFront (e .size) (optTtl (e .rcode) (e .flags)) (length (rdataOf e))
@@ -238,17 +239,17 @@ edns-read rcode {t} {c} {h} {o} {j} {b} {b₁} {b₂} {v} {s} {f} {x} {ok} {e = 
         p = put-judged (put-as {ok′ = λ e. options? (e .options)} {wire′ = rdataOf} {a′ = e} refl refl (q .1 .1 .1 .1))
             judged (element-is rcode e i ∙ ap (λ (k : Bool). options? (e .options) && k) (sym fits))
 
-        before : T (j .meant) → T (j .small) → Wrote b₁ (s .cursor .to) (frontOf e) b₂ end
+        before : T (j .meaningful) → T (j .bounded) → Wrote b₁ (s .cursor .to) (frontOf e) b₂ end
         before y z =
             let start = s .cursor .to in
             let w : T (options? (e .options) && ednsFits? (e .version) (e .rcode) rcode (e .size)) =
-            subst T (element-is rcode e i) (and-right (h .meant) (element? rcode e) (subst T (p .meant) y)) in
+            subst T (element-is rcode e i) (and-right (h .meaningful) (element? rcode e) (subst T (p .meaningful) y)) in
             let l : e .size < 65536 =
             ltb→lt (e .size) 65536
             (and-right (eqb (e .version) 0 && eqb (e .rcode % 16) rcode) (ltb (e .size) 65536)
             (and-right (options? (e .options)) _ w)) in
             let u : j .to ≡ start + 11 + length (rdataOf e) =
-            omega (arith, places .to (and-left (h .small) _ (subst T (p .small y) z)), p .wrote y z .place) in
+            omega (arith, places .to (and-left (h .bounded) _ (subst T (p .bounded y) z)), p .wrote y z .place) in
             let n : j .to - (start + 11) ≡ length (rdataOf e) = omega (arith, u) in
             let g : s .value ≡ e .size = omega (arith, q .1 .1 .1 .0) in
             let k = front .wrote (omega (arith, g)) (rw (q .1 .1 .0) (rcode-octet (e .rcode) (i .1 .1 .0)))

@@ -10,7 +10,7 @@ use Rattle.octets.specs.Fields.{be16}
 use Rattle.octets.specs.Bits.{and-left, and-right}
 use Rattle.octets.specs.Parsed.{Parsed}
 use Rattle.octets.specs.Codec.{_⊗_}
-use Rattle.octets.specs.Decimal.{number, till}
+use Rattle.octets.specs.Decimal.{number, numberThen}
 use Rattle.records.specs.Message.{bit?, four-bits?}
 use Rattle.parse_tokens.specs.declared.Cursor.{Cursor}
 use Rattle.parse_tokens.specs.declared.Amount.{Amount}
@@ -62,15 +62,18 @@ abbrev pub FlagsKept : {A : Type 0} → (A → Bool) → (A → ℕ) → Flags �
 FlagsKept meant? octet r u = (r .fits ≡ meant? u) × (T (r .fits) → r .octet ≡ octet u)
 
 abbrev pub highParse : List ℕ → Parsed Five
-highParse = (till ",\"Opcode\":" tt number ⊗ till ",\"AA\":" tt number ⊗ till ",\"TC\":" tt number ⊗ till ",\"RD\":" tt
-    number ⊗ till ",\"RA\":" tt number) .parse
+highParse = (numberThen ",\"Opcode\":" tt number ⊗ numberThen ",\"AA\":" tt number ⊗ numberThen ",\"TC\":" tt number ⊗
+    numberThen ",\"RD\":" tt
+    number ⊗ numberThen ",\"RA\":" tt number) .parse
 
 abbrev pub lowParse : List ℕ → Parsed Four
-lowParse = (till ",\"AD\":" tt number ⊗ till ",\"CD\":" tt number ⊗ till ",\"RCODE\":" tt number ⊗ till ",\"QDCOUNT\":"
+lowParse = (numberThen ",\"AD\":" tt number ⊗ numberThen ",\"CD\":" tt number ⊗ numberThen ",\"RCODE\":" tt number ⊗
+    numberThen ",\"QDCOUNT\":"
     tt number) .parse
 
 abbrev pub countsParse : List ℕ → Parsed Four
-countsParse = (till ",\"ANCOUNT\":" tt number ⊗ till ",\"NSCOUNT\":" tt number ⊗ till ",\"ARCOUNT\":" tt number ⊗
+countsParse = (numberThen ",\"ANCOUNT\":" tt number ⊗ numberThen ",\"NSCOUNT\":" tt number ⊗ numberThen ",\"ARCOUNT\":"
+    tt number ⊗
     number) .parse
 
 pub record FlagsRead {A : Type 0} (p : List ℕ → Parsed A) (meant? : A → Bool) (octet : A
@@ -210,13 +213,14 @@ pub put-flags : (high low : Flags) {c d r : Cursor} {b b′ : List ℕ} {f : Boo
     → Judged f c d → Emits (high .octet ∷ low .octet ∷ []) d b r b′ → PutFlags high low c b r b′
 put-flags high low {c} {f = f} e j m = record {
   at = m .at ∙ j .at;
-  spelled = m .spelled ∙ j .spelled;
+  grammatical = m .grammatical ∙ j .grammatical;
   room = m .room;
   put = λ u h. record {
-    meant = m .meant ∙ j .meant ∙ rw (e, h .0 .0, h .1 .0);
-    small = λ k. m .small ∙ rw (j .small, j .to);
+    meaningful = m .meaningful ∙ j .meaningful ∙ rw (e, h .0 .0, h .1 .0);
+    bounded = λ k. m .bounded ∙ rw (j .bounded, j .to);
     wrote = λ k l.
-        let t : T (high .fits && low .fits) = subst T e (and-right (c .meant) f (subst T (m .meant ∙ j .meant) k)) in
+        let t : T (high .fits && low .fits) =
+        subst T e (and-right (c .meaningful) f (subst T (m .meaningful ∙ j .meaningful) k)) in
         rw (← (h .0 .1 (and-left (high .fits) _ t)), ← (h .1 .1 (and-right (high .fits) _ t)), ← (j .to)) (m .wrote l);
   };
 }
@@ -242,7 +246,7 @@ put-counts w x y z = done-then w (done-then x (done-then y z))
 -- ---- the head
 -- what the head gives: RCODE, if all is meant, and the counts
 pub record Told (r : Header) (h : Head) : Type 0 where
-  pub rcode : T (r .cursor .meant) → r .rcode ≡ h .0 .rcode
+  pub rcode : T (r .cursor .meaningful) → r .rcode ≡ h .0 .rcode
   pub counts : Counted (r .counts) (h .1)
 
 abbrev pub HeadRead : List ℕ → Cursor → List ℕ → Header → List ℕ → Type 0
@@ -271,7 +275,7 @@ head-read {t} {b} {b₁} {b₂} {b₃} {c} {start} {d} {e} {r} {id} {high} {low}
     (found-at {Q = λ u. Put headMeant? headOctets c b r b₃ (headFrom u)
     × Told (record { cursor = r; rcode = rcode; counts = counts }) (headFrom u)}
     (found-pair (found-lit q (i .found)) (found-pair (h .found) (found-pair (l .found) (n .found))))
-    (all .at) (all .spelled) (all .room) told)
+    (all .at) (all .grammatical) (all .room) told)
   where
     all : Done {A = ℕ × ((Five × Four) × Four)} (λ u. (id .value ≡ capped (u .0))
         × ((FlagsKept highMeant? highOctet high (u .1 .0 .0) × FlagsKept lowMeant? lowOctet low (u .1 .0 .1))
@@ -305,9 +309,9 @@ head-read {t} {b} {b₁} {b₂} {b₃} {c} {start} {d} {e} {r} {id} {high} {low}
             && ((highMeant? (v .1 .0 .0) && lowMeant? (v .1 .0 .1)) && words? (v .1 .1))) (λ v. be16 (v .0)
             ++ ((highOctet (v .1 .0 .0) ∷ lowOctet (v .1 .0 .1) ∷ []) ++ fourWords (v .1 .1))) c b r b₃
             (u .0, ((u .1 .0, u .1 .1 .0), u .1 .1 .1))
-            → T (r .meant) → rcode ≡ u .1 .1 .0 .1 .1 .1
+            → T (r .meaningful) → rcode ≡ u .1 .1 .0 .1 .1 .1
         code p m =
-            let t0 = and-right (c .meant) _ (subst T (p .meant) m) in
+            let t0 = and-right (c .meaningful) _ (subst T (p .meaningful) m) in
             let t1 = and-left (highMeant? (u .1 .0) && lowMeant? (u .1 .1 .0)) _ (and-right (u16? (u .0)) _ t0) in
             let t2 = and-right (highMeant? (u .1 .0)) _ t1 in
             let o = k .1 .1 .0 .1 (subst T (sym (k .1 .1 .0 .0)) t2) in

@@ -14,7 +14,7 @@ use Rattle.strict.specs.Meaning.{itemAdditional, item?}
 use Rattle.json.specs.View.{additional?, opt-entry?, recordOf}
 use Rattle.parse_tokens.specs.declared.Cursor.{Cursor}
 use Rattle.parse_tokens.specs.Cursor.{Passed}
-use Rattle.parse_tokens.specs.Step.{Found, found-lit, found-stuck, Put, put-from, put-as, Step}
+use Rattle.parse_tokens.specs.Step.{Found, found-lit, found-failed, Put, put-from, put-as, Step}
 use Rattle.parse_tokens.specs.Choice.{Further, either-further, either-second}
 use Rattle.parse_tokens.specs.Leaf.{found-same, passed-took}
 use Rattle.to_wire.specs.Meant.{recordMeant?, recordOctets, itemMeant?, itemOctets, itemOpt?, itemShown?}
@@ -38,10 +38,10 @@ ednsTitle = ascii "{\"EDNS\":{\"Version\":"
 
 module _ {t : List ℕ} {c n m : Cursor} (p : Passed nameTitle t c n) (q : Passed ednsTitle t c m) where
   -- not both titles stand there
-  not-both : m .spelled ≡ true → n .spelled ≡ false
-  not-both g = go (n .spelled) refl
+  not-both : m .grammatical ≡ true → n .grammatical ≡ false
+  not-both g = go (n .grammatical) refl
     where
-      go : (b : Bool) → n .spelled ≡ b → b ≡ false
+      go : (b : Bool) → n .grammatical ≡ b → b ≡ false
       go true h = absurd (apart-texts nameTitle ednsTitle (drop (n .at) t) (drop (m .at) t) tt
           (held (strip-sound nameTitle (drop (c .at) t)) (passed-took p h)
           ∙ sym (held (strip-sound ednsTitle (drop (c .at) t)) (passed-took q g))))
@@ -67,28 +67,28 @@ module _ {t : List ℕ} {c n m : Cursor} (p : Passed nameTitle t c n) (q : Passe
       }
 
   edns-told : (rcode : ℕ) {b b′ : List ℕ} {e : Cursor} (a : EdnsItem) → Put (element? rcode) elementForm m b e b′ a
-      → ItemFacts rcode c b (record { cursor = e; opt = true; shown = true; hidden = false }) b′ (edns a)
+      → ItemFacts rcode c b (record { cursor = e; opt = true; shown = true; eligible = false }) b′ (edns a)
   unfolding itemMeant? itemOctets itemOpt? itemShown? itemHides? item? additional? itemAdditional recordOf opt-entry?
   edns-told rcode a h =
       record { put = put-as refl refl (put-from (q .keeps) h); is-opt = refl; is-shown = refl; is-hidden = λ k. refl }
 
   -- an EDNS element
-  pub item-edns : (rcode : ℕ) {b b′ : List ℕ} {e r : Cursor} → m .spelled ≡ true
+  pub item-edns : (rcode : ℕ) {b b′ : List ℕ} {e r : Cursor} → m .grammatical ≡ true
       → Step (element? rcode) elementForm ednsRest t m b e b′ → Further (n .at) e r
-      → ItemRead rcode t c b (record { cursor = r; opt = true; shown = true; hidden = false }) b′
+      → ItemRead rcode t c b (record { cursor = r; opt = true; shown = true; eligible = false }) b′
   unfolding itemCodec
   item-edns rcode {b} {b′} g x f =
       either-second ordinary edns (recordCodec .parse) (ednsElement .parse)
-      (as-record {P = λ a. Unit {0}} (found-stuck recordRest t n (p .keeps .safe) (not-both g)))
-      (λ z. ItemFacts rcode c b (record { cursor = z; opt = true; shown = true; hidden = false }) b′) (as-edns x)
+      (as-record {P = λ a. Unit {0}} (found-failed recordRest t n (p .keeps .safe) (not-both g)))
+      (λ z. ItemFacts rcode c b (record { cursor = z; opt = true; shown = true; eligible = false }) b′) (as-edns x)
       (not-both g) f λ a h. edns-told rcode a h
 
   -- an ordinary record
-  pub item-record : (rcode : ℕ) {b b′ : List ℕ} {d : Entry} {r : Cursor} → m .spelled ≡ false
+  pub item-record : (rcode : ℕ) {b b′ : List ℕ} {d : Entry} {r : Cursor} → m .grammatical ≡ false
       → RecordRead rcode t n b d b′ → Further (m .at) (d .cursor) r
-      → ItemRead rcode t c b (record { cursor = r; opt = d .opt; shown = d .shown; hidden = d .hidden }) b′
+      → ItemRead rcode t c b (record { cursor = r; opt = d .opt; shown = d .shown; eligible = d .eligible }) b′
   unfolding itemCodec
   item-record rcode {b} {b′} {d} g x f =
       either-further ordinary edns (recordCodec .parse) (ednsElement .parse) (as-record x)
-      (λ z. ItemFacts rcode c b (record { cursor = z; opt = d .opt; shown = d .shown; hidden = d .hidden }) b′)
-      (as-edns {P = λ a. Unit {0}} (found-stuck ednsRest t m (q .keeps .safe) g)) g f λ a h. record-told rcode a h
+      (λ z. ItemFacts rcode c b (record { cursor = z; opt = d .opt; shown = d .shown; eligible = d .eligible }) b′)
+      (as-edns {P = λ a. Unit {0}} (found-failed ednsRest t m (q .keeps .safe) g)) g f λ a h. record-told rcode a h

@@ -7,9 +7,9 @@ use native.Mathlib.Omega.{arith}
 use borrow.Author.Tests.{not-true, not-false}
 use lib.Dec.{T}
 use lib.ListN.{length, drop, length-append}
-use Rattle.octets.specs.Parsed.{Parsed, took, stuck, and-then, strip}
-use Rattle.octets.specs.Codec.{Avoids, Codec, several}
-use Rattle.octets.specs.Overlay.{Wrote, then, nothing, before, same-long}
+use Rattle.octets.specs.Parsed.{Parsed, parsed, failed, and-then, strip}
+use Rattle.octets.specs.Codec.{Avoids, Codec, many1}
+use Rattle.octets.specs.Overlay.{Wrote, then, nothing, wrote-before, same-long}
 use Rattle.names.specs.Ways.{labelForm}
 use Rattle.spelling.specs.Spelling.{plain?, spelled}
 use Rattle.strict.specs.Spelt.{spelledAt, spelledOctet, spelled-avoids, label}
@@ -22,30 +22,30 @@ use Rattle.parse_octets.specs.Octet.{Tells, tells-missing, tells-there, tells-b
 
 -- ---- one at least, where the octet that ends them does not stand at the front: any number
 module _ {A : Type 0} {I : A → Type 0} {f : A → List ℕ} {F : List ℕ
-    → Type 0} (p : Codec I f F) (stop : ℕ) (avoids : Avoids I f stop) (empty : p .parse [] ≡ stuck [])
+    → Type 0} (p : Codec I f F) (stop : ℕ) (avoids : Avoids I f stop) (empty : p .parse [] ≡ failed [])
     (fits₁ : (r : List ℕ) → F (stop ∷ r)) (fits₂ : (b : A) (r : List ℕ) → I b → F (f b ++ r)) where
-  pub several-run : (t w : List ℕ) → strip (stop ∷ []) t ≡ stuck w
-      → several avoids fits₁ fits₂ p .parse t ≡ run-of stop p t
+  pub several-run : (t w : List ℕ) → strip (stop ∷ []) t ≡ failed w
+      → many1 avoids fits₁ fits₂ p .parse t ≡ run-of stop p t
   several-run t w e = sym (many-once p stop avoids empty t ∙ rw e (go (p .parse t)))
     where
       rest : (a : A) (o : Parsed (List A))
-          → and-then o (λ l r. took (a ∷ l) r) ≡ and-then {A = A × List A} (and-then o λ l r. took (a, l) r)
-          (λ u r. took (u .0 ∷ u .1) r)
-      rest a (took l r) = refl
-      rest a (stuck v) = refl
+          → and-then o (λ l r. parsed (a ∷ l) r) ≡ and-then {A = A × List A} (and-then o λ l r. parsed (a, l) r)
+          (λ u r. parsed (u .0 ∷ u .1) r)
+      rest a (parsed l r) = refl
+      rest a (failed v) = refl
 
-      go : (o : Parsed A) → and-then o (λ a w. and-then (run-of stop p w) λ l r. took (a ∷ l) r)
-          ≡ and-then {A = A × List A} (and-then o λ a w. and-then (run-of stop p w) λ l r. took (a, l) r)
-          (λ u r. took (u .0 ∷ u .1) r)
-      go (took a w) = rest a (run-of stop p w)
-      go (stuck v) = refl
+      go : (o : Parsed A) → and-then o (λ a w. and-then (run-of stop p w) λ l r. parsed (a ∷ l) r)
+          ≡ and-then {A = A × List A} (and-then o λ a w. and-then (run-of stop p w) λ l r. parsed (a, l) r)
+          (λ u r. parsed (u .0 ∷ u .1) r)
+      go (parsed a w) = rest a (run-of stop p w)
+      go (failed v) = refl
 
 -- ---- the octets of a label, and the dot
 pub dotless : Avoids (λ x. x < 256) spelled 46
 unfolding plain?
 dotless = spelled-avoids 46 tt tt
 
-octet-empty : spelledOctet .parse [] ≡ stuck []
+octet-empty : spelledOctet .parse [] ≡ failed []
 unfolding spelledOctet spelledAt
 octet-empty = refl
 
@@ -56,15 +56,15 @@ label-run {t} {at} e d = several-run spelledOctet 46 dotless octet-empty (λ r. 
     (no-strip 46 [] e d)
 
 -- no label begins with a dot, nor with a quote
-pub label-dot : {t : List ℕ} {at x : ℕ} → Byte t at x → x ≡ 46 → label .parse (drop at t) ≡ stuck (drop at t)
+pub label-dot : {t : List ℕ} {at x : ℕ} → Byte t at x → x ≡ 46 → label .parse (drop at t) ≡ failed (drop at t)
 unfolding label spelledOctet spelledAt plain?
 label-dot e d = rw (from-byte e (inside e (omega arith)), d)
 
-pub label-quote : {t : List ℕ} {at x : ℕ} → Byte t at x → x ≡ 34 → label .parse (drop at t) ≡ stuck (drop at t)
+pub label-quote : {t : List ℕ} {at x : ℕ} → Byte t at x → x ≡ 34 → label .parse (drop at t) ≡ failed (drop at t)
 unfolding label spelledOctet spelledAt plain?
 label-quote e d = rw (from-byte e (inside e (omega arith)), d)
 
-pub label-empty : label .parse [] ≡ stuck []
+pub label-empty : label .parse [] ≡ failed []
 unfolding label spelledOctet spelledAt
 label-empty = refl
 
@@ -130,7 +130,7 @@ label-none b to h e d =
 module _ {t : List ℕ} {start : ℕ} {b : List ℕ} {to at n : ℕ} {out : List ℕ} (w : Letters t start b to at n out) where
   -- the dot after them
   module _ {x y : ℕ} (e : Byte t start x) (d : x ≡ 46 → ⊥) (f : Byte t at y) (g : y ≡ 46) where
-    ends : label .parse (drop start t) ≡ took (w .l) (drop (at + 1) t)
+    ends : label .parse (drop start t) ≡ parsed (w .l) (drop (at + 1) t)
     ends = going-end spelledOctet 46 dotless octet-empty (w .goes) (inside f (omega arith)) (sym (f .is) ∙ g)
 
     moved : at ≡ start → ⊥
@@ -150,7 +150,7 @@ module _ {t : List ℕ} {start : ℕ} {b : List ℕ} {to at n : ℕ} {out : List
     letters-end k v = record {
       tells = tells-there ends refl record {
         size = w .size;
-        wrote = λ h. let s = w .size in rw (← s) (before (omega arith) (w .wrote h) v);
+        wrote = λ h. let s = w .size in rw (← s) (wrote-before (omega arith) (w .wrote h) v);
       };
       within = omega (arith, inside f (omega arith));
       onward = omega (arith, w .onward);

@@ -55,7 +55,7 @@ any p (x ∷ l) = p x || any p l
 -- in a section where one entry alone is of TYPE 41 or not, an EDNS element is there or not, a record that could be one
 -- is there or not
 abbrev pub settledBy : Bool → Bool → Bool → Bool
-settledBy lone shown hidden = (not shown || lone) && not (hidden && lone)
+settledBy lone shown eligible = (not shown || lone) && not (eligible && lone)
 
 -- ---- the head
 abbrev pub highMeant? : ℕ × (ℕ × (ℕ × (ℕ × ℕ))) → Bool

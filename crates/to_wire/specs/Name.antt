@@ -11,8 +11,8 @@ use lib.ListN.{length, drop, length-append}
 use Rattle.octets.specs.Lists.{none?, all, All, each, ended}
 use Rattle.octets.specs.Bits.{is-true, both, and-left, and-right, all→All, All→all, All-append, All-left, All-right}
 use Rattle.octets.specs.Bits.{octets-test}
-use Rattle.octets.specs.Parsed.{took, stuck, strip}
-use Rattle.octets.specs.Codec.{Avoids, Any, OneOrMore, Codec, exact, several}
+use Rattle.octets.specs.Parsed.{parsed, failed, strip}
+use Rattle.octets.specs.Codec.{Avoids, Any, OneOrMore, Codec, exact, many1}
 use Rattle.octets.specs.Overlay.{Wrote, then, nothing, same-long}
 use Rattle.names.specs.Name.{Name, nameForm, label?, name?}
 use Rattle.names.specs.NameLaws.{label-short}
@@ -21,8 +21,8 @@ use Rattle.spelling.specs.Spelling.{plain?, labelText}
 use Rattle.strict.specs.Grammar.{Label}
 use Rattle.strict.specs.Spelt.{label, label-avoids, rootOrLabels, name}
 use Rattle.parse_tokens.specs.declared.Cursor.{Cursor}
-use Rattle.parse_tokens.specs.Cursor.{left-of, Safe, Passed, Came, Stopped, reads-stop, reads-took, Got}
-use Rattle.parse_tokens.specs.Step.{Found, found-stuck, Put, put-from, each-last, none-last, Held, Emits, Judged}
+use Rattle.parse_tokens.specs.Cursor.{left-of, Safe, Passed, Advanced, FailedAt, reads-stop, reads-parsed, Got}
+use Rattle.parse_tokens.specs.Step.{Found, found-failed, Put, put-from, each-last, none-last, Held, Emits, Judged}
 use Rattle.parse_tokens.specs.Leaf.{passed-place, found-quoted}
 use Rattle.parse_tokens.specs.Choice.{further}
 use Rattle.parse_tokens.specs.Many.{le-or-lt, run-of, Going, going-start, going-end, going-more, going-stop}
@@ -79,7 +79,7 @@ unfolding plain?
 quoteless = label-avoids 34 tt tt
 
 unfoldable pub labelList : Codec (OneOrMore Label) (ended labelText 34) Any
-labelList = several quoteless (λ r. tt) (λ b r h. tt) label
+labelList = many1 quoteless (λ r. tt) (λ b r h. tt) label
 
 list-run : {t : List ℕ} {at x : ℕ} → Byte t at x → (x ≡ 34 → ⊥)
     → labelList .parse (drop at t) ≡ run-of 34 label (drop at t)
@@ -87,7 +87,7 @@ unfolding labelList
 list-run {t} {at} e d = several-run label 34 quoteless label-empty (λ r. tt) (λ b r h. tt) (drop at t) (drop at t)
     (no-strip 34 [] e d)
 
-list-stuck : (w : List ℕ) → label .parse w ≡ stuck w → labelList .parse w ≡ stuck w
+list-stuck : (w : List ℕ) → label .parse w ≡ failed w → labelList .parse w ≡ failed w
 unfolding labelList
 list-stuck w e = rw e
 
@@ -157,8 +157,8 @@ module _ {t : List ℕ} {start : ℕ} {b : List ℕ} {to at size : ℕ} {out : L
   sized : size ≤ 254 → length (nameForm (w .l)) ≡ size + 1
   sized h = omega (arith, form-length (w .l), w .wrote h .place)
 
-  small : T (name? (w .l)) → size ≤ 254
-  small h = ⊎-elim (λ k. k) (λ k. absurd (w .over k h)) (le-or-lt size 254)
+  bounded : T (name? (w .l)) → size ≤ 254
+  bounded h = ⊎-elim (λ k. k) (λ k. absurd (w .over k h)) (le-or-lt size 254)
 
   -- the quote after them
   pub labels-end : {x y : ℕ} {b′ : List ℕ} {m : ℕ} → Byte t start x → (x ≡ 34 → ⊥) → Byte t at y → y ≡ 34
@@ -264,7 +264,7 @@ module _ {t : List ℕ} {start : ℕ} {b : List ℕ} {to at size : ℕ} {out : L
           overs h t =
               let m = got .holds .size in
               let y = label-short a (name-last (w .l) a t) in
-              let x = sized (small (name-less (w .l) a t)) in
+              let x = sized (bounded (name-less (w .l) a t)) in
               omega (arith, k .over h (omega arith), form-last (w .l) a, name-size (w .l) a t)
 
 -- ---- the root or labels, and the quote
@@ -272,32 +272,32 @@ abbrev pub RootOrLabels : (t : List ℕ) (c : Cursor) (b : List ℕ) (r : Cursor
 RootOrLabels t c b r b′ =
     Found (rootOrLabels .parse) (λ n. Put name? nameForm c b r b′ n × (none? n ≡ eqb (r .at) (c .at + 2))) t c r
 
-name-root : (w r : List ℕ) → strip (46 ∷ 34 ∷ []) w ≡ took tt r → rootOrLabels .parse w ≡ took [] r
+name-root : (w r : List ℕ) → strip (46 ∷ 34 ∷ []) w ≡ parsed tt r → rootOrLabels .parse w ≡ parsed [] r
 unfolding rootOrLabels
 name-root w r e = rw e
 
-name-list : (w : List ℕ) {u r : List ℕ} {n : Name} → strip (46 ∷ 34 ∷ []) w ≡ stuck u → labelList .parse w ≡ took n r
-    → rootOrLabels .parse w ≡ took n r
+name-list : (w : List ℕ) {u r : List ℕ} {n : Name} → strip (46 ∷ 34 ∷ []) w ≡ failed u → labelList .parse w ≡ parsed n r
+    → rootOrLabels .parse w ≡ parsed n r
 unfolding rootOrLabels labelList
 name-list w e d = rw (e, d)
 
 name-neither : (t : List ℕ) (at m n : ℕ) → m ≤ length t → n ≤ length t
-    → strip (46 ∷ 34 ∷ []) (drop at t) ≡ stuck (drop m t) → labelList .parse (drop at t) ≡ stuck (drop n t)
-    → rootOrLabels .parse (drop at t) ≡ stuck (drop (cond (ltb m n) n m) t)
+    → strip (46 ∷ 34 ∷ []) (drop at t) ≡ failed (drop m t) → labelList .parse (drop at t) ≡ failed (drop n t)
+    → rootOrLabels .parse (drop at t) ≡ failed (drop (cond (ltb m n) n m) t)
 unfolding rootOrLabels labelList
 name-neither t at m n h k e d = rw (e, d, further t m n h k)
 
 module _ {t : List ℕ} {c : Cursor} (h : Safe t c) where
-  pub name-stuck : {b b′ : List ℕ} → not (c .spelled) ≡ true → RootOrLabels t c b c b′
-  name-stuck g = found-stuck (rootOrLabels .parse) t c h (not-true _ g)
+  pub name-stuck : {b b′ : List ℕ} → not (c .grammatical) ≡ true → RootOrLabels t c b c b′
+  name-stuck g = found-failed (rootOrLabels .parse) t c h (not-true _ g)
 
   -- the root
-  module _ {x : ℕ} (g : c .spelled ≡ true) (e : Byte t (c .at) x) (d : x ≡ 46) {r : Cursor}
+  module _ {x : ℕ} (g : c .grammatical ≡ true) (e : Byte t (c .at) x) (d : x ≡ 46) {r : Cursor}
       (q : Passed (46 ∷ 34 ∷ []) t c r) where
-    stripped : (b : Bool) → r .spelled ≡ b → strip (46 ∷ 34 ∷ []) (drop (c .at) t) ≡ left-of b (drop (r .at) t)
+    stripped : (b : Bool) → r .grammatical ≡ b → strip (46 ∷ 34 ∷ []) (drop (c .at) t) ≡ left-of b (drop (r .at) t)
     stripped b k = sym (rw (k, g) at (q .left))
 
-    pub root-bad : {b b′ : List ℕ} → not (r .spelled) ≡ true → RootOrLabels t c b r b′
+    pub root-bad : {b b′ : List ℕ} → not (r .grammatical) ≡ true → RootOrLabels t c b r b′
     root-bad k = record {
       reads = reads-stop (rw g (name-neither t (c .at) (r .at) (c .at) (q .keeps .safe .inside) (h .inside)
           (stripped false (not-true _ k)) (list-stuck (drop (c .at) t) (label-dot e d))
@@ -305,17 +305,21 @@ module _ {t : List ℕ} {c : Cursor} (h : Safe t c) where
       moves = record { safe = q .keeps .safe; onward = q .keeps .onward };
     }
 
-    pub root-is : {b b′ : List ℕ} {s : Cursor} → not (r .spelled) ≡ false → Emits (0 ∷ []) r b s b′
+    pub root-is : {b b′ : List ℕ} {s : Cursor} → not (r .grammatical) ≡ false → Emits (0 ∷ []) r b s b′
         → RootOrLabels t c b s b′
     unfolding name? nameForm
     root-is {b} {b′} {s} k m =
         let z = stripped true (not-false _ k) in
         let f = passed-place q (not-false _ k) in
         let put : Put name? nameForm r b s b′ [] =
-        record { meant = m .meant ∙ sym (and-true (r .meant)); small = λ k. m .small; wrote = λ k. m .wrote } in
         record {
-          reads = reads-took {a = []} (rw g (name-root (drop (c .at) t) (drop (r .at) t) z))
-              (m .spelled ∙ not-false _ k) (m .at) (
+          meaningful = m .meaningful ∙ sym (and-true (r .meaningful));
+          bounded = λ k. m .bounded;
+          wrote = λ k. m .wrote;
+        } in
+        record {
+          reads = reads-parsed {a = []} (rw g (name-root (drop (c .at) t) (drop (r .at) t) z))
+              (m .grammatical ∙ not-false _ k) (m .at) (
                 put-from (q .keeps) put,
                 sym (eq-eqb (s .at) (c .at + 2) (m .at ∙ f)),
               );
@@ -326,13 +330,13 @@ module _ {t : List ℕ} {c : Cursor} (h : Safe t c) where
         }
 
 -- labels
-module _ {t : List ℕ} {c : Cursor} {b b′ : List ℕ} {x : ℕ} {p : Part} (h : Safe t c) (g : not (c .spelled) ≡ false)
+module _ {t : List ℕ} {c : Cursor} {b b′ : List ℕ} {x : ℕ} {p : Part} (h : Safe t c) (g : not (c .grammatical) ≡ false)
     (e : Byte t (c .at) x) (d : x ≡ 46 → ⊥) (q : LabelsAt t (c .at) b (c .to) p b′) where
-  pub name-bad : {r : Cursor} → not (p .found) ≡ true → Stopped c (p .at) r → RootOrLabels t c b r b′
+  pub name-bad : {r : Cursor} → not (p .found) ≡ true → FailedAt c (p .at) r → RootOrLabels t c b r b′
   name-bad {r} k s = record {
-    reads = reads-stop (rw (not-false (c .spelled) g)
+    reads = reads-stop (rw (not-false (c .grammatical) g)
         (name-neither t (c .at) (c .at) (p .at) (h .inside) (q .within) (no-strip 46 (34 ∷ []) e d)
-        (tells-bad (q .tells) (not-true _ k)) ∙ ap (λ n. stuck (drop n t)) (last (ltb (c .at) (p .at)) refl))) (s .is)
+        (tells-bad (q .tells) (not-true _ k)) ∙ ap (λ n. failed (drop n t)) (last (ltb (c .at) (p .at)) refl))) (s .is)
         (s .at);
     moves = record {
       safe = record { inside = omega (arith, s .at, q .within); room = omega (arith, s .to, h .room) };
@@ -344,11 +348,11 @@ module _ {t : List ℕ} {c : Cursor} {b b′ : List ℕ} {x : ℕ} {p : Part} (h
       last true f = refl
       last false f = omega (arith, q .onward, ltb-false (c .at) (p .at) f)
 
-  pub name-is : {r s u : Cursor} → not (p .found) ≡ false → Came c (p .at) r → Held (p .size) r s
+  pub name-is : {r s u : Cursor} → not (p .found) ≡ false → Advanced c (p .at) r → Held (p .size) r s
       → Judged (leb (p .size) 255) s u → RootOrLabels t c b u b′
   name-is {r} {s} {u} k m v j = record {
-    reads = reads-took (rw (not-false (c .spelled) g)
-        (name-list (drop (c .at) t) (no-strip 46 (34 ∷ []) e d) (got .is))) (j .spelled ∙ v .spelled ∙ m .is)
+    reads = reads-parsed (rw (not-false (c .grammatical) g)
+        (name-list (drop (c .at) t) (no-strip 46 (34 ∷ []) e d) (got .is))) (j .grammatical ∙ v .grammatical ∙ m .is)
         (j .at ∙ v .at ∙ m .at) (put, far);
     moves = record {
       safe = record {
@@ -366,21 +370,22 @@ module _ {t : List ℕ} {c : Cursor} {b b′ : List ℕ} {x : ℕ} {p : Part} (h
       far = got .holds .some
           ∙ sym (ne-eqb (u .at) (c .at + 2) (λ z. omega (arith, j .at, v .at, m .at, q .further (not-false _ k))))
 
-      meant : u .meant ≡ (c .meant && name? (got .value))
-      meant = j .meant ∙ rw (v .meant, m .meant, got .holds .fits)
+      meaningful : u .meaningful ≡ (c .meaningful && name? (got .value))
+      meaningful = j .meaningful ∙ rw (v .meaningful, m .meaningful, got .holds .fits)
 
-      fits : T (u .meant) → p .size ≤ 255
-      fits z = leb→le (p .size) 255 (and-right (s .meant) _ (subst T (j .meant) z))
+      fits : T (u .meaningful) → p .size ≤ 255
+      fits z = leb→le (p .size) 255 (and-right (s .meaningful) _ (subst T (j .meaningful) z))
 
-      size : T (u .meant) → p .size ≡ length (nameForm (got .value))
+      size : T (u .meaningful) → p .size ≡ length (nameForm (got .value))
       size z = omega (arith, got .holds .wrote (fits z) .place)
 
       put : Put name? nameForm c b u b′ (got .value)
       put = record {
-        meant = meant;
-        small = λ z. j .small ∙ v .small ∙ rw (m .small, m .to) (ap (λ n. c .small && leb (c .to + n) 65535) (size z));
+        meaningful = meaningful;
+        bounded = λ z. j .bounded ∙ v .bounded
+            ∙ rw (m .bounded, m .to) (ap (λ n. c .bounded && leb (c .to + n) 65535) (size z));
         wrote = λ z y. record {
-          place = omega (arith, j .to, v .to (subst T (j .small) y), m .to, size z);
+          place = omega (arith, j .to, v .to (subst T (j .bounded) y), m .to, size z);
           text = got .holds .wrote (fits z) .text;
         };
       }

@@ -11,9 +11,9 @@ use lib.ListN.{length, take, drop}
 use Rattle.octets.specs.Lists.{ascii, all, none?, Octets, u8?, u16?, u32?, paired, lookup}
 use Rattle.octets.specs.Bits.{is-true, and-left, and-right, octets-test}
 use Rattle.octets.specs.Fields.{be16, be32}
-use Rattle.octets.specs.Parsed.{Parsed, took, stuck, and-then, strip}
+use Rattle.octets.specs.Parsed.{Parsed, parsed, failed, and-then, strip}
 use Rattle.octets.specs.Codec.{_▷_, _⊗_, _◁_}
-use Rattle.octets.specs.Decimal.{natural, number, till}
+use Rattle.octets.specs.Decimal.{natural, number, numberThen}
 use Rattle.octets.specs.Hexadecimal.{hex}
 use Rattle.names.specs.Name.{Name, name?, nameForm}
 use Rattle.records.specs.Layout.{layouts, layoutOf, rdataAt, rdataFits?}
@@ -52,7 +52,7 @@ WordRead t c b r b′ = Found natural (λ n. Put u16? be16 c b (r .cursor) b′ 
 pub word-read : {t : List ℕ} {c d : Cursor} {n : Amount} {b b′ : List ℕ} → NumberRead t c n
     → Done (λ m. n .value ≡ capped m) u16? be16 (n .cursor) b d b′
     → WordRead t c b (record { cursor = d; value = n .value }) b′
-word-read x w = found-at (x .found) (w .at) (w .spelled) (w .room) λ m e. (put-from (x .keeps) (w .put m e), e)
+word-read x w = found-at (x .found) (w .at) (w .grammatical) (w .room) λ m e. (put-from (x .keeps) (w .put m e), e)
 
 -- ---- questions
 pub question-read : {t b b₁ b₂ b₃ : List ℕ} {c d e f g r : Cursor} {k l : Amount}
@@ -74,12 +74,12 @@ question-read p n q k s l z =
 abbrev pub typeOr0 : ℕ → ℕ
 typeOr0 value = cond (ltb 65535 value) 0 value
 
-pub record RdataRead (kind : ℕ) (t : List ℕ) (c : Cursor) (b : List ℕ) (r : Span) (b′ : List ℕ) : Type 0 where
-  pub found : Found (hex .parse) (λ l. ((n : ℕ) → kind ≡ capped n
+pub record RdataRead (rtype : ℕ) (t : List ℕ) (c : Cursor) (b : List ℕ) (r : Span) (b′ : List ℕ) : Type 0 where
+  pub found : Found (hex .parse) (λ l. ((n : ℕ) → rtype ≡ capped n
       → Put (rdataFits? n) (λ l. be16 (length l) ++ l) c b (r .cursor) b′ l) × HexRun t r l) t c (r .cursor)
   pub so-far : List ℕ
   pub run : HexRun t r so-far
-  pub still : T (r .cursor .meant) → T (c .meant)
+  pub still : T (r .cursor .meaningful) → T (c .meaningful)
 
 pub kind-over : {v : ℕ} → 65535 < v → 0 ≡ typeOr0 v
 kind-over {v} h = rw (lt-ltb 65535 v h)
@@ -113,22 +113,23 @@ run-at : {t l : List ℕ} {s : Span} (r : Cursor) → HexRun t s l
     → HexRun t (record { cursor = r; from = s .from; end = s .end }) l
 run-at r h = record { digits = h .digits; octets = h .octets; ordered = h .ordered; within = h .within; long = h .long }
 
-pub rdata-read : {kind f n : ℕ} {t b b₁ b₂ h : List ℕ} {c d e r : Cursor} {s : Span} {ok : Bool} → HexRead t c s
-    → h ≡ take (s .end - s .from) (drop (s .from) t) → f ≡ typeOr0 kind → ok ≡ rdataFits? f (paired h)
+pub rdata-read : {rtype f n : ℕ} {t b b₁ b₂ h : List ℕ} {c d e r : Cursor} {s : Span} {ok : Bool} → HexRead t c s
+    → h ≡ take (s .end - s .from) (drop (s .from) t) → f ≡ typeOr0 rtype → ok ≡ rdataFits? f (paired h)
     → Judged ok (s .cursor) d → n ≡ sizeOf s → Emits ((n / 256 % 256) ∷ (n % 256) ∷ []) d b e b₁
     → Done (HexRun t s) (λ l. true) (λ l. l) e b₁ r b₂
-    → RdataRead kind t c b (record { cursor = r; from = s .from; end = s .end }) b₂
-rdata-read {kind} {f} {n} {t} {b} {b₁} {b₂} {h} {c} {d} {e} {r} {s} {ok} x g k o j i y z = record {
-  found = found-at (x .found) (z .at ∙ y .at ∙ j .at) (z .spelled ∙ y .spelled ∙ j .spelled) (z .room) told;
+    → RdataRead rtype t c b (record { cursor = r; from = s .from; end = s .end }) b₂
+rdata-read {rtype} {f} {n} {t} {b} {b₁} {b₂} {h} {c} {d} {e} {r} {s} {ok} x g k o j i y z = record {
+  found = found-at (x .found) (z .at ∙ y .at ∙ j .at) (z .grammatical ∙ y .grammatical ∙ j .grammatical) (z .room) told;
   so-far = x .so-far;
   run = run-at r (x .run);
-  still = λ m. subst T (x .keeps .meant)
-      (and-left (s .cursor .meant) ok
-      (subst T (y .meant ∙ j .meant) (and-left (e .meant) true (subst T (z .put (x .so-far) (x .run) .meant) m))));
+  still = λ m. subst T (x .keeps .meaningful)
+      (and-left (s .cursor .meaningful) ok
+      (subst T (y .meaningful ∙ j .meaningful)
+      (and-left (e .meaningful) true (subst T (z .put (x .so-far) (x .run) .meaningful) m))));
 }
   where
     told : (l : List ℕ) → HexRun t s l
-        → ((m : ℕ) → kind ≡ capped m → Put (rdataFits? m) (λ l. be16 (length l) ++ l) c b r b₂ l)
+        → ((m : ℕ) → rtype ≡ capped m → Put (rdataFits? m) (λ l. be16 (length l) ++ l) c b r b₂ l)
         × HexRun t (record { cursor = r; from = s .from; end = s .end }) l
     told l v = (put, run-at r v)
       where
@@ -138,10 +139,10 @@ rdata-read {kind} {f} {n} {t} {b} {b₁} {b₂} {h} {c} {d} {e} {r} {s} {ok} x g
         size : n ≡ length l
         size = omega (arith, i, v .long)
 
-        judged : (m : ℕ) → kind ≡ capped m → ok ≡ rdataFits? m l
+        judged : (m : ℕ) → rtype ≡ capped m → ok ≡ rdataFits? m l
         judged m q = o ∙ rw (k, octets, q) (kind-fits m l)
 
-        put : (m : ℕ) → kind ≡ capped m → Put (rdataFits? m) (λ l. be16 (length l) ++ l) c b r b₂ l
+        put : (m : ℕ) → rtype ≡ capped m → Put (rdataFits? m) (λ l. be16 (length l) ++ l) c b r b₂ l
         put m q = put-as (sym (and-true (rdataFits? m l))) (rw (← size))
             (put-then (put-emit {wire = λ l. []}
             (put-judged {wire = λ l. []} {ok = λ l. true} {ok′ = rdataFits? m}
@@ -149,73 +150,75 @@ rdata-read {kind} {f} {n} {t} {b} {b₁} {b₂} {h} {c} {d} {e} {r} {s} {ok} x g
 
 -- ---- records
 abbrev pub tailParse : List ℕ → Parsed (Signed × List ℕ)
-tailParse = (till ",\"RDATAHEX\":" tt signedNumber ⊗ hex ◁ "}") .parse
+tailParse = (numberThen ",\"RDATAHEX\":" tt signedNumber ⊗ hex ◁ "}") .parse
 
 -- TTL and RDATA were read, of a record of a TYPE whose owner is the root or not
-pub record Tail (kind : ℕ) (root : Bool) (rcode : ℕ) (c : Cursor) (b : List ℕ) (r : Entry) (b′ : List ℕ)
+pub record Tail (rtype : ℕ) (root : Bool) (rcode : ℕ) (c : Cursor) (b : List ℕ) (r : Entry) (b′ : List ℕ)
     (u : Signed × List ℕ) : Type 0 where
-  pub put : (n : ℕ) → kind ≡ capped n
+  pub put : (n : ℕ) → rtype ≡ capped n
       → Put (λ u. ttl? (u .0) && rdataFits? n (u .1)) (λ u. be32 (unsigned (u .0))
       ++ (be16 (length (u .1)) ++ u .1)) c b
       (r .cursor) b′ u
   pub signed : SignedNumber (u .0)
   pub octets : Octets (u .1)
-  pub opt : r .opt ≡ eqb kind 41
+  pub opt : r .opt ≡ eqb rtype 41
   pub shown : r .shown ≡ false
-  pub hidden : T (r .cursor .meant) → r .hidden ≡ (eqb kind 41 && showsEdns root (unsigned (u .0)) rcode (u .1))
+  pub eligible : T (r .cursor .meaningful)
+      → r .eligible ≡ (eqb rtype 41 && showsEdns root (unsigned (u .0)) rcode (u .1))
 
 abbrev pub TailRead : ℕ → Bool → ℕ → List ℕ → Cursor → List ℕ → Entry → List ℕ → Type 0
-TailRead kind root rcode t c b r b′ = Found tailParse (Tail kind root rcode c b r b′) t c (r .cursor)
+TailRead rtype root rcode t c b r b′ = Found tailParse (Tail rtype root rcode c b r b′) t c (r .cursor)
 
 -- whether the RDATA of a span, of a record of this TYPE, is an EDNS element
-pub record CouldBeElement (kind : ℕ) (root : Bool) (bits rcode : ℕ) (t : List ℕ) (s : Span) (r : Bool) : Type 0 where
-  pub shows : r ≡ (eqb kind 41 && showsEdns root bits rcode (paired (take (s .end - s .from) (drop (s .from) t))))
+pub record CouldBeElement (rtype : ℕ) (root : Bool) (bits rcode : ℕ) (t : List ℕ) (s : Span) (r : Bool) : Type 0 where
+  pub shows : r ≡ (eqb rtype 41 && showsEdns root bits rcode (paired (take (s .end - s .from) (drop (s .from) t))))
 
-pub shows-not : {kind bits rcode : ℕ} {root : Bool} {t : List ℕ} {s : Span} → (kind ≡ 41 → ⊥)
-    → CouldBeElement kind root bits rcode t s false
-shows-not {kind} h = record { shows = rw (ne-eqb kind 41 h) }
+pub shows-not : {rtype bits rcode : ℕ} {root : Bool} {t : List ℕ} {s : Span} → (rtype ≡ 41 → ⊥)
+    → CouldBeElement rtype root bits rcode t s false
+shows-not {rtype} h = record { shows = rw (ne-eqb rtype 41 h) }
 
-pub shows-edns-of : {kind bits rcode : ℕ} {root r : Bool} {t : List ℕ} {s : Span} → kind ≡ 41
+pub shows-edns-of : {rtype bits rcode : ℕ} {root r : Bool} {t : List ℕ} {s : Span} → rtype ≡ 41
     → r ≡ showsEdns root bits rcode (paired (take (s .end - s .from) (drop (s .from) t)))
-    → CouldBeElement kind root bits rcode t s r
-shows-edns-of {kind} e f = record { shows = f ∙ rw (eq-eqb kind 41 e) }
+    → CouldBeElement rtype root bits rcode t s r
+shows-edns-of {rtype} e f = record { shows = f ∙ rw (eq-eqb rtype 41 e) }
 
-pub tail-read : {kind rcode : ℕ} {root h : Bool} {t b b₁ b₂ : List ℕ} {c d e r : Cursor} {v : Ttl} {s : Span}
+pub tail-read : {rtype rcode : ℕ} {root h : Bool} {t b b₁ b₂ : List ℕ} {c d e r : Cursor} {v : Ttl} {s : Span}
     → SignedRead t c v → Done (TtlKept (v .fits) (v .bits)) ttl? (λ s. be32 (unsigned s)) (v .cursor) b d b₁
-    → Passed (ascii ",\"RDATAHEX\":") t d e → RdataRead kind t e b₁ s b₂
-    → Passed (ascii "}") t (s .cursor) r → CouldBeElement kind root (v .bits) rcode t s h
-    → TailRead kind root rcode t c b (record { cursor = r; opt = eqb kind 41; shown = false; hidden = h }) b₂
-tail-read {kind} {rcode} {root} {h} {t} {b} {b₁} {b₂} {c} {d} {e} {r} {v} {s} x w q y z g =
+    → Passed (ascii ",\"RDATAHEX\":") t d e → RdataRead rtype t e b₁ s b₂
+    → Passed (ascii "}") t (s .cursor) r → CouldBeElement rtype root (v .bits) rcode t s h
+    → TailRead rtype root rcode t c b (record { cursor = r; opt = eqb rtype 41; shown = false; eligible = h }) b₂
+tail-read {rtype} {rcode} {root} {h} {t} {b} {b₁} {b₂} {c} {d} {e} {r} {v} {s} x w q y z g =
     found-as (found-pair (found-behind (found-sound signedNumber ttl) q) (found-behind (y .found) z)) told
   where
     ttl : Found (signedNumber .parse) (λ a. Put ttl? (λ s. be32 (unsigned s)) c b d b₁ a
         × TtlKept (v .fits) (v .bits) a) t c d
-    ttl = found-at (x .found) (w .at) (w .spelled) (w .room) λ a k. (put-from (x .keeps) (w .put a k), k)
+    ttl = found-at (x .found) (w .at) (w .grammatical) (w .room) λ a k. (put-from (x .keeps) (w .put a k), k)
 
     told : (u : Signed × List ℕ)
         → (SignedNumber (u .0)
         × (Put ttl? (λ s. be32 (unsigned s)) c b d b₁ (u .0) × TtlKept (v .fits) (v .bits) (u .0)))
-        × (((n : ℕ) → kind ≡ capped n → Put (rdataFits? n) (λ l. be16 (length l) ++ l) e b₁ (s .cursor) b₂ (u .1))
+        × (((n : ℕ) → rtype ≡ capped n → Put (rdataFits? n) (λ l. be16 (length l) ++ l) e b₁ (s .cursor) b₂ (u .1))
         × HexRun t s (u .1))
-        → Tail kind root rcode c b (record { cursor = r; opt = eqb kind 41; shown = false; hidden = h }) b₂ u
+        → Tail rtype root rcode c b (record { cursor = r; opt = eqb rtype 41; shown = false; eligible = h }) b₂ u
     told u k = record {
       put = all;
       signed = k .0 .0;
       octets = k .1 .1 .octets;
       opt = refl;
       shown = refl;
-      hidden = λ m. g .shows ∙ rw (run-octets (k .1 .1), k .0 .1 .1 .1 (in-range m));
+      eligible = λ m. g .shows ∙ rw (run-octets (k .1 .1), k .0 .1 .1 .1 (in-range m));
     }
       where
-        all : (n : ℕ) → kind ≡ capped n
+        all : (n : ℕ) → rtype ≡ capped n
             → Put (λ u. ttl? (u .0) && rdataFits? n (u .1)) (λ u. be32 (unsigned (u .0))
             ++ (be16 (length (u .1)) ++ u .1)) c b r b₂ u
         all n i = put-then (k .0 .1 .0) (put-to (put-from (q .keeps) (k .1 .0 n i)) (z .keeps))
 
-        in-range : T (r .meant) → T (v .fits)
+        in-range : T (r .meaningful) → T (v .fits)
         in-range m =
-            let e′ : T (e .meant) = y .still (subst T (z .keeps .meant) m) in
-            subst T (sym (k .0 .1 .1 .0)) (and-right (c .meant) _ (subst T (q .keeps .meant ∙ k .0 .1 .0 .meant) e′))
+            let e′ : T (e .meaningful) = y .still (subst T (z .keeps .meaningful) m) in
+            subst T (sym (k .0 .1 .1 .0))
+            (and-right (c .meaningful) _ (subst T (q .keeps .meaningful ∙ k .0 .1 .0 .meaningful) e′))
 
 -- a record from its owner on
 abbrev Fields : Type 0
@@ -225,23 +228,25 @@ abbrev recordFrom : Fields → RecordItem
 recordFrom (n, (t, (c, (l, d)))) = record { name = n; type = t; class = c; ttl = l; rdata = d }
 
 abbrev fieldsParse : List ℕ → Parsed Fields
-fieldsParse = (name ⊗ ",\"TYPE\":" ▷ till ",\"CLASS\":" tt number ⊗ till ",\"TTL\":" tt number ⊗ till ",\"RDATAHEX\":"
+fieldsParse = (name ⊗ ",\"TYPE\":" ▷ numberThen ",\"CLASS\":" tt number ⊗ numberThen ",\"TTL\":" tt number ⊗ numberThen
+    ",\"RDATAHEX\":"
     tt signedNumber ⊗ hex ◁ "}") .parse
 
 unfoldable pub recordRest : List ℕ → Parsed RecordItem
-recordRest w = and-then (fieldsParse w) λ u r. took (recordFrom u) r
+recordRest w = and-then (fieldsParse w) λ u r. parsed (recordFrom u) r
 
 pub entry-parse : (w : List ℕ) → recordCodec .parse w ≡ and-then (strip (ascii "{\"NAME\":") w) (λ u r. recordRest r)
 unfolding recordCodec recordRest
 entry-parse w = go (strip (ascii "{\"NAME\":") w)
   where
     go : (o : Parsed (Unit {0})) → and-then (and-then (and-then o (λ u r. name .parse r))
-        (λ a w. and-then ((",\"TYPE\":" ▷ till ",\"CLASS\":" tt number ⊗ till ",\"TTL\":" tt number ⊗ till
-        ",\"RDATAHEX\":" tt signedNumber ⊗ hex ◁ "}") .parse w) λ b r. took (a, b) r))
-        (λ u r. took (recordFrom u) r)
-        ≡ and-then o (λ u r. and-then (fieldsParse r) λ u r. took (recordFrom u) r)
-    go (took u r) = refl
-    go (stuck r) = refl
+        (λ a w. and-then ((",\"TYPE\":" ▷ numberThen ",\"CLASS\":" tt number ⊗ numberThen ",\"TTL\":" tt number ⊗
+        numberThen
+        ",\"RDATAHEX\":" tt signedNumber ⊗ hex ◁ "}") .parse w) λ b r. parsed (a, b) r))
+        (λ u r. parsed (recordFrom u) r)
+        ≡ and-then o (λ u r. and-then (fieldsParse r) λ u r. parsed (recordFrom u) r)
+    go (parsed u r) = refl
+    go (failed r) = refl
 
 -- what is reported of an entry
 pub record Facts {A : Type 0} (ok : A → Bool) (wire : A → List ℕ) (opt shown hides : A
@@ -249,7 +254,7 @@ pub record Facts {A : Type 0} (ok : A → Bool) (wire : A → List ℕ) (opt sho
   pub put : Put ok wire c b (r .cursor) b′ a
   pub is-opt : r .opt ≡ opt a
   pub is-shown : r .shown ≡ shown a
-  pub is-hidden : T (r .cursor .meant) → r .hidden ≡ hides a
+  pub is-hidden : T (r .cursor .meaningful) → r .eligible ≡ hides a
 
 abbrev pub RecordFacts : ℕ → Cursor → List ℕ → Entry → List ℕ → RecordItem → Type 0
 RecordFacts rcode = Facts recordMeant? recordOctets (λ r. opt? (itemRecord r)) (λ r. false) (hides? rcode)
@@ -322,7 +327,7 @@ record-read {rcode} {root} {t} {b} {b₁} {b₂} {b₃} {b₄} {c} {d} {f} {g} {
       put = put-as (record-judged u (v .1 .1 .1 .signed) (v .1 .1 .1 .octets)) (wire u) all;
       is-opt = v .1 .1 .1 .opt ∙ rw (v .1 .0 .1) (capped-is (u .1 .0) 41 (omega arith));
       is-shown = v .1 .1 .1 .shown;
-      is-hidden = λ m. v .1 .1 .1 .hidden m ∙ hides u (v .0 .1 ∙ sym (three-behind (c .at) (d .at) (n .moves .onward))
+      is-hidden = λ m. v .1 .1 .1 .eligible m ∙ hides u (v .0 .1 ∙ sym (three-behind (c .at) (d .at) (n .moves .onward))
           ∙ sym e) (v .1 .0 .1);
     }
       where

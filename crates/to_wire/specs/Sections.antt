@@ -17,8 +17,8 @@ use Rattle.strict.specs.Grammar.{QuestionIn, RecordIn, ItemIn}
 use Rattle.strict.specs.Parser.{questionCodec, recordCodec, itemCodec, question-avoids, entry-avoids, item-avoids}
 use Rattle.strict.specs.Meaning.{itemRecord}
 use Rattle.parse_tokens.specs.declared.Cursor.{Cursor}
-use Rattle.parse_tokens.specs.Cursor.{Safe, keeps-same, Passed, Came}
-use Rattle.parse_tokens.specs.Step.{Found, found-as, found-lit, found-stuck, Put, put-from, put-to, put-nothing}
+use Rattle.parse_tokens.specs.Cursor.{Safe, keeps-same, Passed, Advanced}
+use Rattle.parse_tokens.specs.Step.{Found, found-as, found-lit, found-failed, Put, put-from, put-to, put-nothing}
 use Rattle.parse_tokens.specs.Step.{put-last}
 use Rattle.parse_tokens.specs.Step.{all-last, Step}
 use Rattle.parse_tokens.specs.Leaf.{found-same}
@@ -89,14 +89,14 @@ abbrev pub OneRead : Element → ℕ → List ℕ → Cursor → List ℕ → En
 OneRead e rcode t c b r b′ = Found (codecOf e .parse) (OneFacts e rcode c b r b′) t c (r .cursor)
 
 -- ---- one entry
-abbrev pub AskedRead : List ℕ → Cursor → List ℕ → Entry → List ℕ → Type 0
-AskedRead = OneRead Questions 0
+abbrev pub QuestionEntryRead : List ℕ → Cursor → List ℕ → Entry → List ℕ → Type 0
+QuestionEntryRead = OneRead Questions 0
 
 abbrev pub TitledRead : ℕ → List ℕ → Cursor → List ℕ → Entry → List ℕ → Type 0
 TitledRead = OneRead Records
 
 pub asked-read : {t b b′ : List ℕ} {c r : Cursor} → Step question? questionForm (questionCodec .parse) t c b r b′
-    → AskedRead t c b (record { cursor = r; opt = false; shown = false; hidden = false }) b′
+    → QuestionEntryRead t c b (record { cursor = r; opt = false; shown = false; eligible = false }) b′
 asked-read x = found-as x λ a h. record { put = h; is-opt = refl; is-shown = refl; is-hidden = λ k. refl }
 
 pub titled-read : (rcode : ℕ) {t b b′ : List ℕ} {c d : Cursor} {r : Entry} → Passed (ascii "{\"NAME\":") t c d
@@ -111,7 +111,7 @@ titled-read rcode q x =
     }))
 
 pub one-asked : {e : Element} (rcode : ℕ) {t b b′ : List ℕ} {c : Cursor} {r : Entry} → e ≡ Questions
-    → AskedRead t c b r b′ → OneRead e rcode t c b r b′
+    → QuestionEntryRead t c b r b′ → OneRead e rcode t c b r b′
 one-asked rcode {t} {b} {b′} {c} {r} h x = subst (λ e. OneRead e rcode t c b r b′) (sym h) x
 
 pub one-titled : {e : Element} (rcode : ℕ) {t b b′ : List ℕ} {c : Cursor} {r : Entry} → e ≡ Records
@@ -187,7 +187,7 @@ pub record SectionFacts (e : Element) (rcode : ℕ) (c : Cursor) (b : List ℕ) 
   pub counted : r .count ≡ atMost65536 (length l)
   pub opts : r .opts ≡ atMost65536 (count (thingOpt e) l)
   pub shown : r .shown ≡ any (shownOf e) l
-  pub hidden : T (r .cursor .meant) → r .hidden ≡ any (hidesOf rcode e) l
+  pub eligible : T (r .cursor .meaningful) → r .eligible ≡ any (hidesOf rcode e) l
 
 abbrev pub InsideRead : Element → ℕ → List ℕ → Cursor → List ℕ → Section → List ℕ → Type 0
 InsideRead e rcode t c b r b′ = Found (insideParse e) (SectionFacts e rcode c b r b′) t c (r .cursor)
@@ -199,7 +199,8 @@ SectionRead e rcode t c b r b′ = Found (arrayParse e) (SectionFacts e rcode c 
 pub record Gathered (e : Element) (rcode : ℕ) (t : List ℕ) (c : Cursor) (b : List ℕ) (d : Cursor) (first : Bool)
     (n o : ℕ) (s h : Bool) (b′ : List ℕ) : Type 0 where
   pub items : Items (codecOf e) 93
-      (SectionFacts e rcode c b (record { cursor = d; count = n; opts = o; shown = s; hidden = h }) b′) t c true d first
+      (SectionFacts e rcode c b (record { cursor = d; count = n; opts = o; shown = s; eligible = h }) b′) t c true d
+      first
   pub few : n ≤ 65536
   pub few-opts : o ≤ 65536
   pub long : length b′ ≡ length b
@@ -213,11 +214,11 @@ avoids Additionals = item-avoids
 apart : (e : Element) → Avoids (In e) (λ a. 44 ∷ thingText e a) 93
 apart e a r s h q = fronts tt q
 
-pub inside-stopped : {e : Element} (rcode : ℕ) {t b : List ℕ} {c : Cursor} → Safe t c → not (c .spelled) ≡ true
-    → InsideRead e rcode t c b (record { cursor = c; count = 0; opts = 0; shown = false; hidden = false }) b
-inside-stopped {e} rcode {t} {c = c} f g = found-stuck (insideParse e) t c f (not-true (c .spelled) g)
+pub inside-stopped : {e : Element} (rcode : ℕ) {t b : List ℕ} {c : Cursor} → Safe t c → not (c .grammatical) ≡ true
+    → InsideRead e rcode t c b (record { cursor = c; count = 0; opts = 0; shown = false; eligible = false }) b
+inside-stopped {e} rcode {t} {c = c} f g = found-failed (insideParse e) t c f (not-true (c .grammatical) g)
 
-module _ {e : Element} (rcode : ℕ) {t b : List ℕ} {c : Cursor} (g : not (c .spelled) ≡ false) where
+module _ {e : Element} (rcode : ℕ) {t b : List ℕ} {c : Cursor} (g : not (c .grammatical) ≡ false) where
   -- before the first turn
   pub gathered-start : Safe t c → Gathered e rcode t c b c true 0 0 false false b
   unfolding each
@@ -227,7 +228,7 @@ module _ {e : Element} (rcode : ℕ) {t b : List ℕ} {c : Cursor} (g : not (c .
       counted = omega arith;
       opts = omega arith;
       shown = refl;
-      hidden = λ m. refl;
+      eligible = λ m. refl;
     };
     few = omega arith;
     few-opts = omega arith;
@@ -237,30 +238,31 @@ module _ {e : Element} (rcode : ℕ) {t b : List ℕ} {c : Cursor} (g : not (c .
   module _ {d : Cursor} {first : Bool} {n o : ℕ} {s h : Bool} {b′ : List ℕ}
       (w : Gathered e rcode t c b d first n o s h b′) where
     -- the bracket
-    pub inside-end : {r : Cursor} {v : ℕ} → Byte t (d .at) v → v ≡ 93 → Came d (d .at + 1) r
-        → InsideRead e rcode t c b (record { cursor = r; count = n; opts = o; shown = s; hidden = h }) b′
+    pub inside-end : {r : Cursor} {v : ℕ} → Byte t (d .at) v → v ≡ 93 → Advanced d (d .at + 1) r
+        → InsideRead e rcode t c b (record { cursor = r; count = n; opts = o; shown = s; eligible = h }) b′
     inside-end k p m = items-end (codecOf e) 93 (avoids e) (apart e) t g (w .items) k p (omega arith) m
         λ z l x. record {
           put = put-to (x .put) z;
           counted = x .counted;
           opts = x .opts;
           shown = x .shown;
-          hidden = λ y. x .hidden (subst T (z .meant) y);
+          eligible = λ y. x .eligible (subst T (z .meaningful) y);
         }
 
     module _ {y : Entry} {b″ : List ℕ} (z : NextRead e first rcode t d b′ y b″) where
       -- neither an entry nor the bracket
-      pub inside-no : {r : Section} {v : ℕ} → Byte t (d .at) v → (v ≡ 93 → ⊥) → not (y .cursor .spelled) ≡ true
+      pub inside-no : {r : Section} {v : ℕ} → Byte t (d .at) v → (v ≡ 93 → ⊥) → not (y .cursor .grammatical) ≡ true
           → r .cursor ≡ y .cursor → InsideRead e rcode t c b r b″
       inside-no k p j q = rw q (items-stop (codecOf e) 93 (avoids e) (apart e) t g (w .items) z k p j)
 
-      module _ (j : not (y .cursor .spelled) ≡ false) where
+      module _ (j : not (y .cursor .grammatical) ≡ false) where
         pub gathered-far : d .at < y .cursor .at
         gathered-far = items-far (codecOf e) 93 (avoids e) (apart e) t g (w .items) z j
 
         -- one more
         pub gathered-more : {n′ o′ : ℕ} {s′ h′ : Bool} → n′ ≡ atMost65536 (n + bit true)
-            → o′ ≡ atMost65536 (o + bit (y .opt)) → s′ ≡ (s || y .shown) → h′ ≡ (h || y .hidden) → length b″ ≡ length b′
+            → o′ ≡ atMost65536 (o + bit (y .opt)) → s′ ≡ (s || y .shown) → h′ ≡ (h || y .eligible)
+            → length b″ ≡ length b′
             → Gathered e rcode t c b (y .cursor) false n′ o′ s′ h′ b″
         gathered-more {n′} {o′} {s′} {h′} en eo es eh same = record {
           items = items-more (codecOf e) 93 (avoids e) (apart e) t g (w .items) z j more;
@@ -270,17 +272,20 @@ module _ {e : Element} (rcode : ℕ) {t b : List ℕ} {c : Cursor} (g : not (c .
         }
           where
             more : (l : List (Thing e)) (a : Thing e)
-                → SectionFacts e rcode c b (record { cursor = d; count = n; opts = o; shown = s; hidden = h }) b′ l
+                → SectionFacts e rcode c b (record { cursor = d; count = n; opts = o; shown = s; eligible = h }) b′ l
                 → OneFacts e rcode d b′ y b″ a
                 → SectionFacts e rcode c b
-                (record { cursor = y .cursor; count = n′; opts = o′; shown = s′; hidden = h′ }) b″ (l ++ (a ∷ []))
+                (record { cursor = y .cursor; count = n′; opts = o′; shown = s′; eligible = h′ }) b″ (l ++ (a ∷ []))
             more l a x f = record {
               put = put-last l a (all-last (meantOf rcode e) l a) (x .put) (f .put);
               counted = omega (arith, en, x .counted, length-append l (a ∷ []));
               opts = eo ∙ ap (λ v. atMost65536 (o + bit v)) (f .is-opt)
                   ∙ tallied (bit (thingOpt e a)) (count-snoc (thingOpt e) l a);
               shown = es ∙ rw (x .shown, f .is-shown) (sym (any-snoc (shownOf e) l a));
-              hidden = λ m. eh ∙ rw (x .hidden (and-left (d .meant) _ (subst T (f .put .meant) m)), f .is-hidden m)
+              eligible = λ m. eh ∙ rw (
+                x .eligible (and-left (d .meaningful) _ (subst T (f .put .meaningful) m)),
+                f .is-hidden m,
+              )
                   (sym (any-snoc (hidesOf rcode e) l a));
             }
               where
@@ -296,5 +301,5 @@ section-read e rcode q x =
       counted = h .counted;
       opts = h .opts;
       shown = h .shown;
-      hidden = h .hidden;
+      eligible = h .eligible;
     })

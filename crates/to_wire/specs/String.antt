@@ -8,11 +8,12 @@ use borrow.Author.Tests.{not-true, not-false, eq-eqb, ne-eqb, eqb-true, eqb-fals
 use lib.Dec.{eqb}
 use lib.ListN.{length, drop}
 use Rattle.octets.specs.Lists.{none?}
-use Rattle.octets.specs.Parsed.{stuck}
+use Rattle.octets.specs.Parsed.{failed}
 use Rattle.strict.specs.Spelt.{stringAt, stringChar, stringOctet-avoids, stringChars, string}
 use Rattle.parse_tokens.specs.declared.Cursor.{Cursor}
-use Rattle.parse_tokens.specs.Cursor.{Safe, Passed, keeps-same, Came, Stopped, went-keeps, reads-stop, reads-took, Got}
-use Rattle.parse_tokens.specs.Step.{Found, Moves, found-stuck, Put, put-as, put-to, put-nothing, none-last, put-emit}
+use Rattle.parse_tokens.specs.Cursor.{Safe, Passed, keeps-same, Advanced, FailedAt, went-keeps, reads-stop}
+use Rattle.parse_tokens.specs.Cursor.{reads-parsed, Got}
+use Rattle.parse_tokens.specs.Step.{Found, Moves, found-failed, Put, put-as, put-to, put-nothing, none-last, put-emit}
 use Rattle.parse_tokens.specs.Step.{Emits}
 use Rattle.parse_tokens.specs.Leaf.{found-quoted}
 use Rattle.parse_tokens.specs.Many.{run-of, Going, going-start, going-end, going-more, going-stop}
@@ -21,7 +22,7 @@ use Rattle.parse_octets.specs.declared.Letter.{Letter}
 use Rattle.parse_octets.specs.Octet.{tells-bad, tells-got, LetterAt}
 
 -- ---- the octets of a string, and the quote
-char-empty : stringChar .parse [] ≡ stuck []
+char-empty : stringChar .parse [] ≡ failed []
 unfolding stringChar stringAt
 char-empty = refl
 
@@ -33,30 +34,31 @@ abbrev pub CharsRead : (t : List ℕ) (c : Cursor) (b : List ℕ) (r : Cursor) (
 CharsRead t c b r b′ =
     Found (stringChars .parse) (λ l. Put (λ l. true) (λ l. l) c b r b′ l × (none? l ≡ eqb (r .at) (c .at + 1))) t c r
 
-pub chars-stuck : {t : List ℕ} {c : Cursor} {b b′ : List ℕ} → Safe t c → not (c .spelled) ≡ true → CharsRead t c b c b′
-chars-stuck {t} {c} h g = found-stuck (stringChars .parse) t c h (not-true _ g)
+pub chars-stuck : {t : List ℕ} {c : Cursor} {b b′ : List ℕ} → Safe t c → not (c .grammatical) ≡ true
+    → CharsRead t c b c b′
+chars-stuck {t} {c} h g = found-failed (stringChars .parse) t c h (not-true _ g)
 
 -- the reader came from c to `at`, and the octet `v` was written
 pub record Added (c : Cursor) (at v : ℕ) (b : List ℕ) (r : Cursor) (b′ : List ℕ) : Type 0 where
   pub mid : Cursor
-  pub came : Came c at mid
+  pub came : Advanced c at mid
   pub emits : Emits (v ∷ []) mid b r b′
 
 -- the octets so far
 pub record Chars (t : List ℕ) (c : Cursor) (b : List ℕ) (d : Cursor) (out : List ℕ) : Type 0 where
   pub l : List ℕ
   pub goes : Going (run-of 34 stringChar) t (stringChars .parse (drop (c .at) t)) (d .at) l
-  pub spelled : d .spelled ≡ true
+  pub grammatical : d .grammatical ≡ true
   pub put : Put (λ l. true) (λ l. l) c b d out l
   pub moves : Moves t c d
   pub place : none? l ≡ eqb (d .at) (c .at)
   pub long : length out ≡ length b
 
-pub chars-start : (t : List ℕ) (c : Cursor) (b : List ℕ) → Safe t c → not (c .spelled) ≡ false → Chars t c b c b
+pub chars-start : (t : List ℕ) (c : Cursor) (b : List ℕ) → Safe t c → not (c .grammatical) ≡ false → Chars t c b c b
 chars-start t c b h g = record {
   l = [];
   goes = record { goes = chars-run (drop (c .at) t) ∙ going-start (run-of 34 stringChar) t (c .at) .goes };
-  spelled = not-false _ g;
+  grammatical = not-false _ g;
   put = put-nothing b (keeps-same h) refl refl;
   moves = record { safe = h; onward = omega arith };
   place = sym (eq-eqb (c .at) (c .at) refl);
@@ -64,14 +66,14 @@ chars-start t c b h g = record {
 }
 
 module _ {t : List ℕ} {c : Cursor} {b : List ℕ} {d : Cursor} {out : List ℕ} (w : Chars t c b d out)
-    (g : not (c .spelled) ≡ false) {y : ℕ} (f : Byte t (d .at) y) where
+    (g : not (c .grammatical) ≡ false) {y : ℕ} (f : Byte t (d .at) y) where
   -- the quote after them
-  pub chars-end : {r : Cursor} → y ≡ 34 → Came d (d .at + 1) r → CharsRead t c b r out
+  pub chars-end : {r : Cursor} → y ≡ 34 → Advanced d (d .at + 1) r → CharsRead t c b r out
   chars-end {r} k s =
       let h = inside f (omega arith) in
       let keeps = went-keeps (w .moves .safe) s (omega arith) (omega arith) in
       record {
-        reads = reads-took (rw (not-false (c .spelled) g)
+        reads = reads-parsed (rw (not-false (c .grammatical) g)
             (going-end stringChar 34 stringOctet-avoids char-empty (w .goes) h (sym (f .is) ∙ k))) (s .is) (s .at)
             (put-to (w .put) keeps, w .place ∙ next (eqb (d .at) (c .at)) refl);
         moves = record { safe = keeps .safe; onward = omega (arith, keeps .onward, w .moves .onward) };
@@ -83,12 +85,12 @@ module _ {t : List ℕ} {c : Cursor} {b : List ℕ} {d : Cursor} {out : List ℕ
 
   module _ (k : y ≡ 34 → ⊥) {o : Letter} (q : LetterAt stringAt t (d .at) o) where
     -- no octet
-    pub chars-bad : {r : Cursor} → not (o .found) ≡ true → Stopped d (o .at) r → CharsRead t c b r out
+    pub chars-bad : {r : Cursor} → not (o .found) ≡ true → FailedAt d (o .at) r → CharsRead t c b r out
     unfolding stringChar
     chars-bad {r} m s =
         let keeps = went-keeps (w .moves .safe) s (q .onward) (q .within) in
         record {
-          reads = reads-stop (rw (not-false (c .spelled) g)
+          reads = reads-stop (rw (not-false (c .grammatical) g)
               (going-stop stringChar 34 stringOctet-avoids char-empty (w .goes) (λ z. k (f .is ∙ z))
               (tells-bad (q .tells) (not-true _ m)))) (s .is) (s .at);
           moves = record { safe = keeps .safe; onward = omega (arith, keeps .onward, w .moves .onward) };
@@ -109,7 +111,7 @@ module _ {t : List ℕ} {c : Cursor} {b : List ℕ} {d : Cursor} {out : List ℕ
       record {
         l = w .l ++ (got .value ∷ []);
         goes = rw e (going-more stringChar 34 stringOctet-avoids char-empty (w .goes) (got .is));
-        spelled = a .emits .spelled ∙ a .came .is;
+        grammatical = a .emits .grammatical ∙ a .came .is;
         put = put-as refl (ap (λ v. w .l ++ (v ∷ [])) (sym (got .holds))) (put-emit (put-to (w .put) keeps) (a .emits));
         moves = record {
           safe = record { inside = omega (arith, e, q .within); room = a .emits .room };

@@ -14,16 +14,16 @@ use Rattle.octets.specs.Lists.{ascii, all, each, none?, u8?, u16?, u32?, paired
 use Rattle.octets.specs.Fields.{be16, be32}
 use Rattle.octets.specs.Hexadecimal.{hexText, hex, hexText-avoids}
 use Rattle.octets.specs.Decimal.{decimal, natural, number, number-avoids}
-use Rattle.octets.specs.Parsed.{Parsed, took, stuck, and-then, strip}
+use Rattle.octets.specs.Parsed.{Parsed, parsed, failed, and-then, strip}
 use Rattle.octets.specs.Codec.{Avoids, fronts}
 use Rattle.octets.specs.Overlay.{Wrote, nothing, then}
-use Rattle.options.specs.Options.{Form, hexObject, octetList, expiry, hexList, word, padding, wordList, extendedError}
-use Rattle.options.specs.Options.{unlisted, Value, formOf, zero?}
+use Rattle.options.specs.Options.{Syntax, hexObject, octetList, expiry, hexList, word, padding, wordList, extendedError}
+use Rattle.options.specs.Options.{unlisted, Value, syntaxOf, zero?}
 use Rattle.strict.specs.Members.{octetsOf, value?, optional, paddingOctets, cookie?, padding?, text?}
 use Rattle.strict.specs.Parser.{value, expiryNumber}
 use Rattle.strict.specs.Spelt.{string}
 use Rattle.parse_tokens.specs.declared.Cursor.{Cursor}
-use Rattle.parse_tokens.specs.Cursor.{left-of, reads-stop, keeps-same, went-keeps, Safe, Passed, Came, Stopped}
+use Rattle.parse_tokens.specs.Cursor.{left-of, reads-stop, keeps-same, went-keeps, Safe, Passed, Advanced, FailedAt}
 use Rattle.parse_tokens.specs.Step.{Found, Put, Step, Held, held-room, Judged, found-as, found-at, found-lit}
 use Rattle.parse_tokens.specs.Step.{found-behind}
 use Rattle.parse_tokens.specs.Step.{found-pair, put-from, put-to, put-as, put-judged, put-nothing, put-last, all-last}
@@ -69,11 +69,11 @@ sizeOf h = (h .end - h .from) / 2
 
 -- written from a place on, unless they go past the limit
 module _ {t : List ℕ} {h : Span} {c r : Cursor} {size : ℕ} (e : size ≡ sizeOf h) (k : Held size c r) where
-  pub hex-room : HexSpan t h → not (r .small) ≡ false
+  pub hex-room : HexSpan t h → not (r .bounded) ≡ false
       → c .to + length (take (h .end - h .from) (drop (h .from) t)) < 2 ^ 40
   hex-room d z = omega (arith, e, held-room k z, length-take (h .end - h .from) (drop (h .from) t))
 
-  pub hex-past : {b : List ℕ} → not (r .small) ≡ true → Done (HexRun t h) (λ l. true) (λ l. l) c b r b
+  pub hex-past : {b : List ℕ} → not (r .bounded) ≡ true → Done (HexRun t h) (λ l. true) (λ l. l) c b r b
   hex-past z = done-past k z λ l x. let s : length l ≡ size = omega (arith, e, x .long) in rw s
 
   pub hex-put : {end : ℕ} {b b′ : List ℕ} → Wrote b (c .to) (paired (take (h .end - h .from) (drop (h .from) t))) b′ end
@@ -113,7 +113,7 @@ pub record Numerals (wide : Bool) (t : List ℕ) (c : Cursor) (b : List ℕ) (d 
   pub items : Items number 93 (Put (all (numeral? wide)) (each (numeralForm wide)) c b d out) t c true d first
   pub long : length out ≡ length b
 
-module _ {wide : Bool} {t : List ℕ} {c : Cursor} {b : List ℕ} (g : not (c .spelled) ≡ false) where
+module _ {wide : Bool} {t : List ℕ} {c : Cursor} {b : List ℕ} (g : not (c .grammatical) ≡ false) where
   pub numerals-start : Safe t c → Numerals wide t c b c true b
   unfolding each
   numerals-start h = record {
@@ -123,7 +123,7 @@ module _ {wide : Bool} {t : List ℕ} {c : Cursor} {b : List ℕ} (g : not (c .s
   }
 
   module _ {d : Cursor} {first : Bool} {out : List ℕ} (w : Numerals wide t c b d first out) where
-    pub numerals-end : {x : ℕ} {r : Cursor} → Byte t (d .at) x → x ≡ 93 → Came d (d .at + 1) r
+    pub numerals-end : {x : ℕ} {r : Cursor} → Byte t (d .at) x → x ≡ 93 → Advanced d (d .at + 1) r
         → Step (all (numeral? wide)) (each (numeralForm wide)) numeralsParse t c b r out
     numerals-end k e s = items-end number 93 (number-avoids 93 tt) number-apart t g (w .items) k e (omega arith) s
         (λ z l h. put-to h z)
@@ -133,14 +133,14 @@ module _ {wide : Bool} {t : List ℕ} {c : Cursor} {b : List ℕ} (g : not (c .s
       one-more : Step (numeral? wide) (numeralForm wide) (item-of number 93 first) t d out r out′
       one-more = step-lit q s
 
-      pub numerals-stop : {x : ℕ} → Byte t (d .at) x → (x ≡ 93 → ⊥) → not (r .spelled) ≡ true
+      pub numerals-stop : {x : ℕ} → Byte t (d .at) x → (x ≡ 93 → ⊥) → not (r .grammatical) ≡ true
           → Step (all (numeral? wide)) (each (numeralForm wide)) numeralsParse t c b r out′
       numerals-stop k z j = items-stop number 93 (number-avoids 93 tt) number-apart t g (w .items) one-more k z j
 
-      pub numerals-far : not (r .spelled) ≡ false → d .at < r .at
+      pub numerals-far : not (r .grammatical) ≡ false → d .at < r .at
       numerals-far j = items-far number 93 (number-avoids 93 tt) number-apart t g (w .items) one-more j
 
-      pub numerals-more : not (r .spelled) ≡ false → length out′ ≡ length out → Numerals wide t c b r false out′
+      pub numerals-more : not (r .grammatical) ≡ false → length out′ ≡ length out → Numerals wide t c b r false out′
       numerals-more j z = record {
         items = items-more number 93 (number-avoids 93 tt) number-apart t g (w .items) one-more j
             (λ l a p q. put-last l a (all-last (numeral? wide) l a) p q);
@@ -154,7 +154,7 @@ octets-each [] = refl
 octets-each (x ∷ l) = ap (λ (z : List ℕ). x ∷ z) (octets-each l)
 
 -- the value of a form
-abbrev pub ValueStep : Form → List ℕ → Cursor → List ℕ → Cursor → List ℕ → Type 0
+abbrev pub ValueStep : Syntax → List ℕ → Cursor → List ℕ → Cursor → List ℕ → Type 0
 ValueStep form t c b r b′ = Step (value? form) (octetsOf form) (value form .parse) t c b r b′
 
 module _ {t : List ℕ} {c r s : Cursor} {b b′ : List ℕ} where
@@ -175,11 +175,11 @@ word-value y = y
 
 -- EXPIRE
 module _ {t : List ℕ} {c r : Cursor} {b : List ℕ} (q : Passed (ascii "\"NONE\"") t c r) where
-  pub expiry-none : r .spelled ≡ true → ValueStep expiry t c b r b
+  pub expiry-none : r .grammatical ≡ true → ValueStep expiry t c b r b
   unfolding value value? octetsOf expiryNumber
   expiry-none g = maybe-none natural q g (put-nothing b (q .keeps) refl refl)
 
-  pub expiry-some : {n : Amount} {s z : Cursor} {b′ : List ℕ} → r .spelled ≡ false → NumberRead t c n
+  pub expiry-some : {n : Amount} {s z : Cursor} {b′ : List ℕ} → r .grammatical ≡ false → NumberRead t c n
       → Done (λ k. n .value ≡ capped k) u32? be32 (n .cursor) b s b′ → Further (r .at) s z
       → ValueStep expiry t c b z b′
   unfolding value value? octetsOf expiryNumber
@@ -198,7 +198,7 @@ hex-object q x d e = step-lit q (step-behind (found-done (x .found) (x .keeps) d
 -- the member and the brace
 abbrev pub lastParse : {A : Type 0} → String → (List ℕ → Parsed A) → List ℕ → Parsed A
 lastParse l p w = and-then (strip (ascii ",") w) λ u w. and-then (strip (ascii l) w) λ u w. and-then
-    (p w) λ a w. and-then (strip (ascii "}") w) λ u r. took a r
+    (p w) λ a w. and-then (strip (ascii "}") w) λ u r. parsed a r
 
 abbrev pub endParse : {A : Type 0} → String → (List ℕ → Parsed A) → List ℕ → Parsed (Option A)
 endParse l p = maybeParse (ascii "}") (lastParse l p)
@@ -218,14 +218,14 @@ pub error-last : {t : List ℕ} {c r s j z : Cursor} {b b′ : List ℕ} {ok : B
     → Passed (ascii "}") t j z → ErrorText t c b z b′
 error-last {t} {c} {r} {s} {j} {z} {b} {b′} {ok} q x k e d =
     found-lits (ascii ",") (ascii "\"TEXT\":") q
-    (found-behind (found-at x (k .at) (k .spelled) (omega (arith, k .to, x .moves .safe .room)) λ l h.
+    (found-behind (found-at x (k .at) (k .grammatical) (omega (arith, k .to, x .moves .safe .room)) λ l h.
     put-to (put-from (q .keeps) (put-judged (h .0) k (rw (h .1) (sym e)))) (d .keeps)) d)
 
 module _ {t : List ℕ} {c r : Cursor} {b : List ℕ} (q : Passed (ascii "}") t c r) where
-  pub error-none : r .spelled ≡ true → Step text? optional errorEnd t c b r b
+  pub error-none : r .grammatical ≡ true → Step text? optional errorEnd t c b r b
   error-none g = maybe-none errorLast q g (put-nothing b (q .keeps) refl refl)
 
-  pub error-some : {s z : Cursor} {b′ : List ℕ} → r .spelled ≡ false → ErrorText t c b s b′ → Further (r .at) s z
+  pub error-some : {s z : Cursor} {b′ : List ℕ} → r .grammatical ≡ false → ErrorText t c b s b′ → Further (r .at) s z
       → Step text? optional errorEnd t c b z b′
   error-some {b′ = b′} g y f = maybe-some errorLast q (λ z. Put text? optional c b z b′) g y f λ l h. put-as refl refl h
 
@@ -264,13 +264,13 @@ abbrev pub Zeros : ℕ → Cursor → List ℕ → Cursor → List ℕ → Type 
 Zeros n = Done (λ k. n ≡ capped k) (λ k. true) (λ k. replicate k 0)
 
 module _ {n : ℕ} {c r : Cursor} {b : List ℕ} (h : Held n c r) where
-  pub zeros-past : not (r .small) ≡ true → Zeros n c b r b
+  pub zeros-past : not (r .bounded) ≡ true → Zeros n c b r b
   zeros-past z = done-past h z λ k e. rw (length-replicate {A = ℕ} k 0) (⊎-elim
       (λ i. let m : k ≡ n = omega (arith, e) in rw m)
       (λ i. lt-leb (c .to + k) 65535 (omega arith) ∙ sym (lt-leb (c .to + n) 65535 (omega (arith, e))))
       (le-or-lt k 65535))
 
-  pub zeros-put : {b′ : List ℕ} {end : ℕ} → not (r .small) ≡ false → Wrote b (c .to) (replicate n 0) b′ end
+  pub zeros-put : {b′ : List ℕ} {end : ℕ} → not (r .bounded) ≡ false → Wrote b (c .to) (replicate n 0) b′ end
       → Zeros n c b r b′
   zeros-put {b′} {end} z w = done-held h λ k e. let m : n ≡ k = omega (arith, e, held-room h z) in
       (length-replicate {A = ℕ} k 0 ∙ sym m, subst (λ (i : ℕ). Wrote b (c .to) (replicate i 0) b′ end) m w)
@@ -313,17 +313,18 @@ pub padding-hex : {n : ℕ} {t : List ℕ} {c r s j z : Cursor} {b b′ : List �
     → PaddingFits t h n ok → Judged ok s j → Passed (ascii "}") t j z → PaddingHex n t c b z b′
 padding-hex {h = h} q x d f k e =
     found-lits (ascii ",") (ascii "\"HEX\":") q
-    (found-behind (found-at (x .found) (k .at ∙ d .at) (k .spelled ∙ d .spelled)
+    (found-behind (found-at (x .found) (k .at ∙ d .at) (k .grammatical ∙ d .grammatical)
     (omega (arith, k .to, d .room)) λ l y m v.
     put-to (put-from (q .keeps) (put-from (x .keeps) (put-judged (d .put l y) k (f .fits m l v y)))) (e .keeps)) e)
 
 module _ {n : ℕ} {t : List ℕ} {c r : Cursor} {b : List ℕ} (q : Passed (ascii "}") t c r) where
-  pub padding-zeros : {s : Cursor} {b′ : List ℕ} → r .spelled ≡ true → Zeros n r b s b′ → PaddingEnd n t c b s b′
+  pub padding-zeros : {s : Cursor} {b′ : List ℕ} → r .grammatical ≡ true → Zeros n r b s b′ → PaddingEnd n t c b s b′
   padding-zeros {s} {b′} g d =
-      found-at (maybe-none paddingLast q {R = λ o. o ≡ none} g refl) (d .at) (d .spelled) (d .room)
+      found-at (maybe-none paddingLast q {R = λ o. o ≡ none} g refl) (d .at) (d .grammatical) (d .room)
       λ o e m v. put-as (rw e) (rw e) (put-from (q .keeps) (d .put m v))
 
-  pub padding-some : {s z : Cursor} {b′ : List ℕ} → r .spelled ≡ false → PaddingHex n t c b s b′ → Further (r .at) s z
+  pub padding-some : {s z : Cursor} {b′ : List ℕ} → r .grammatical ≡ false → PaddingHex n t c b s b′
+      → Further (r .at) s z
       → PaddingEnd n t c b z b′
   padding-some {b′ = b′} g y f = maybe-some paddingLast q (λ z o. (k : ℕ) → n ≡ capped k
       → Put (padding? k) (paddingOctets k) c b z b′ o) g y f λ l h m v. put-as refl refl (h m v)
@@ -390,7 +391,7 @@ pub cookie-string : (i : ℕ) {t : List ℕ} {c s j : Cursor} {b b′ : List ℕ
     → HexRead t c h → Done (HexRun t h) (λ l. true) (λ l. l) (h .cursor) b s b′
     → size ≡ sizeOf h → ok ≡ part? i size → Judged ok s j → CookieStep i t c b j b′
 cookie-string i x d e f k =
-    found-at (x .found) (k .at ∙ d .at) (k .spelled ∙ d .spelled) (omega (arith, k .to, d .room)) λ l y.
+    found-at (x .found) (k .at ∙ d .at) (k .grammatical ∙ d .grammatical) (omega (arith, k .to, d .room)) λ l y.
     put-from (x .keeps) (put-judged (d .put l y) k (ap (part? i) (sym (e ∙ run-size y)) ∙ sym f))
 
 -- the strings found from c to d
@@ -404,7 +405,7 @@ pub record Cookies (t : List ℕ) (c : Cursor) (b : List ℕ) (d : Cursor) (firs
 cookie-apart : Avoids Octets (λ l. 44 ∷ hexText l) 93
 cookie-apart a r s h e = fronts tt e
 
-module _ {t : List ℕ} {c : Cursor} {b : List ℕ} (g : not (c .spelled) ≡ false) where
+module _ {t : List ℕ} {c : Cursor} {b : List ℕ} (g : not (c .grammatical) ≡ false) where
   pub cookies-start : Safe t c → Cookies t c b c true 0 b
   unfolding each
   cookies-start h = record {
@@ -415,27 +416,28 @@ module _ {t : List ℕ} {c : Cursor} {b : List ℕ} (g : not (c .spelled) ≡ fa
   }
 
   module _ {d : Cursor} {first : Bool} {i : ℕ} {out : List ℕ} (w : Cookies t c b d first i out) where
-    pub cookies-end : {x : ℕ} {r j : Cursor} → Byte t (d .at) x → x ≡ 93 → Came d (d .at + 1) r → Judged (ltb 0 i) r j
+    pub cookies-end : {x : ℕ} {r j : Cursor} → Byte t (d .at) x → x ≡ 93 → Advanced d (d .at + 1) r
+        → Judged (ltb 0 i) r j
         → Step cookie? (each (λ h. h)) cookieParse t c b j out
     cookies-end {x} {r} {j} k e s q =
         let y = items-end hex 93 (hexText-avoids 93 tt) cookie-apart t g
         (w .items) {R = λ l. Put (parts? 0) (each (λ h. h)) c b r out l × (i ≡ partAfter 0 l)} k e (omega arith) s
         (λ z l h. (put-to (h .0) z, h .1)) in
-        found-at y (q .at) (q .spelled) (omega (arith, q .to, y .moves .safe .room)) λ l h. put-judged (h .0) q
+        found-at y (q .at) (q .grammatical) (omega (arith, q .to, y .moves .safe .room)) λ l h. put-judged (h .0) q
         (cookie-parts l ∙ ap (λ (n : ℕ). parts? 0 l && ltb 0 n) (sym (h .1)))
 
     module _ {e r : Cursor} {out′ : List ℕ} (q : Passed (comma-of first) t d e) (s : CookieStep i t e out r out′) where
       one-cookie : Step (λ l. part? i (length l)) (λ l. l) (item-of hex 93 first) t d out r out′
       one-cookie = step-lit q s
 
-      pub cookies-stop : {x : ℕ} → Byte t (d .at) x → (x ≡ 93 → ⊥) → not (r .spelled) ≡ true
+      pub cookies-stop : {x : ℕ} → Byte t (d .at) x → (x ≡ 93 → ⊥) → not (r .grammatical) ≡ true
           → Step cookie? (each (λ h. h)) cookieParse t c b r out′
       cookies-stop k z j = items-stop hex 93 (hexText-avoids 93 tt) cookie-apart t g (w .items) one-cookie k z j
 
-      pub cookies-far : not (r .spelled) ≡ false → d .at < r .at
+      pub cookies-far : not (r .grammatical) ≡ false → d .at < r .at
       cookies-far j = items-far hex 93 (hexText-avoids 93 tt) cookie-apart t g (w .items) one-cookie j
 
-      pub cookies-more : {n : ℕ} → not (r .spelled) ≡ false → length out′ ≡ length out → n ≡ next-part i
+      pub cookies-more : {n : ℕ} → not (r .grammatical) ≡ false → length out′ ≡ length out → n ≡ next-part i
           → Cookies t c b r false n out′
       cookies-more {n} j z y = record {
         items = items-more hex 93 (hexText-avoids 93 tt) cookie-apart t g (w .items) one-cookie j
@@ -454,21 +456,21 @@ unfolding value value? octetsOf
 cookie-value q y = step-lit q y
 
 -- ---- a value by its option's code
-pub at-form : {form : Form} (code k : ℕ) {t : List ℕ} {c r : Cursor} {b b′ : List ℕ} → code ≡ k → formOf k ≡ form
-    → ValueStep form t c b r b′ → ValueStep (formOf code) t c b r b′
+pub at-form : {form : Syntax} (code k : ℕ) {t : List ℕ} {c r : Cursor} {b b′ : List ℕ} → code ≡ k → syntaxOf k ≡ form
+    → ValueStep form t c b r b′ → ValueStep (syntaxOf code) t c b r b′
 at-form {form} code k {t} {c} {r} {b} {b′} e d y =
-    subst (λ (f : Form). ValueStep f t c b r b′) (sym (ap formOf e ∙ d)) y
+    subst (λ (f : Syntax). ValueStep f t c b r b′) (sym (ap syntaxOf e ∙ d)) y
 
-pub no-form : (code : ℕ) {t : List ℕ} {c r : Cursor} {b b′ : List ℕ} → formOf code ≡ unlisted → Safe t c
-    → Stopped c (c .at) r → ValueStep (formOf code) t c b r b′
+pub no-form : (code : ℕ) {t : List ℕ} {c r : Cursor} {b b′ : List ℕ} → syntaxOf code ≡ unlisted → Safe t c
+    → FailedAt c (c .at) r → ValueStep (syntaxOf code) t c b r b′
 unfolding value
 no-form code {t} {c} {r} {b} {b′} e h s =
-    subst (λ (f : Form). ValueStep f t c b r b′) (sym e) record {
-      reads = reads-stop (go (c .spelled)) (s .is) (s .at);
+    subst (λ (f : Syntax). ValueStep f t c b r b′) (sym e) record {
+      reads = reads-stop (go (c .grammatical)) (s .is) (s .at);
       moves = moves (went-keeps h s (omega arith) (h .inside));
     }
   where
-    go : (x : Bool) → and-then {B = Value unlisted} (left-of x (drop (c .at) t)) (λ u w. stuck w) ≡ stuck
+    go : (x : Bool) → and-then {B = Value unlisted} (left-of x (drop (c .at) t)) (λ u w. failed w) ≡ failed
         (drop (c .at) t)
     go true = refl
     go false = refl

@@ -9,7 +9,7 @@ use lib.Dec.{T, eqb, ltb→lt, eqb→eq}
 use lib.ListN.{length, drop}
 use Rattle.octets.specs.Lists.{ascii, all, count, each, u16?}
 use Rattle.octets.specs.Bits.{and-left, and-right}
-use Rattle.octets.specs.Parsed.{Parsed, took, and-then, strip}
+use Rattle.octets.specs.Parsed.{Parsed, parsed, and-then, strip}
 use Rattle.records.specs.Message.{Question, header?, question?, questionForm}
 use Rattle.json.specs.Document.{RecordItem, Item, Document}
 use Rattle.strict.specs.Parser.{Head, document}
@@ -34,7 +34,7 @@ use Rattle.to_wire.specs.Head.{Told, HeadRead}
 
 -- where a reading starts
 abbrev pub start : Cursor
-start = record { at = 0; to = 0; spelled = true; meant = true; small = true }
+start = record { at = 0; to = 0; grammatical = true; meaningful = true; bounded = true }
 
 -- ---- a title and an array
 abbrev pub titledParse : List ℕ → (e : Element) → List ℕ → Parsed (List (Thing e))
@@ -51,7 +51,7 @@ array-read e rcode q x =
       counted = h .counted;
       opts = h .opts;
       shown = h .shown;
-      hidden = h .hidden;
+      eligible = h .eligible;
     })
 
 -- ---- what is judged over all
@@ -60,7 +60,7 @@ abbrev pub agreement : Counts → ℕ → ℕ → ℕ → ℕ → Bool
 agreement c q a n r = eqb (c .questions) q && (eqb (c .answers) a && (eqb (c .authority) n && eqb (c .additional) r))
 
 abbrev pub settledSection : Section → Bool
-settledSection s = settledBy (eqb (s .opts) 1) (s .shown) (s .hidden)
+settledSection s = settledBy (eqb (s .opts) 1) (s .shown) (s .eligible)
 
 -- a number of 16 bits is a length exactly if what was kept of both is equal
 count-same : (n m : ℕ) → T (u16? n) → eqb (capped n) (atMost65536 m) ≡ eqb n m
@@ -108,7 +108,7 @@ partsOctets u = headOctets (u .0)
 
 abbrev lastParse : List ℕ → Parsed (List Item)
 lastParse w = and-then (strip (ascii ",\"additionalRRs\":") w)
-    (λ u r. and-then (arrayParse Additionals r) λ a w. and-then (strip (ascii "}") w) λ u r. took a r)
+    (λ u r. and-then (arrayParse Additionals r) λ a w. and-then (strip (ascii "}") w) λ u r. parsed a r)
 
 module _ {t b b₁ b₂ b₃ b₄ b₅ : List ℕ} {h : Header} {q a n r : Section} {e d : Cursor} {f : Bool} where
   pub document-read : HeadRead t start b h b₁
@@ -127,12 +127,12 @@ module _ {t b b₁ b₂ b₃ b₄ b₅ : List ℕ} {h : Header} {q a n r : Secti
       (found-pair z (found-pair w
       (found-same lastParse (λ i. last (strip (ascii ",\"additionalRRs\":") (drop (n .cursor .at) t)))
       (found-behind v l))))))
-      (j .at) (j .spelled) (omega (arith, j .to, l .keeps .safe .room)) told)
+      (j .at) (j .grammatical) (omega (arith, j .to, l .keeps .safe .room)) told)
     where
       last : (o : Parsed (Unit {0}))
           → and-then (and-then o (λ u r. arrayParse Additionals r))
-          (λ a w. and-then (strip (ascii "}") w) λ u r. took a r) ≡ and-then o
-          (λ u r. and-then (arrayParse Additionals r) λ a w. and-then (strip (ascii "}") w) λ u r. took a r)
+          (λ a w. and-then (strip (ascii "}") w) λ u r. parsed a r) ≡ and-then o
+          (λ u r. and-then (arrayParse Additionals r) λ a w. and-then (strip (ascii "}") w) λ u r. parsed a r)
       last o = then-then o _ _
 
       nested : (a b c d : Bool) → (a && b && c && d) ≡ (a && (b && (c && d)))
@@ -165,7 +165,7 @@ module _ {t b b₁ b₂ b₃ b₄ b₅ : List ℕ} {h : Header} {q a n r : Secti
                   → documentMeant? (documentFrom u) ≡ (partsMeant? (h .rcode) u && f)
               by-head false e = rw e
               by-head true e =
-                  let c : h .rcode ≡ u .0 .0 .rcode = k .0 .1 .rcode (subst T (sym (k .0 .0 .meant ∙ e)) tt) in
+                  let c : h .rcode ≡ u .0 .0 .rcode = k .0 .1 .rcode (subst T (sym (k .0 .0 .meaningful ∙ e)) tt) in
                   rw (e, c) (by-rest c (rest (u .0 .0 .rcode)) refl)
                 where
                   by-rest : h .rcode ≡ u .0 .0 .rcode → (x : Bool) → rest (u .0 .0 .rcode) ≡ x
@@ -209,15 +209,15 @@ module _ {t b b₁ b₂ b₃ b₄ b₅ : List ℕ} {h : Header} {q a n r : Secti
                           (eqb (u .0 .1 .1 .1 .0) (length (u .1 .1 .1 .0)))
                           (eqb (u .0 .1 .1 .1 .1) (length (u .1 .1 .1 .1))))
 
-                      all-meant : T (r .cursor .meant)
-                      all-meant = subst T (l .keeps .meant)
-                          (subst T (sym (all-put .meant ∙ ap (λ x. x && rest (h .rcode)) e ∙ ap rest c ∙ d)) tt)
+                      all-meant : T (r .cursor .meaningful)
+                      all-meant = subst T (l .keeps .meaningful)
+                          (subst T (sym (all-put .meaningful ∙ ap (λ x. x && rest (h .rcode)) e ∙ ap rest c ∙ d)) tt)
 
                       settled : settledItems? (documentFrom u) ≡ settledSection r
                       settled = rw (
                         k .1 .1 .1 .1 .opts,
                         k .1 .1 .1 .1 .shown,
-                        k .1 .1 .1 .1 .hidden all-meant,
+                        k .1 .1 .1 .1 .eligible all-meant,
                         c,
                         lone-same (count itemOpt? (u .1 .1 .1 .1)),
                       )

@@ -9,7 +9,8 @@ ghost use Rattle.records.specs.Message.{question?, questionForm};
 ghost use Rattle.strict.specs.Parser.{questionCodec};
 ghost use Rattle.to_wire.specs.Reading.{WordRead, typeOr0, RdataRead, CouldBeElement, TailRead, RecordRead};
 ghost use Rattle.to_wire.specs.Items.{ItemRead};
-ghost use Rattle.to_wire.specs.Sections.{AskedRead, TitledRead, OneRead, NextRead, InsideRead, SectionRead};
+ghost use Rattle.to_wire.specs.Sections.{QuestionEntryRead, TitledRead, OneRead, NextRead, InsideRead};
+ghost use Rattle.to_wire.specs.Sections.{SectionRead};
 ghost use Rattle.to_wire.specs.Sections.{atMost65536, bit};
 use crate::labels::name;
 use crate::members::edns;
@@ -40,11 +41,11 @@ struct Entry {
     cursor: Cursor,
     opt: bool,
     shown: bool,
-    hidden: bool,
+    eligible: bool,
 }
 
 // A number of two octets, and what it is.
-fn word(text: &[u8], c: Cursor, out: &mut [u8]) -> Amount
+fn u16_field(text: &[u8], c: Cursor, out: &mut [u8]) -> Amount
     requires { ⌜ Safe (now text) c ⌝ }
     ensures { λ r. ⌜ WordRead (now (text .entry)) c (now (out .entry)) r (now (out .exit)) ⌝ }
 {
@@ -64,14 +65,14 @@ fn question(text: &[u8], c: Cursor, out: &mut [u8]) -> Cursor
     let start = literal(text, c, b"{\"NAME\":");
     let owner = name(text, start, out);
     let behind = literal(text, owner, b",\"TYPE\":");
-    let kind = word(text, behind, out);
-    let further = literal(text, kind.cursor, b",\"CLASS\":");
-    let class = word(text, further, out);
+    let rtype = u16_field(text, behind, out);
+    let further = literal(text, rtype.cursor, b",\"CLASS\":");
+    let class = u16_field(text, further, out);
     literal(text, class.cursor, b"}")
 }
 
 // A TYPE as it is judged; one that is out of range has no layout.
-fn kind_of(value: u64) -> u32
+fn type_or_0(value: u64) -> u32
     ensures { λ r. ⌜ r ≡ typeOr0 value ⌝ }
 {
     if value > 65535 {
@@ -81,15 +82,15 @@ fn kind_of(value: u64) -> u32
 }
 
 // RDATA of a TYPE: judged, and written after its length.
-fn rdata(text: &[u8], c: Cursor, kind: u64, out: &mut [u8]) -> Span
+fn rdata(text: &[u8], c: Cursor, rtype: u64, out: &mut [u8]) -> Span
     requires { ⌜ Safe (now text) c ⌝ }
-    ensures { λ r. ⌜ RdataRead kind (now (text .entry)) c (now (out .entry)) r (now (out .exit)) ⌝ }
+    ensures { λ r. ⌜ RdataRead rtype (now (text .entry)) c (now (out .entry)) r (now (out .exit)) ⌝ }
 {
     let span = hex(text, c);
     let from = span.from;
     let end = span.end;
     let size = size_of(span);
-    let d = demand(span.cursor, fits_layout(kind_of(kind), &text[from..end]));
+    let d = demand(span.cursor, fits_layout(type_or_0(rtype), &text[from..end]));
     let e = emit(d, &[(size / 256 % 256) as u8, (size % 256) as u8], out);
     Span {
         cursor: put_hex(text, span, e, out),
@@ -99,11 +100,11 @@ fn rdata(text: &[u8], c: Cursor, kind: u64, out: &mut [u8]) -> Span
 }
 
 // Whether a record with these fields and the RDATA of this span could be an EDNS element.
-fn shows_edns(text: &[u8], span: Span, kind: u64, root: bool, bits: u32, rcode: u32) -> bool
+fn shows_edns(text: &[u8], span: Span, rtype: u64, root: bool, bits: u32, rcode: u32) -> bool
     requires { ⌜ HexSpan (now text) span × (rcode < 16) ⌝ }
-    ensures { λ r. ⌜ CouldBeElement kind root bits rcode (now (text .entry)) span r ⌝ }
+    ensures { λ r. ⌜ CouldBeElement rtype root bits rcode (now (text .entry)) span r ⌝ }
 {
-    if kind != 41 {
+    if rtype != 41 {
         return false;
     }
     let from = span.from;
@@ -112,19 +113,19 @@ fn shows_edns(text: &[u8], span: Span, kind: u64, root: bool, bits: u32, rcode: 
 }
 
 // TTL and RDATA, and the end of a record.
-fn tail(text: &[u8], c: Cursor, kind: u64, root: bool, rcode: u32, out: &mut [u8]) -> Entry
+fn ttl_rdata(text: &[u8], c: Cursor, rtype: u64, root: bool, rcode: u32, out: &mut [u8]) -> Entry
     requires { ⌜ Safe (now text) c × (rcode < 16) ⌝ }
-    ensures { λ r. ⌜ TailRead kind root rcode (now (text .entry)) c (now (out .entry)) r (now (out .exit)) ⌝ }
+    ensures { λ r. ⌜ TailRead rtype root rcode (now (text .entry)) c (now (out .entry)) r (now (out .exit)) ⌝ }
 {
     let ttl = signed(text, c);
     let written = put_ttl(ttl.cursor, ttl.bits, ttl.fits, out);
     let title = literal(text, written, b",\"RDATAHEX\":");
-    let span = rdata(text, title, kind, out);
+    let span = rdata(text, title, rtype, out);
     Entry {
         cursor: literal(text, span.cursor, b"}"),
-        opt: kind == 41,
+        opt: rtype == 41,
         shown: false,
-        hidden: shows_edns(text, span, kind, root, ttl.bits, rcode),
+        eligible: shows_edns(text, span, rtype, root, ttl.bits, rcode),
     }
 }
 
@@ -137,27 +138,27 @@ fn record(text: &[u8], c: Cursor, rcode: u32, out: &mut [u8]) -> Entry
     let owner = name(text, c, out);
     let end = owner.at;
     let behind = literal(text, owner, b",\"TYPE\":");
-    let kind = word(text, behind, out);
-    let further = literal(text, kind.cursor, b",\"CLASS\":");
-    let class = word(text, further, out);
+    let rtype = u16_field(text, behind, out);
+    let further = literal(text, rtype.cursor, b",\"CLASS\":");
+    let class = u16_field(text, further, out);
     let title = literal(text, class.cursor, b",\"TTL\":");
-    tail(text, title, kind.value, end - start == 3, rcode, out)
+    ttl_rdata(text, title, rtype.value, end - start == 3, rcode, out)
 }
 
 // An element of the additional section.
-fn item(text: &[u8], c: Cursor, rcode: u32, out: &mut [u8]) -> Entry
+fn additional_element(text: &[u8], c: Cursor, rcode: u32, out: &mut [u8]) -> Entry
     requires { ⌜ Safe (now text) c × (rcode < 16) ⌝ }
     ensures { λ r. ⌜ ItemRead rcode (now (text .entry)) c (now (out .entry)) r (now (out .exit)) ⌝ }
 {
     let ordinary = literal(text, c, b"{\"NAME\":");
     let element = literal(text, c, b"{\"EDNS\":{\"Version\":");
-    if element.spelled {
+    if element.grammatical {
         let end = edns(text, element, rcode, out);
         return Entry {
             cursor: furthest_failure(end, ordinary.at),
             opt: true,
             shown: true,
-            hidden: false,
+            eligible: false,
         };
     }
     let entry = record(text, ordinary, rcode, out);
@@ -165,7 +166,7 @@ fn item(text: &[u8], c: Cursor, rcode: u32, out: &mut [u8]) -> Entry
         cursor: furthest_failure(entry.cursor, element.at),
         opt: entry.opt,
         shown: entry.shown,
-        hidden: entry.hidden,
+        eligible: entry.eligible,
     }
 }
 
@@ -183,19 +184,19 @@ pub struct Section {
     pub count: u64,
     pub opts: u64,
     pub shown: bool,
-    pub hidden: bool,
+    pub eligible: bool,
 }
 
 // A question as an entry.
 fn question_entry(text: &[u8], c: Cursor, out: &mut [u8]) -> Entry
     requires { ⌜ Safe (now text) c ⌝ }
-    ensures { λ r. ⌜ AskedRead (now (text .entry)) c (now (out .entry)) r (now (out .exit)) ⌝ }
+    ensures { λ r. ⌜ QuestionEntryRead (now (text .entry)) c (now (out .entry)) r (now (out .exit)) ⌝ }
 {
     Entry {
         cursor: question(text, c, out),
         opt: false,
         shown: false,
-        hidden: false,
+        eligible: false,
     }
 }
 
@@ -209,14 +210,14 @@ fn record_element(text: &[u8], c: Cursor, rcode: u32, out: &mut [u8]) -> Entry
 }
 
 // One entry of an array.
-fn one(text: &[u8], c: Cursor, element: Element, rcode: u32, out: &mut [u8]) -> Entry
+fn array_entry(text: &[u8], c: Cursor, element: Element, rcode: u32, out: &mut [u8]) -> Entry
     requires { ⌜ Safe (now text) c × (rcode < 16) ⌝ }
     ensures { λ r. ⌜ OneRead element rcode (now (text .entry)) c (now (out .entry)) r (now (out .exit)) ⌝ }
 {
     match element {
         Element::Question => question_entry(text, c, out),
         Element::Record => record_element(text, c, rcode, out),
-        Element::Additional => item(text, c, rcode, out),
+        Element::Additional => additional_element(text, c, rcode, out),
     }
 }
 
@@ -235,11 +236,18 @@ fn count_up(n: u64, more: bool) -> u64
 }
 
 // An entry, and the comma before it; the first has none.
-fn next(text: &[u8], c: Cursor, first: bool, element: Element, rcode: u32, out: &mut [u8]) -> Entry
+fn comma_entry(
+    text: &[u8],
+    c: Cursor,
+    first: bool,
+    element: Element,
+    rcode: u32,
+    out: &mut [u8],
+) -> Entry
     requires { ⌜ Safe (now text) c × (rcode < 16) ⌝ }
     ensures { λ r. ⌜ NextRead element first rcode (now (text .entry)) c (now (out .entry)) r (now (out .exit)) ⌝ }
 {
-    one(text, comma(text, c, first), element, rcode, out)
+    array_entry(text, comma(text, c, first), element, rcode, out)
 }
 
 // The entries of an array, and the bracket after them.
@@ -253,13 +261,13 @@ fn elements(text: &[u8], c: Cursor, element: Element, rcode: u32, out: &mut [u8]
     let mut opts = 0;
     let mut shown = false;
     let mut hidden = false;
-    if !d.spelled {
+    if !d.grammatical {
         return Section {
             cursor: d,
             count: count,
             opts: opts,
             shown: shown,
-            hidden: hidden,
+            eligible: hidden,
         };
     }
     loop {
@@ -270,22 +278,22 @@ fn elements(text: &[u8], c: Cursor, element: Element, rcode: u32, out: &mut [u8]
                 count: count,
                 opts: opts,
                 shown: shown,
-                hidden: hidden,
+                eligible: hidden,
             };
         }
-        let entry = next(text, d, first, element, rcode, out);
+        let entry = comma_entry(text, d, first, element, rcode, out);
         d = entry.cursor;
         count = count_up(count, true);
         opts = count_up(opts, entry.opt);
         shown = either(shown, entry.shown);
-        hidden = either(hidden, entry.hidden);
-        if !d.spelled {
+        hidden = either(hidden, entry.eligible);
+        if !d.grammatical {
             return Section {
                 cursor: d,
                 count: count,
                 opts: opts,
                 shown: shown,
-                hidden: hidden,
+                eligible: hidden,
             };
         }
         first = false;

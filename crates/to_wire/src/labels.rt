@@ -140,11 +140,11 @@ fn labels_at(text: &[u8], start: usize, out: &mut [u8], to: usize) -> Part
 
 // The root and the quote after it.
 fn root(text: &[u8], c: Cursor, out: &mut [u8]) -> Cursor
-    requires { ⌜ Safe (now text) c × ((c .spelled ≡ true) × Byte (now text) (c .at) 46) ⌝ }
+    requires { ⌜ Safe (now text) c × ((c .grammatical ≡ true) × Byte (now text) (c .at) 46) ⌝ }
     ensures { λ r. ⌜ RootOrLabels (now (text .entry)) c (now (out .entry)) r (now (out .exit)) ⌝ }
 {
     let r = literal(text, c, b".\"");
-    if !r.spelled {
+    if !r.grammatical {
         return r;
     }
     emit(r, &[0], out)
@@ -155,7 +155,7 @@ fn root_or_labels(text: &[u8], c: Cursor, out: &mut [u8]) -> Cursor
     requires { ⌜ Safe (now text) c ⌝ }
     ensures { λ r. ⌜ RootOrLabels (now (text .entry)) c (now (out .entry)) r (now (out .exit)) ⌝ }
 {
-    if !c.spelled {
+    if !c.grammatical {
         return c;
     }
     let start = c.at;
@@ -183,7 +183,7 @@ pub fn name(text: &[u8], c: Cursor, out: &mut [u8]) -> Cursor
 }
 
 // Goes on to `at`, and writes the octet.
-fn add(c: Cursor, at: usize, v: u8, out: &mut [u8]) -> Cursor
+fn put_char(c: Cursor, at: usize, v: u8, out: &mut [u8]) -> Cursor
     requires { ⌜ c .to ≤ 65535 ⌝ }
     ensures { λ r. ⌜ Added c at v (now (out .entry)) r (now (out .exit)) ⌝ }
 {
@@ -195,7 +195,7 @@ fn chars(text: &[u8], c: Cursor, out: &mut [u8]) -> Cursor
     requires { ⌜ Safe (now text) c ⌝ }
     ensures { λ r. ⌜ CharsRead (now (text .entry)) c (now (out .entry)) r (now (out .exit)) ⌝ }
 {
-    if !c.spelled {
+    if !c.grammatical {
         return c;
     }
     let mut d = c;
@@ -209,7 +209,7 @@ fn chars(text: &[u8], c: Cursor, out: &mut [u8]) -> Cursor
         if !o.found {
             return fail_at(d, o.at);
         }
-        d = add(d, o.at, o.value, out);
+        d = put_char(d, o.at, o.value, out);
     }
 }
 

@@ -63,7 +63,7 @@ fn settled(section: Section) -> bool
 {
     let lone = section.opts == 1;
     let shown = section.shown;
-    let hidden = section.hidden;
+    let hidden = section.eligible;
     both(either(!shown, lone), !both(hidden, lone))
 }
 
@@ -75,9 +75,9 @@ fn document(text: &[u8], out: &mut [u8]) -> Cursor
     let first = Cursor {
         at: 0,
         to: 0,
-        spelled: true,
-        meant: true,
-        small: true,
+        grammatical: true,
+        meaningful: true,
+        bounded: true,
     };
     let h = head(text, first, out);
     let rcode = h.rcode;
@@ -124,16 +124,16 @@ pub fn read(text: &[u8], message: &mut [u8]) -> Outcome
         (record { input = now (text .entry); before = now (message .entry); answer = r; after = now (message .exit) }) ⌝ }
 {
     let c = document(text, &mut message[..0]);
-    if !c.spelled {
+    if !c.grammatical {
         return Outcome::Refused(20, 0);
     }
     if c.at < text.len() {
         return Outcome::Refused(20, 0);
     }
-    if !c.meant {
+    if !c.meaningful {
         return Outcome::Refused(21, 0);
     }
-    if !c.small {
+    if !c.bounded {
         return Outcome::Refused(22, 0);
     }
     let size = c.to;

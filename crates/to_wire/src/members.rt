@@ -7,7 +7,7 @@ ghost use Rattle.octets.specs.Lists.{all, each};
 ghost use Rattle.octets.specs.Decimal.{natural};
 ghost use Rattle.octets.specs.Overlay.{Wrote};
 ghost use Rattle.options.specs.Options.{hexObject, octetList, expiry, hexList, padding, wordList, extendedError};
-ghost use Rattle.options.specs.Options.{formOf};
+ghost use Rattle.options.specs.Options.{syntaxOf};
 ghost use Rattle.strict.specs.Members.{cookie?, text?, optional};
 ghost use Rattle.strict.specs.Parser.{optionMembers};
 ghost use Rattle.parse_tokens.specs.Cursor.{Safe};
@@ -67,7 +67,7 @@ pub fn put_hex(text: &[u8], h: Span, c: Cursor, out: &mut [u8]) -> Cursor
     ensures { λ r. ⌜ Done (HexRun (now (text .entry)) h) (λ l. true) (λ l. l) c (now (out .entry)) r (now (out .exit)) ⌝ }
 {
     let r = reserve(c, size_of(h));
-    if !r.small {
+    if !r.bounded {
         return r;
     }
     let from = h.from;
@@ -99,7 +99,7 @@ fn numerals(text: &[u8], c: Cursor, wide: bool, out: &mut [u8]) -> Cursor
     ensures { λ r. ⌜ Step (all (numeral? wide)) (each (numeralForm wide)) numeralsParse (now (text .entry)) c
         (now (out .entry)) r (now (out .exit)) ⌝ }
 {
-    if !c.spelled {
+    if !c.grammatical {
         return c;
     }
     let mut d = c;
@@ -111,7 +111,7 @@ fn numerals(text: &[u8], c: Cursor, wide: bool, out: &mut [u8]) -> Cursor
         }
         let next = comma(text, d, first);
         d = numeral(text, next, wide, out);
-        if !d.spelled {
+        if !d.grammatical {
             return d;
         }
         first = false;
@@ -153,7 +153,7 @@ fn expiry(text: &[u8], c: Cursor, out: &mut [u8]) -> Cursor
     ensures { λ r. ⌜ ValueStep expiry (now (text .entry)) c (now (out .entry)) r (now (out .exit)) ⌝ }
 {
     let none = literal(text, c, b"\"NONE\"");
-    if none.spelled {
+    if none.grammatical {
         return none;
     }
     let n = number(text, c);
@@ -202,7 +202,7 @@ fn cookie_strings(text: &[u8], c: Cursor, out: &mut [u8]) -> Cursor
     ensures { λ r. ⌜ Step cookie? (each (λ h. h)) cookieParse (now (text .entry)) c (now (out .entry)) r
         (now (out .exit)) ⌝ }
 {
-    if !c.spelled {
+    if !c.grammatical {
         return c;
     }
     let mut d = c;
@@ -215,7 +215,7 @@ fn cookie_strings(text: &[u8], c: Cursor, out: &mut [u8]) -> Cursor
         }
         let next = comma(text, d, first);
         d = cookie_string(text, next, i, out);
-        if !d.spelled {
+        if !d.grammatical {
             return d;
         }
         first = false;
@@ -252,7 +252,7 @@ fn zeros(c: Cursor, n: u64, out: &mut [u8]) -> Cursor
     ensures { λ r. ⌜ Zeros n c (now (out .entry)) r (now (out .exit)) ⌝ }
 {
     let r = reserve(c, n as usize);
-    if !r.small {
+    if !r.bounded {
         return r;
     }
     let to = c.to;
@@ -289,7 +289,7 @@ fn padding_end(text: &[u8], c: Cursor, n: u64, out: &mut [u8]) -> Cursor
     ensures { λ r. ⌜ PaddingEnd n (now (text .entry)) c (now (out .entry)) r (now (out .exit)) ⌝ }
 {
     let none = literal(text, c, b"}");
-    if none.spelled {
+    if none.grammatical {
         return zeros(none, n, out);
     }
     furthest_failure(padding_hex(text, c, n, out), none.at)
@@ -321,7 +321,7 @@ fn error_end(text: &[u8], c: Cursor, out: &mut [u8]) -> Cursor
     ensures { λ r. ⌜ Step text? optional errorEnd (now (text .entry)) c (now (out .entry)) r (now (out .exit)) ⌝ }
 {
     let none = literal(text, c, b"}");
-    if none.spelled {
+    if none.grammatical {
         return none;
     }
     furthest_failure(error_text(text, c, out), none.at)
@@ -338,9 +338,9 @@ fn extended_error(text: &[u8], c: Cursor, out: &mut [u8]) -> Cursor
 }
 
 // ---- a value by its option's code
-fn value(text: &[u8], c: Cursor, code: u32, out: &mut [u8]) -> Cursor
+fn option_value(text: &[u8], c: Cursor, code: u32, out: &mut [u8]) -> Cursor
     requires { ⌜ Safe (now text) c ⌝ }
-    ensures { λ r. ⌜ ValueStep (formOf code) (now (text .entry)) c (now (out .entry)) r (now (out .exit)) ⌝ }
+    ensures { λ r. ⌜ ValueStep (syntaxOf code) (now (text .entry)) c (now (out .entry)) r (now (out .exit)) ⌝ }
 {
     match code {
         3 => hex_object(text, c, out),
@@ -397,7 +397,7 @@ fn listed_option(text: &[u8], c: Cursor, code: u32, out: &mut [u8]) -> Cursor
     ensures { λ r. ⌜ KnownStep code (now (text .entry)) c (now (out .entry)) r (now (out .exit)) ⌝ }
 {
     let held = reserve(c, 4);
-    let v = value(text, held, code, out);
+    let v = option_value(text, held, code, out);
     let _end = put_option_head(code, out, c.to, v.to);
     v
 }
@@ -440,7 +440,7 @@ fn other_hex(text: &[u8], c: Cursor, n: u64, out: &mut [u8]) -> Cursor
 }
 
 // `OPTn`
-fn other(text: &[u8], c: Cursor, out: &mut [u8]) -> Coded
+fn opt_n(text: &[u8], c: Cursor, out: &mut [u8]) -> Coded
     requires { ⌜ Safe (now text) c ⌝ }
     ensures { λ r. ⌜ OtherRead (now (text .entry)) c (now (out .entry)) r (now (out .exit)) ⌝ }
 {
@@ -455,13 +455,13 @@ fn other(text: &[u8], c: Cursor, out: &mut [u8]) -> Coded
 }
 
 // A member, of the table or not.
-fn member(text: &[u8], c: Cursor, out: &mut [u8]) -> Coded
+fn option_member(text: &[u8], c: Cursor, out: &mut [u8]) -> Coded
     requires { ⌜ Safe (now text) c ⌝ }
     ensures { λ r. ⌜ MemberRead (now (text .entry)) c (now (out .entry)) r (now (out .exit)) ⌝ }
 {
     let n = member_name(text, c);
     let d = n.cursor;
-    if d.spelled {
+    if d.grammatical {
         let v = listed_option(text, d, n.key, out);
         let o = literal(text, c, b"\"OPT");
         return Coded {
@@ -469,7 +469,7 @@ fn member(text: &[u8], c: Cursor, out: &mut [u8]) -> Coded
             code: n.key,
         };
     }
-    let o = other(text, c, out);
+    let o = opt_n(text, c, out);
     Coded {
         cursor: furthest_failure(o.cursor, d.at),
         code: o.code,
@@ -482,7 +482,7 @@ fn rising_member(text: &[u8], c: Cursor, least: u64, out: &mut [u8]) -> Coded
     ensures { λ r. ⌜ RisingRead least (now (text .entry)) c (now (out .entry)) r (now (out .exit)) ⌝ }
 {
     let next = literal(text, c, b",");
-    let m = member(text, next, out);
+    let m = option_member(text, next, out);
     let code = m.code;
     Coded {
         cursor: demand(m.cursor, code as u64 >= least),
@@ -495,7 +495,7 @@ fn option_members(text: &[u8], c: Cursor, out: &mut [u8]) -> Cursor
     requires { ⌜ Safe (now text) c ⌝ }
     ensures { λ r. ⌜ OptionsStep membersParse (now (text .entry)) c (now (out .entry)) r (now (out .exit)) ⌝ }
 {
-    if !c.spelled {
+    if !c.grammatical {
         return c;
     }
     let mut d = c;
@@ -507,7 +507,7 @@ fn option_members(text: &[u8], c: Cursor, out: &mut [u8]) -> Cursor
         }
         let m = rising_member(text, d, least, out);
         d = m.cursor;
-        if !d.spelled {
+        if !d.grammatical {
             return d;
         }
         least = m.code as u64 + 1;

@@ -9,7 +9,7 @@ use lib.Dec.{leb, ltb, eqb}
 use lib.ListN.{length}
 use Rattle.octets.specs.Answer.{Output, output, Answer, success, refusal, Result, overwritten, delivered}
 use Rattle.octets.specs.Answer as answer
-use Rattle.octets.specs.Parsed.{Parsed, took, stuck}
+use Rattle.octets.specs.Parsed.{Parsed, parsed, failed}
 use Rattle.octets.specs.Calls.{answerOf, Gives, Call}
 use Rattle.octets.specs.declared.Outcome.{Outcome}
 use Rattle.octets.specs.declared.Outcome.the-variants.{Length, Refused}
@@ -24,7 +24,7 @@ use Rattle.json.specs.Document.{Document}
 use Rattle.json.specs.Converted.{outputOf, converted, toText, Converts}
 use Rattle.strict.specs.Meaning.{meaning}
 use Rattle.strict.specs.Parser.{parse}
-use Rattle.strict.specs.Reading.{meant, parsed, reading, toWire, Reads}
+use Rattle.strict.specs.Reading.{ofMeaning, ofParsed, reading, toWire, Reads}
 
 -- 0 and the length, or the refusal's number and its place
 abbrev pub cNumber : Outcome → ℕ
@@ -95,13 +95,13 @@ reading-numbered t = read (parse t)
     size true l = tt
     size false l = omega arith
 
-    mean : (o : Option View) → NumberedOut (meant o)
+    mean : (o : Option View) → NumberedOut (ofMeaning o)
     mean none = omega arith
     mean (some v) = size (within? v) (form (view.messageOf v))
 
-    read : (o : Parsed Document) → NumberedOut (parsed o)
-    read (took d r) = mean (meaning d)
-    read (stuck w) = omega arith
+    read : (o : Parsed Document) → NumberedOut (ofParsed o)
+    read (parsed d r) = mean (meaning d)
+    read (failed w) = omega arith
 
 delivered-numbered : (noRoom : ℕ) → 0 < noRoom → (o : Output) (b : List ℕ) → NumberedOut o
     → Numbered (delivered noRoom o b .answer)

@@ -4,7 +4,8 @@ use Prim.Native.Nat.{_*_, _-_, _≤_}
 use mathlib.Core.Path.{_≡_}
 use lib.ListN.{length}
 use Rattle.octets.specs.Loops.{Continues, continues-start}
-use Rattle.forms.specs.Putting.{sectionsRun, Runs, comes-inside, comes-short, sections-goes, sections-stop}
+use Rattle.forms.specs.Putting.{sectionsRun, WritesSection, comes-inside, comes-short, sections-goes}
+use Rattle.forms.specs.Putting.{sections-stop}
 use Rattle.forms.specs.Putting.{sections-end}
 use Rattle.forms.proofs.put_message.Statement.{statement}
 use Rattle.forms.proofs.put_message.Tie as tie
@@ -12,7 +13,8 @@ use Rattle.forms.proofs.put_message.Tie as tie
 abbrev Inv-loop : tie.InvT-loop
 Inv-loop s out₀ next₀ at₀ i₀ out next at i =
     (i ≤ 3) × (at ≤ length s) × (next ≤ 255 * at) × (length out ≡ length out₀)
-    × Continues (Runs 0 (sectionsRun s (3 - i) i at) out next) (Runs 0 (sectionsRun s 3 0 12) out₀ next₀)
+    × Continues (WritesSection 0 (sectionsRun s (3 - i) i at) out next)
+    (WritesSection 0 (sectionsRun s 3 0 12) out₀ next₀)
 
 abbrev μ-loop : tie.MeasureT-loop
 μ-loop s out₀ next₀ at₀ i₀ out next at i = 3 - i

@@ -5,7 +5,7 @@ use mathlib.Core.Path.{_≡_}
 use native.Mathlib.Omega.{arith}
 use lib.ListN.{length}
 use Rattle.octets.specs.Loops.{Continues, continues-start}
-use Rattle.forms.specs.Putting.{sectionRun, Runs, goes-inside, goes-short, section-ends, section-goes}
+use Rattle.forms.specs.Putting.{sectionRun, WritesSection, goes-inside, goes-short, section-ends, section-goes}
 use Rattle.forms.specs.Putting.{section-stops}
 use Rattle.forms.proofs.put_section.Statement.{statement}
 use Rattle.forms.proofs.put_section.Tie as tie
@@ -13,7 +13,8 @@ use Rattle.forms.proofs.put_section.Tie as tie
 abbrev Inv-loop : tie.InvT-loop
 Inv-loop s records count at out₀ to left₀ place₀ next₀ opts₀ out left place next opts =
     (place ≤ length s) × (next ≤ 255 * place) × (opts + left ≤ 4294967295) × (length out ≡ length out₀)
-    × Continues (Runs opts (sectionRun records s left place) out next) (Runs 0 (sectionRun records s count at) out₀ to)
+    × Continues (WritesSection opts (sectionRun records s left place) out next)
+    (WritesSection 0 (sectionRun records s count at) out₀ to)
 
 abbrev μ-loop : tie.MeasureT-loop
 μ-loop s records count at out₀ to left₀ place₀ next₀ opts₀ out left place next opts = left

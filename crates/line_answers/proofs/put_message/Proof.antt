@@ -25,7 +25,7 @@ enum-known-number c = search needs
 
 cast-put-refusal : tie.Need-cast-put-refusal
 cast-put-refusal c =
-    let number = c .before .before in
+    let number = c .before in
     let call = number .before .before .before .before in
     let start = call .before .before .before .before in
     let text = start .args .text .now in

@@ -20,7 +20,7 @@ part-put-hex-start c = search needs
 
 part-put-hex-end : tie.Need-part-put-hex-end
 part-put-hex-end c =
-    let n = c .before .before .before in
+    let n = c .before .before in
     let call = n .before .before .before .before in
     let room = call .before .before .before .before .before .pre .0 in
     omega (arith, message-within _ _ room (call .read .ensures) (n .n .given .1))
@@ -37,7 +37,7 @@ enum-known-number c = search needs
 
 cast-put-refusal : tie.Need-cast-put-refusal
 cast-put-refusal c =
-    let number = c .before .before in
+    let number = c .before in
     let call = number .before .before .before .before in
     omega (arith, place-first _ _ (call .read .ensures) (number .number .given .1))
 

@@ -5,7 +5,7 @@ use mathlib.Core.Path.{_≡_, refl}
 use Prim.Native.Nat.{_≤_, _+_, _-_}
 use lib.ListN.{length, take}
 use lib.Seq.{take-all}
-use Rattle.octets.specs.Overlay.{Wrote, nothing, past, copy-step, same-long}
+use Rattle.octets.specs.Overlay.{Wrote, nothing, wrote-past, copy-step, same-long}
 use Rattle.octets.proofs.put_all.Statement.{statement}
 use Rattle.octets.proofs.put_all.Tie as tie
 
@@ -19,7 +19,7 @@ add-end : tie.Need-add-end Inv-loop μ-loop
 add-end c = search needs
 
 returns : tie.Need-returns Inv-loop μ-loop
-returns c = past _ _ _ (c .if1 .taken) refl
+returns c = wrote-past _ _ _ (c .if1 .taken) refl
 
 copy-requires : tie.Need-copy-requires Inv-loop μ-loop
 copy-requires c κs = search needs

@@ -6,7 +6,7 @@ use Prim.Native.Nat.{_≤_, _+_, _*_, _-_}
 use native.Mathlib.Omega.{arith}
 use lib.ListN.{length, take}
 use Rattle.octets.specs.Hexadecimal.{hexOctet}
-use Rattle.octets.specs.Overlay.{Wrote, past, each-start, each-step, each-end, same-long}
+use Rattle.octets.specs.Overlay.{Wrote, wrote-past, each-start, each-step, each-end, same-long}
 use Rattle.octets.specs.Lists.{each}
 use Rattle.octets.proofs.Writing.{each-hex-length}
 use Rattle.octets.proofs.put_hex.Statement.{statement}
@@ -27,7 +27,7 @@ add-end c = search needs
 
 returns : tie.Need-returns Inv-loop μ-loop
 returns c = (
-  past _ _ _ (c .if1 .taken) (omega (arith, each-hex-length (c .before .before .before .args .src .now))),
+  wrote-past _ _ _ (c .if1 .taken) (omega (arith, each-hex-length (c .before .before .before .args .src .now))),
   search needs,
 )
 

@@ -1,7 +1,7 @@
 -- `options::has_shape` meets its contract: one way for each row of the table, and one for all other codes.
 use mathlib.Core.Path.{refl}
 use Rattle.octets.specs.Lists.{lookup}
-use Rattle.options.specs.Options.{rows, formOf, shape}
+use Rattle.options.specs.Options.{rows, syntaxOf, shape}
 use Rattle.options.specs.Shapes.{row-shaped, expire-shaped, cookie-shaped, keepalive-shaped, keytag-shaped}
 use Rattle.options.specs.Shapes.{error-shaped, none-shaped}
 use borrow.Author.Needs.{needs}
@@ -21,19 +21,19 @@ is-error-requires : tie.Need-is-error-requires
 is-error-requires c κs = search needs
 
 returns : tie.Need-returns
-unfolding lookup rows formOf shape
+unfolding lookup rows syntaxOf shape
 returns c = row-shaped _ 3 (c .match .keys1) refl
 
 returns-2 : tie.Need-returns-2
-unfolding lookup rows formOf shape
+unfolding lookup rows syntaxOf shape
 returns-2 c = row-shaped _ 5 (c .match .keys2) refl
 
 returns-3 : tie.Need-returns-3
-unfolding lookup rows formOf shape
+unfolding lookup rows syntaxOf shape
 returns-3 c = row-shaped _ 6 (c .match .keys3) refl
 
 returns-4 : tie.Need-returns-4
-unfolding lookup rows formOf shape
+unfolding lookup rows syntaxOf shape
 returns-4 c = row-shaped _ 7 (c .match .keys4) refl
 
 returns-5 : tie.Need-returns-5
@@ -46,7 +46,7 @@ returns-7 : tie.Need-returns-7
 returns-7 c = keepalive-shaped _ (c .before .count .ensures .0) (c .match .keys7)
 
 returns-8 : tie.Need-returns-8
-unfolding lookup rows formOf shape
+unfolding lookup rows syntaxOf shape
 returns-8 c = row-shaped _ 12 (c .match .keys8) refl
 
 returns-9 : tie.Need-returns-9

@@ -12,10 +12,10 @@ use Rattle.parse_rdata.proofs.fits_layout.Statement.{statement}
 use Rattle.parse_rdata.proofs.fits_layout.Tie as tie
 
 abbrev Inv-loop : tie.InvT-loop
-Inv-loop kind hex size i₀ at₀ i at = (at ≤ size) × FitLoop (paired hex) kind size (rdataFits? kind (paired hex)) i at
+Inv-loop rtype hex size i₀ at₀ i at = (at ≤ size) × FitLoop (paired hex) rtype size (rdataFits? rtype (paired hex)) i at
 
 abbrev μ-loop : tie.MeasureT-loop
-μ-loop kind hex size i₀ at₀ i at = 3 - i
+μ-loop rtype hex size i₀ at₀ i at = 3 - i
 
 count-requires : tie.Need-count-requires Inv-loop μ-loop
 count-requires c κs = search needs

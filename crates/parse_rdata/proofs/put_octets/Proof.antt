@@ -11,7 +11,8 @@ use Rattle.parse_rdata.proofs.put_octets.Statement.{statement}
 use Rattle.parse_rdata.proofs.put_octets.Tie as tie
 
 abbrev Inv-loop : tie.InvT-loop
-Inv-loop hex out₀ to size end next₀ i₀ out next i = (i ≤ size) × (next ≡ to + i) × Wrote out₀ to (take i (paired hex)) out next
+Inv-loop hex out₀ to size end next₀ i₀ out next i =
+    (i ≤ size) × (next ≡ to + i) × Wrote out₀ to (take i (paired hex)) out next
 
 abbrev μ-loop : tie.MeasureT-loop
 μ-loop hex out₀ to size end next₀ i₀ out next i = size - i

@@ -47,10 +47,10 @@ part-put-all-start c = search needs
 part-put-all-end : tie.Need-part-put-all-end
 unfolding each rcodes
 part-put-all-end c =
-    let d = c .before .before .before in
+    let d = c .before .before in
     let e = d .before in
     let h = text-end _ rcodes (e .before .rcode-names .ensures) (e .rcode-row .ensures) (d .if1 .left)
-    (c .before .before .wide .ensures .0) in
+    (c .before .wide .ensures .0) in
     search needs
 
 put-all-requires : tie.Need-put-all-requires
@@ -62,8 +62,8 @@ same-length c = search needs
 returns-2 : tie.Need-returns-2
 unfolding each rcodes
 returns-2 c =
-    let all = c .before .before in
-    let d = all .before .before .before .before in
+    let all = c .before .before .before .before .before in
+    let d = all .before in
     let e = d .before .before in
     let w = rcode-is _ (e .before .rcode-names .ensures) (e .rcode-row .ensures) (d .before .if1 .left)
     (d .wide .ensures .0) (c .before .before .put-all .ensures) in

@@ -9,11 +9,11 @@ use Rattle.rdata.proofs.put_rdata.Statement.{statement}
 use Rattle.rdata.proofs.put_rdata.Tie as tie
 
 abbrev Inv-loop : tie.InvT-loop
-Inv-loop s kind start size hex out₀ to i₀ at₀ next₀ out i at next =
-    RdataLoop hex s kind start size out₀ to i at out next
+Inv-loop s rtype start size hex out₀ to i₀ at₀ next₀ out i at next =
+    RdataLoop hex s rtype start size out₀ to i at out next
 
 abbrev μ-loop : tie.MeasureT-loop
-μ-loop s kind start size hex out₀ to i₀ at₀ next₀ out i at next = 4 - i
+μ-loop s rtype start size hex out₀ to i₀ at₀ next₀ out i at next = 4 - i
 
 loop-holds : tie.Need-loop-holds Inv-loop μ-loop
 loop-holds c = search (loop-start, needs)

@@ -19,10 +19,10 @@ use Rattle.records.proofs.layout_piece.Statement.{statement}
 use Rattle.records.proofs.layout_piece.Tie as tie
 
 -- a TYPE of the range has one name
-one-name : (kind : ℕ) → 2 ≤ kind → kind < 10 → (kind ≡ 6 → ⊥) → layoutOf kind ≡ some (name ∷ [])
+one-name : (rtype : ℕ) → 2 ≤ rtype → rtype < 10 → (rtype ≡ 6 → ⊥) → layoutOf rtype ≡ some (name ∷ [])
 unfolding lookup layouts layoutOf
 one-name =
-    ranged (λ kind. (kind ≡ 6 → ⊥) → layoutOf kind ≡ some (name ∷ [])) 2 8 (
+    ranged (λ rtype. (rtype ≡ 6 → ⊥) → layoutOf rtype ≡ some (name ∷ [])) 2 8 (
       λ h. refl,
       (
         λ h. refl,
@@ -35,20 +35,21 @@ abbrev arms : List (List ℕ)
 arms = (12 ∷ []) ∷ (6 ∷ []) ∷ (14 ∷ []) ∷ (15 ∷ []) ∷ []
 
 -- a TYPE that is none of these and not in the range has no layout
-no-layout : (X : Type 0) (kind : ℕ) → Missed X kind arms → (leb 2 kind && ltb kind 10) ≡ false → layoutOf kind ≡ none
+no-layout : (X : Type 0) (rtype : ℕ) → Missed X rtype arms → (leb 2 rtype && ltb rtype 10) ≡ false
+    → layoutOf rtype ≡ none
 unfolding layouts layoutOf
-no-layout X kind h e =
-    failed-row (λ k. keyed? arms k || (leb 2 k && ltb k 10)) kind layouts tt (rw (missed-key X kind arms h) e)
+no-layout X rtype h e =
+    failed-row (λ k. keyed? arms k || (leb 2 k && ltb k 10)) rtype layouts tt (rw (missed-key X rtype arms h) e)
 
 -- outside the range
-below : (kind : ℕ) → kind < 2 → (leb 2 kind && ltb kind 10) ≡ false
-below kind h = rw (lt-leb 2 kind h)
+below : (rtype : ℕ) → rtype < 2 → (leb 2 rtype && ltb rtype 10) ≡ false
+below rtype h = rw (lt-leb 2 rtype h)
 
-beyond : (kind : ℕ) → 10 ≤ kind → (leb 2 kind && ltb kind 10) ≡ false
-beyond kind h = let low : 2 ≤ kind = omega arith in rw (le-leb 2 kind low, le-ltb kind 10 h)
+beyond : (rtype : ℕ) → 10 ≤ rtype → (leb 2 rtype && ltb rtype 10) ≡ false
+beyond rtype h = let low : 2 ≤ rtype = omega arith in rw (le-leb 2 rtype low, le-ltb rtype 10 h)
 
 returns : tie.Need-returns
-returns c = piece-none (c .before .args .kind) (c .before .args .size) (c .before .args .i) (c .if1 .taken)
+returns c = piece-none (c .before .args .rtype) (c .before .args .size) (c .before .args .i) (c .if1 .taken)
 
 nth-piece-requires : tie.Need-nth-piece-requires
 nth-piece-requires c κs = search needs
@@ -69,41 +70,41 @@ returns-2 : tie.Need-returns-2
 unfolding lookup layouts layoutOf
 returns-2 c =
     let args = c .before .before .before .args in
-    piece-listed (name ∷ name ∷ fixed 20 ∷ []) (args .kind) (args .size) (args .i)
+    piece-listed (name ∷ name ∷ fixed 20 ∷ []) (args .rtype) (args .size) (args .i)
     (ap layoutOf (c .before .match .keys2)) (omega arith) (c .before .before .if1 .left) (c .nth-piece .ensures)
 
 returns-3 : tie.Need-returns-3
 unfolding lookup layouts layoutOf
 returns-3 c =
     let args = c .before .before .before .args in
-    piece-listed (name ∷ name ∷ []) (args .kind) (args .size) (args .i) (ap layoutOf (c .before .match .keys3))
+    piece-listed (name ∷ name ∷ []) (args .rtype) (args .size) (args .i) (ap layoutOf (c .before .match .keys3))
     (omega arith) (c .before .before .if1 .left) (c .nth-piece2 .ensures)
 
 returns-4 : tie.Need-returns-4
 unfolding lookup layouts layoutOf
 returns-4 c =
     let args = c .before .before .before .args in
-    piece-listed (fixed 2 ∷ name ∷ []) (args .kind) (args .size) (args .i) (ap layoutOf (c .before .match .keys4))
+    piece-listed (fixed 2 ∷ name ∷ []) (args .rtype) (args .size) (args .i) (ap layoutOf (c .before .match .keys4))
     (omega arith) (c .before .before .if1 .left) (c .nth-piece3 .ensures)
 
 returns-5 : tie.Need-returns-5
 returns-5 c =
     let m = c .before .before in
     let args = m .before .before .args in
-    let out : (leb 2 (args .kind) && ltb (args .kind) 10) ≡ false =
-    ⊎-elim (λ low. below (args .kind) (low .taken)) (λ high. beyond (args .kind) (high .1 .left))
+    let out : (leb 2 (args .rtype) && ltb (args .rtype) 10) ≡ false =
+    ⊎-elim (λ low. below (args .rtype) (low .taken)) (λ high. beyond (args .rtype) (high .1 .left))
     (c .before .if2 .came) in
-    piece-free (args .kind) (args .size) (args .i) (no-layout _ (args .kind) (m .match .rest) out)
+    piece-free (args .rtype) (args .size) (args .i) (no-layout _ (args .rtype) (m .match .rest) out)
     (m .before .if1 .left) (c .nth-piece4 .ensures)
 
 returns-6 : tie.Need-returns-6
 unfolding lookup layouts layoutOf
 returns-6 c =
     let args = c .before .before .before .args in
-    let one : layoutOf (args .kind) ≡ some (name ∷ []) =
-    ⊎-elim (λ m. ap layoutOf (m .keys1)) (λ m. one-name (args .kind) (m .1 .left) (m .2 .taken) (m .0 .rest .0 .0 .1))
+    let one : layoutOf (args .rtype) ≡ some (name ∷ []) =
+    ⊎-elim (λ m. ap layoutOf (m .keys1)) (λ m. one-name (args .rtype) (m .1 .left) (m .2 .taken) (m .0 .rest .0 .0 .1))
     (c .before .match .came) in
-    piece-listed (name ∷ []) (args .kind) (args .size) (args .i) one (omega arith) (c .before .before .if1 .left)
+    piece-listed (name ∷ []) (args .rtype) (args .size) (args .i) one (omega arith) (c .before .before .if1 .left)
     (c .nth-piece5 .ensures)
 
 pub layout-piece-spec : {M : Type 1} → statement M

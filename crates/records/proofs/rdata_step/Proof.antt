@@ -22,7 +22,7 @@ returns : tie.Need-returns
 returns c =
     let near = c .before .before .before .before in
     let a = near .before .before .args in
-    with-steps (a .s .now) (a .start) (a .start + a .size) (a .at) (a .i) (search needs) (search needs) (a .kind)
+    with-steps (a .s .now) (a .start) (a .start + a .size) (a .at) (a .i) (search needs) (search needs) (a .rtype)
     (a .size)
     (search (step-surplus, needs))
 
@@ -42,7 +42,7 @@ returns-2 : tie.Need-returns-2
 returns-2 c =
     let near = c .before .before .before .before in
     let a = near .before .before .before .args in
-    with-steps (a .s .now) (a .start) (a .start + a .size) (a .at) (a .i) (search needs) (search needs) (a .kind)
+    with-steps (a .s .now) (a .start) (a .start + a .size) (a .at) (a .i) (search needs) (search needs) (a .rtype)
     (a .size)
     (search (step-short, needs))
 
@@ -75,7 +75,7 @@ returns-3 c =
     let near = c .before .before .before .before in
     let mid = near .before .before .before .before in
     let a = mid .before .before .args in
-    with-steps (a .s .now) (a .start) (a .start + a .size) (a .at) (a .i) (search needs) (search needs) (a .kind)
+    with-steps (a .s .now) (a .start) (a .start + a .size) (a .at) (a .i) (search needs) (search needs) (a .rtype)
     (a .size)
     (search (step-faulty, needs))
 
@@ -83,7 +83,7 @@ returns-4 : tie.Need-returns-4
 returns-4 c =
     let near = c .before .before .before .before in
     let a = near .before .before .args in
-    with-steps (a .s .now) (a .start) (a .start + a .size) (a .at) (a .i) (search needs) (search needs) (a .kind)
+    with-steps (a .s .now) (a .start) (a .start + a .size) (a .at) (a .i) (search needs) (search needs) (a .rtype)
     (a .size)
     (search (step-done, needs))
 
@@ -91,7 +91,7 @@ returns-5 : tie.Need-returns-5
 returns-5 c =
     let near = c .before .before .before .before in
     let a = near .before .before .before .args in
-    with-steps (a .s .now) (a .start) (a .start + a .size) (a .at) (a .i) (search needs) (search needs) (a .kind)
+    with-steps (a .s .now) (a .start) (a .start + a .size) (a .at) (a .i) (search needs) (search needs) (a .rtype)
     (a .size)
     (search (step-part, needs))
 
@@ -100,7 +100,7 @@ returns-6 c =
     let near = c .before .before .before .before in
     let mid = near .before .before .before .before in
     let a = mid .before .args in
-    with-steps (a .s .now) (a .start) (a .start + a .size) (a .at) (a .i) (search needs) (search needs) (a .kind)
+    with-steps (a .s .now) (a .start) (a .start + a .size) (a .at) (a .i) (search needs) (search needs) (a .rtype)
     (a .size)
     (search (step-name, needs))
 

@@ -10,7 +10,8 @@ use Rattle.spelling.proofs.put_name.Statement.{statement}
 use Rattle.spelling.proofs.put_name.Tie as tie
 
 abbrev Inv-loop : tie.InvT-loop
-Inv-loop form out₀ to next₀ table i₀ out next i = (i ≤ length form) × (next ≤ next₀ + 5 * i) × (length out ≡ length out₀)
+Inv-loop form out₀ to next₀ table i₀ out next i = (i ≤ length form) × (next ≤ next₀ + 5 * i)
+    × (length out ≡ length out₀)
     × Begun form out₀ next₀ out next i
 
 abbrev μ-loop : tie.MeasureT-loop

@@ -1,6 +1,6 @@
 -- `spelling::put_spelled` meets its contract: past the end nothing is written; else one way for each kind of spelling.
 use borrow.Author.Needs.{needs}
-use Rattle.octets.specs.Overlay.{past}
+use Rattle.octets.specs.Overlay.{wrote-past}
 use Rattle.spelling.proofs.Writing.{wrote-plain, wrote-dot, wrote-backslash, wrote-other}
 use Rattle.spelling.proofs.put_spelled.Statement.{statement}
 use Rattle.spelling.proofs.put_spelled.Tie as tie
@@ -12,7 +12,7 @@ add-result : tie.Need-add-result
 add-result c = search needs
 
 returns : tie.Need-returns
-returns c = (past _ _ _ (c .if1 .taken) (search needs), search needs)
+returns c = (wrote-past _ _ _ (c .if1 .taken) (search needs), search needs)
 
 put-requires : tie.Need-put-requires
 put-requires c κs = search needs

@@ -55,10 +55,10 @@ returns c =
     let answers = before-authority .before .before .before in
     let before-answers = answers .before .before .before in
     let questions = before-answers .before .before .before in (
-      number-after _ (additional .before .be16-at4 .ensures .0)
-          (number-after _ (authority .before .be16-at3 .ensures .0)
-          (number-after _ (answers .before .be16-at2 .ensures .0)
-          (number-after _ (questions .before .be16-at .ensures .0)
+      number-after _ (additional .before .before .be16-at4 .ensures .0)
+          (number-after _ (authority .before .before .be16-at3 .ensures .0)
+          (number-after _ (answers .before .before .be16-at2 .ensures .0)
+          (number-after _ (questions .before .before .be16-at .ensures .0)
           (nothing _ _)
           (questions .put-number .ensures .0))
           (answers .put-number2 .ensures .0))

@@ -39,7 +39,7 @@ returns c =
     let high = before-low .before .before in
     let before-high = high .before .before .before in
     let id = before-high .before .before in (
-      wrote-head _ (id .before .be16-at .ensures .0) (id .put-number .ensures .0) (high .put-high .ensures .0)
+      wrote-head _ (id .before .before .be16-at .ensures .0) (id .put-number .ensures .0) (high .put-high .ensures .0)
           (low .put-low .ensures .0) (counts .put-counts .ensures .0),
       search needs,
     )

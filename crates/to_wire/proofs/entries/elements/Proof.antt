@@ -9,11 +9,11 @@ use Rattle.to_wire.proofs.entries.elements.Statement.{statement}
 use Rattle.to_wire.proofs.entries.elements.Tie as tie
 
 abbrev Inv-loop : tie.InvT-loop
-Inv-loop text element rcode out₀ d₀ first₀ count₀ opts₀ shown₀ hidden₀ out d first count opts shown hidden =
-    Gathered element rcode text d₀ out₀ d first count opts shown hidden out
+Inv-loop text element rcode out₀ d₀ first₀ count₀ opts₀ shown₀ hidden₀ out d first count opts shown eligible =
+    Gathered element rcode text d₀ out₀ d first count opts shown eligible out
 
 abbrev μ-loop : tie.MeasureT-loop
-μ-loop text element rcode out₀ d₀ first₀ count₀ opts₀ shown₀ hidden₀ out d first count opts shown hidden =
+μ-loop text element rcode out₀ d₀ first₀ count₀ opts₀ shown₀ hidden₀ out d first count opts shown eligible =
     length text - d .at
 
 returns : tie.Need-returns Inv-loop μ-loop
@@ -37,8 +37,8 @@ same-length c = search (c, needs)
 returns-2 : tie.Need-returns-2 Inv-loop μ-loop
 returns-2 c = search (inside-end, needs)
 
-next-requires : tie.Need-next-requires Inv-loop μ-loop
-next-requires c κs = search needs
+comma-entry-requires : tie.Need-comma-entry-requires Inv-loop μ-loop
+comma-entry-requires c κs = search needs
 
 count-up-requires : tie.Need-count-up-requires Inv-loop μ-loop
 count-up-requires c κs = search needs
@@ -66,8 +66,8 @@ loop-less c =
     omega (
       arith,
       gathered-far _ (m .before .before .before .before .before .if1 .left)
-          (m .before .before .before .before .loop .inv) (m .next .ensures) (c .if3 .left),
-      m .next .ensures .moves .safe .inside,
+          (m .before .before .before .before .loop .inv) (m .comma-entry .ensures) (c .if3 .left),
+      m .comma-entry .ensures .moves .safe .inside,
     )
 
 loop-again : tie.Need-loop-again Inv-loop μ-loop
@@ -86,7 +86,7 @@ elements-spec =
     advance-requires
     same-length
     returns-2
-    next-requires
+    comma-entry-requires
     count-up-requires
     count-up-requires-2
     either-requires

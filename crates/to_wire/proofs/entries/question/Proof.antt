@@ -19,8 +19,8 @@ slice-aggregate-literal-2 c = search needs
 literal-requires-2 : tie.Need-literal-requires-2
 literal-requires-2 c κs = search needs
 
-word-requires : tie.Need-word-requires
-word-requires c κs = search needs
+u16-field-requires : tie.Need-u16-field-requires
+u16-field-requires c κs = search needs
 
 slice-aggregate-literal-3 : tie.Need-slice-aggregate-literal-3
 slice-aggregate-literal-3 c = search needs
@@ -28,8 +28,8 @@ slice-aggregate-literal-3 c = search needs
 literal-requires-3 : tie.Need-literal-requires-3
 literal-requires-3 c κs = search needs
 
-word-requires-2 : tie.Need-word-requires-2
-word-requires-2 c κs = search needs
+u16-field-requires-2 : tie.Need-u16-field-requires-2
+u16-field-requires-2 c κs = search needs
 
 slice-aggregate-literal-4 : tie.Need-slice-aggregate-literal-4
 slice-aggregate-literal-4 c = search needs
@@ -52,8 +52,8 @@ returns c =
     let m = c .before .before .before .before .before .before .before .before .before .before in
     question-read (m .before .before .before .before .before .before .before .before .literal .ensures)
     (m .before .before .before .before .before .before .name .ensures) (m .before .before .literal2 .ensures)
-    (m .word .ensures) (c .before .before .before .before .before .before .literal3 .ensures)
-    (c .before .before .before .before .word2 .ensures) (c .literal4 .ensures)
+    (m .u16-field .ensures) (c .before .before .before .before .before .before .literal3 .ensures)
+    (c .before .before .before .before .u16-field2 .ensures) (c .literal4 .ensures)
 
 pub question-spec : {M : Type 1} → statement M
 question-spec =
@@ -64,10 +64,10 @@ question-spec =
     name-requires
     slice-aggregate-literal-2
     literal-requires-2
-    word-requires
+    u16-field-requires
     slice-aggregate-literal-3
     literal-requires-3
-    word-requires-2
+    u16-field-requires-2
     slice-aggregate-literal-4
     literal-requires-4
     same-length

@@ -10,8 +10,8 @@ hex-requires c κs = search needs
 size-of-requires : tie.Need-size-of-requires
 size-of-requires c κs = search needs
 
-kind-of-requires : tie.Need-kind-of-requires
-kind-of-requires c κs = search needs
+type-or-0-requires : tie.Need-type-or-0-requires
+type-or-0-requires c κs = search needs
 
 sub-fits-layout : tie.Need-sub-fits-layout
 sub-fits-layout c = search needs
@@ -59,7 +59,7 @@ rdata-spec =
     (tie.spec
     hex-requires
     size-of-requires
-    kind-of-requires
+    type-or-0-requires
     sub-fits-layout
     part-fits-layout-start
     part-fits-layout-end

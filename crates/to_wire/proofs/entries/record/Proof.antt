@@ -13,8 +13,8 @@ slice-aggregate-literal c = search needs
 literal-requires : tie.Need-literal-requires
 literal-requires c κs = search needs
 
-word-requires : tie.Need-word-requires
-word-requires c κs = search needs
+u16-field-requires : tie.Need-u16-field-requires
+u16-field-requires c κs = search needs
 
 slice-aggregate-literal-2 : tie.Need-slice-aggregate-literal-2
 slice-aggregate-literal-2 c = search needs
@@ -22,8 +22,8 @@ slice-aggregate-literal-2 c = search needs
 literal-requires-2 : tie.Need-literal-requires-2
 literal-requires-2 c κs = search needs
 
-word-requires-2 : tie.Need-word-requires-2
-word-requires-2 c κs = search needs
+u16-field-requires-2 : tie.Need-u16-field-requires-2
+u16-field-requires-2 c κs = search needs
 
 slice-aggregate-literal-3 : tie.Need-slice-aggregate-literal-3
 slice-aggregate-literal-3 c = search needs
@@ -31,12 +31,13 @@ slice-aggregate-literal-3 c = search needs
 literal-requires-3 : tie.Need-literal-requires-3
 literal-requires-3 c κs = search needs
 
-sub-tail : tie.Need-sub-tail
-sub-tail c = (c .before .before .before .before .before .before .before .before .before .before .before .before .before
+sub-ttl-rdata : tie.Need-sub-ttl-rdata
+sub-ttl-rdata c = (c .before .before .before .before .before .before .before .before .before .before .before .before
+    .before
     .before .before .before .name .ensures .moves .onward)
 
-tail-requires : tie.Need-tail-requires
-tail-requires c κs = (
+ttl-rdata-requires : tie.Need-ttl-rdata-requires
+ttl-rdata-requires c κs = (
   (c .before .literal3 .ensures .keeps .safe),
   c .before .before .before .before .before .before .before .before .before .before .before .before .before .before
       .before .before .before .before .before .before .before .pre .1,
@@ -59,8 +60,9 @@ returns c =
     let m = c .before .before .before .before .before .before .before .before in
     let k = m .before .before .before .before .before .before in
     record-read (k .before .before .before .before .before .before .name .ensures) (search needs)
-    (k .before .before .literal .ensures) (k .word .ensures) (m .before .before .literal2 .ensures)
-    (m .word2 .ensures) (c .before .before .before .before .literal3 .ensures) (c .before .before .tail .ensures)
+    (k .before .before .literal .ensures) (k .u16-field .ensures) (m .before .before .literal2 .ensures)
+    (m .u16-field2 .ensures) (c .before .before .before .before .literal3 .ensures)
+    (c .before .before .ttl-rdata .ensures)
 
 pub record-spec : {M : Type 1} → statement M
 record-spec =
@@ -69,13 +71,13 @@ record-spec =
     name-requires
     slice-aggregate-literal
     literal-requires
-    word-requires
+    u16-field-requires
     slice-aggregate-literal-2
     literal-requires-2
-    word-requires-2
+    u16-field-requires-2
     slice-aggregate-literal-3
     literal-requires-3
-    sub-tail
-    tail-requires
+    sub-ttl-rdata
+    ttl-rdata-requires
     same-length
     returns)

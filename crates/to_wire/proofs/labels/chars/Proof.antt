@@ -45,8 +45,8 @@ same-length-2 c = search needs
 returns-3 : tie.Need-returns-3 Inv-loop μ-loop
 returns-3 c = search (chars-bad, needs)
 
-add-requires : tie.Need-add-requires Inv-loop μ-loop
-add-requires c κs = search needs
+put-char-requires : tie.Need-put-char-requires Inv-loop μ-loop
+put-char-requires c κs = search needs
 
 loop-less : tie.Need-loop-less Inv-loop μ-loop
 loop-less c =
@@ -55,15 +55,15 @@ loop-less c =
       arith,
       chars-far (m .before .before .before .before .before .loop .inv) (m .before .before .char-at .ensures)
           (m .if3 .left),
-      c .before .before .add .ensures .emits .at,
-      c .before .before .add .ensures .came .at,
+      c .before .before .put-char .ensures .emits .at,
+      c .before .before .put-char .ensures .came .at,
     )
 
 loop-again : tie.Need-loop-again Inv-loop μ-loop
 loop-again c =
     let m = c .before .before .before .before in
     chars-more (m .before .before .before .before .before .loop .inv) (m .before .before .char-at .ensures)
-    (m .if3 .left) (c .before .before .add .ensures) (search needs)
+    (m .if3 .left) (c .before .before .put-char .ensures) (search needs)
 
 pub chars-spec : {M : Type 1} → statement M
 chars-spec =
@@ -82,6 +82,6 @@ chars-spec =
     fail-at-requires
     same-length-2
     returns-3
-    add-requires
+    put-char-requires
     loop-less
     loop-again)

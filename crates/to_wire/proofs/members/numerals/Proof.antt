@@ -4,7 +4,7 @@ use native.Mathlib.Omega.{arith}
 use borrow.Author.Needs.{needs}
 use borrow.Author.Tests.{not-true}
 use lib.ListN.{length}
-use Rattle.parse_tokens.specs.Step.{found-stuck}
+use Rattle.parse_tokens.specs.Step.{found-failed}
 use Rattle.to_wire.specs.Values.{Numerals, numeralsParse, numerals-start, numerals-end, numerals-stop}
 use Rattle.to_wire.specs.Values.{numerals-far, numerals-more}
 use Rattle.to_wire.proofs.members.numerals.Statement.{statement}
@@ -17,7 +17,7 @@ abbrev μ-loop : tie.MeasureT-loop
 μ-loop text wide out₀ d₀ first₀ out d first = length text - d .at
 
 returns : tie.Need-returns Inv-loop μ-loop
-returns c = found-stuck numeralsParse _ _ (search needs) (not-true _ (c .if1 .taken))
+returns c = found-failed numeralsParse _ _ (search needs) (not-true _ (c .if1 .taken))
 
 loop-holds : tie.Need-loop-holds Inv-loop μ-loop
 loop-holds c = search (numerals-start, needs)

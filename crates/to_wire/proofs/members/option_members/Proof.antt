@@ -4,7 +4,7 @@ use native.Mathlib.Omega.{arith}
 use borrow.Author.Needs.{needs}
 use borrow.Author.Tests.{not-true}
 use lib.ListN.{length}
-use Rattle.parse_tokens.specs.Step.{found-stuck}
+use Rattle.parse_tokens.specs.Step.{found-failed}
 use Rattle.to_wire.specs.Options.{Rising, membersParse, rising-start, rising-end, rising-stop, rising-far}
 use Rattle.to_wire.specs.Options.{rising-more}
 use Rattle.to_wire.proofs.members.option_members.Statement.{statement}
@@ -17,7 +17,7 @@ abbrev μ-loop : tie.MeasureT-loop
 μ-loop text out₀ d₀ least₀ out d least = length text - d .at
 
 returns : tie.Need-returns Inv-loop μ-loop
-returns c = found-stuck membersParse _ _ (search needs) (not-true _ (c .if1 .taken))
+returns c = found-failed membersParse _ _ (search needs) (not-true _ (c .if1 .taken))
 
 loop-holds : tie.Need-loop-holds Inv-loop μ-loop
 loop-holds c = search (rising-start, needs)

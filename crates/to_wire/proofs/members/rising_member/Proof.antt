@@ -10,8 +10,8 @@ slice-aggregate-literal c = search needs
 literal-requires : tie.Need-literal-requires
 literal-requires c κs = search needs
 
-member-requires : tie.Need-member-requires
-member-requires c κs = search needs
+option-member-requires : tie.Need-option-member-requires
+option-member-requires c κs = search needs
 
 cast-demand : tie.Need-cast-demand
 cast-demand c = search needs
@@ -31,7 +31,7 @@ rising-member-spec =
     (tie.spec
     slice-aggregate-literal
     literal-requires
-    member-requires
+    option-member-requires
     cast-demand
     demand-requires
     same-length

@@ -1,8 +1,8 @@
 use borrow.Author.Needs.{needs}
 use Rattle.to_wire.specs.Values.{run-digits}
 use Rattle.to_wire.specs.Reading.{tail-read}
-use Rattle.to_wire.proofs.entries.tail.Statement.{statement}
-use Rattle.to_wire.proofs.entries.tail.Tie as tie
+use Rattle.to_wire.proofs.entries.ttl_rdata.Statement.{statement}
+use Rattle.to_wire.proofs.entries.ttl_rdata.Tie as tie
 
 signed-requires : tie.Need-signed-requires
 signed-requires c κs = search needs
@@ -43,8 +43,8 @@ returns c =
     (m .before .before .literal .ensures) (m .rdata .ensures) (c .before .literal2 .ensures)
     (c .shows-edns .ensures)
 
-pub tail-spec : {M : Type 1} → statement M
-tail-spec =
+pub ttl-rdata-spec : {M : Type 1} → statement M
+ttl-rdata-spec =
     tie.close
     (tie.spec
     signed-requires

@@ -1,7 +1,7 @@
 use borrow.Author.Needs.{needs}
 use Rattle.to_wire.specs.Reading.{word-read}
-use Rattle.to_wire.proofs.entries.word.Statement.{statement}
-use Rattle.to_wire.proofs.entries.word.Tie as tie
+use Rattle.to_wire.proofs.entries.u16_field.Statement.{statement}
+use Rattle.to_wire.proofs.entries.u16_field.Tie as tie
 
 number-requires : tie.Need-number-requires
 number-requires c κs = search needs
@@ -15,5 +15,5 @@ same-length c = search needs
 returns : tie.Need-returns
 returns c = search (word-read, needs)
 
-pub word-spec : {M : Type 1} → statement M
-word-spec = tie.close (tie.spec number-requires put-u16-requires same-length returns)
+pub u16-field-spec : {M : Type 1} → statement M
+u16-field-spec = tie.close (tie.spec number-requires put-u16-requires same-length returns)

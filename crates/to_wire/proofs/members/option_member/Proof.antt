@@ -1,7 +1,7 @@
 use borrow.Author.Needs.{needs}
 use Rattle.to_wire.specs.Options.{member-known, member-other, name-word}
-use Rattle.to_wire.proofs.members.member.Statement.{statement}
-use Rattle.to_wire.proofs.members.member.Tie as tie
+use Rattle.to_wire.proofs.members.option_member.Statement.{statement}
+use Rattle.to_wire.proofs.members.option_member.Tie as tie
 
 member-name-requires : tie.Need-member-name-requires
 member-name-requires c κs = search needs
@@ -25,8 +25,8 @@ same-length c = search needs
 returns : tie.Need-returns
 returns c = search (member-known, needs)
 
-other-requires : tie.Need-other-requires
-other-requires c κs = search needs
+opt-n-requires : tie.Need-opt-n-requires
+opt-n-requires c κs = search needs
 
 furthest-failure-requires-2 : tie.Need-furthest-failure-requires-2
 furthest-failure-requires-2 c κs = search needs
@@ -37,8 +37,8 @@ same-length-2 c = search needs
 returns-2 : tie.Need-returns-2
 returns-2 c = search (member-other, needs)
 
-pub member-spec : {M : Type 1} → statement M
-member-spec =
+pub option-member-spec : {M : Type 1} → statement M
+option-member-spec =
     tie.close
     (tie.spec
     member-name-requires
@@ -48,7 +48,7 @@ member-spec =
     furthest-failure-requires
     same-length
     returns
-    other-requires
+    opt-n-requires
     furthest-failure-requires-2
     same-length-2
     returns-2)

@@ -1,8 +1,8 @@
 -- `members::other` meets its contract.
 use borrow.Author.Needs.{needs}
 use Rattle.to_wire.specs.Options.{other-read}
-use Rattle.to_wire.proofs.members.other.Statement.{statement}
-use Rattle.to_wire.proofs.members.other.Tie as tie
+use Rattle.to_wire.proofs.members.opt_n.Statement.{statement}
+use Rattle.to_wire.proofs.members.opt_n.Tie as tie
 
 slice-aggregate-literal : tie.Need-slice-aggregate-literal
 slice-aggregate-literal c = search needs
@@ -31,8 +31,8 @@ same-length c = search needs
 returns : tie.Need-returns
 returns c = search (other-read, needs)
 
-pub other-spec : {M : Type 1} → statement M
-other-spec =
+pub opt-n-spec : {M : Type 1} → statement M
+opt-n-spec =
     tie.close
     (tie.spec
     slice-aggregate-literal

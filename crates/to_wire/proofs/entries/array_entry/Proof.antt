@@ -1,7 +1,7 @@
 use borrow.Author.Needs.{needs}
 use Rattle.to_wire.specs.Sections.{one-asked, one-titled, one-item}
-use Rattle.to_wire.proofs.entries.one.Statement.{statement}
-use Rattle.to_wire.proofs.entries.one.Tie as tie
+use Rattle.to_wire.proofs.entries.array_entry.Statement.{statement}
+use Rattle.to_wire.proofs.entries.array_entry.Tie as tie
 
 enum-told : tie.Need-enum-told
 enum-told c = search needs
@@ -18,8 +18,8 @@ record-element-requires c κs = search needs
 enum-told-3 : tie.Need-enum-told-3
 enum-told-3 c = search needs
 
-item-requires : tie.Need-item-requires
-item-requires c κs = search needs
+additional-element-requires : tie.Need-additional-element-requires
+additional-element-requires c κs = search needs
 
 same-length : tie.Need-same-length
 same-length c = search needs
@@ -39,8 +39,8 @@ same-length-3 c = search needs
 returns-3 : tie.Need-returns-3
 returns-3 c = search (one-item, needs)
 
-pub one-spec : {M : Type 1} → statement M
-one-spec =
+pub array-entry-spec : {M : Type 1} → statement M
+array-entry-spec =
     tie.close
     (tie.spec
     enum-told
@@ -48,7 +48,7 @@ one-spec =
     enum-told-2
     record-element-requires
     enum-told-3
-    item-requires
+    additional-element-requires
     same-length
     returns
     same-length-2

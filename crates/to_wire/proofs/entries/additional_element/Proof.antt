@@ -1,7 +1,7 @@
 use borrow.Author.Needs.{needs}
 use Rattle.to_wire.specs.Items.{item-edns, item-record}
-use Rattle.to_wire.proofs.entries.item.Statement.{statement}
-use Rattle.to_wire.proofs.entries.item.Tie as tie
+use Rattle.to_wire.proofs.entries.additional_element.Statement.{statement}
+use Rattle.to_wire.proofs.entries.additional_element.Tie as tie
 
 slice-aggregate-literal : tie.Need-slice-aggregate-literal
 slice-aggregate-literal c = search needs
@@ -39,8 +39,8 @@ same-length-2 c = search needs
 returns-2 : tie.Need-returns-2
 returns-2 c = search (item-record, needs)
 
-pub item-spec : {M : Type 1} → statement M
-item-spec =
+pub additional-element-spec : {M : Type 1} → statement M
+additional-element-spec =
     tie.close
     (tie.spec
     slice-aggregate-literal
