@@ -157,7 +157,7 @@ pub fn put_hex(src: &[u8], out: &mut [u8], to: usize) -> usize
     next
 }
 
-// The number in the two octets to `to`, the high one first.
+// The number in the two octets at `at`, the high one first.
 pub fn be16_at(s: &[u8], at: usize) -> u32
     requires { ⌜ at + 2 ≤ length (now s) ⌝ }
     ensures { λ r. ⌜ r ≡ be16At (now (s .entry)) at ⌝ }

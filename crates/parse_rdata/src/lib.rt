@@ -40,7 +40,7 @@ enum Skipped {
     Unfit,
 }
 
-// The end of the name to a place: pointers are not taken. `place` is the length octet, and `total` counts the octets of
+// The end of the name at a place: pointers are not taken. `place` is the length octet, and `total` counts the octets of
 // the labels so far.
 fn skip_name(hex: &[u8], at: usize) -> Skipped
     requires { ⌜ Hexes (now hex) ⌝ }

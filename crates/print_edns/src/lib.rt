@@ -63,15 +63,15 @@ fn put_options(rdata: &[u8], out: &mut [u8], to: usize) -> usize
     ensures { λ r. ⌜ r ≤ to + 64 * length (now (rdata .entry)) ⌝ }
 {
     let mut next = to;
-    let mut from = 0;
-    while from < rdata.len() {
-        let code = be16_at(rdata, from);
-        let size = be16_at(rdata, from + 2) as usize;
-        let start = from + 4;
+    let mut at = 0;
+    while at < rdata.len() {
+        let code = be16_at(rdata, at);
+        let size = be16_at(rdata, at + 2) as usize;
+        let start = at + 4;
         let end = start + size;
         next = put(b',', out, next);
         next = put_member(code, &rdata[start..end], out, next);
-        from = end;
+        at = end;
     }
     next
 }

@@ -29,18 +29,18 @@ pub fn put_hex_text(head: &[u8], src: &[u8], out: &mut [u8], to: usize) -> usize
     put(b'"', out, next)
 }
 
-// Writes the number to `i` of a list, of one or two octets, and before it the bracket or the comma.
-fn put_entry(mark: u8, value: &[u8], i: usize, width: usize, out: &mut [u8], to: usize) -> usize
-    requires { ⌜ (to + 1 < 2 ^ 39) × Width width × (i + width ≤ length (now value)) ⌝ }
-    ensures { λ r. ⌜ Wrote (now (out .entry)) to (mark ∷ decimal (numberAt width (now (value .entry)) i))
+// Writes the number of one or two octets at `at`, and before it the bracket or the comma.
+fn put_entry(value: &[u8], at: usize, width: usize, mark: u8, out: &mut [u8], to: usize) -> usize
+    requires { ⌜ (to + 1 < 2 ^ 39) × Width width × (at + width ≤ length (now value)) ⌝ }
+    ensures { λ r. ⌜ Wrote (now (out .entry)) to (mark ∷ decimal (numberAt width (now (value .entry)) at))
         (now (out .exit)) r ⌝ }
     ensures { λ r. ⌜ r ≤ to + 4 * width ⌝ }
 {
     let next = put(mark, out, to);
     if width == 2 {
-        return put_decimal(be16_at(value, i), out, next);
+        return put_decimal(be16_at(value, at), out, next);
     }
-    put_decimal(wide(value[i]) as u32, out, next)
+    put_decimal(wide(value[at]) as u32, out, next)
 }
 
 // Writes the octets as a list of numbers, of one or two octets each.
@@ -53,11 +53,11 @@ pub fn put_list(value: &[u8], width: usize, out: &mut [u8], to: usize) -> usize
     if value.len() < width {
         return put_all(b"[]", out, to);
     }
-    let mut next = put_entry(b'[', value, 0, width, out, to);
-    let mut i = width;
-    while i + width <= value.len() {
-        next = put_entry(b',', value, i, width, out, next);
-        i += width;
+    let mut next = put_entry(value, 0, width, b'[', out, to);
+    let mut at = width;
+    while at + width <= value.len() {
+        next = put_entry(value, at, width, b',', out, next);
+        at += width;
     }
     put(b']', out, next)
 }

@@ -72,7 +72,8 @@ same-length-5 c = search needs
 
 returns-3 : tie.Need-returns-3
 returns-3 c =
-    let n = c .before .before .before .before .before .before .before in
+    let after-n = c .before .before .before .before in
+    let n = after-n .before .before .before in
     let read = n .before .before .before .before in
     let short = read .before .before .if1 .left in
     let hex = read .unhex .ensures .0 in

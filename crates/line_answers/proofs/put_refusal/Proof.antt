@@ -29,7 +29,8 @@ same-length c = search needs
 returns : tie.Need-returns
 unfolding refusalLine
 returns c =
-    let middle = c .before .before .before .before .before .before in
+    let after-middle = c .before .before .before .before in
+    let middle = after-middle .before .before in
     let first = middle .before .before .before .before .before in
     let start = first .before .before .before .before in
     let number = then (start .put-all .ensures) (first .put-decimal .ensures .0) in

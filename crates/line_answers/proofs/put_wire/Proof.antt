@@ -52,7 +52,8 @@ same-length-2 c = search needs
 
 returns : tie.Need-returns
 returns c =
-    let n = c .before .before .before .before .before .before .before in
+    let after-n = c .before .before .before .before in
+    let n = after-n .before .before .before in
     let call = n .before .before .before .before in
     let room = call .before .before .before .before .before .pre .0 in
     let gives = call .read .ensures in

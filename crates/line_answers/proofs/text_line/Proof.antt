@@ -20,7 +20,8 @@ same-length-2 c = search needs
 returns : tie.Need-returns
 unfolding printed
 returns c =
-    let answer = c .before .before .before .before .before .before .before .before .put-answer .ensures in
+    let after-answer = c .before .before .before .before in
+    let answer = after-answer .before .before .before .before .put-answer .ensures in
     (then (answer .0) (c .before .before .put .ensures), (search needs, answer .1 .1))
 
 pub text-line-spec : {M : Type 1} → statement M

@@ -110,7 +110,8 @@ put-decimal-returns-2 : (t : ℕ) → put-decimal-lts.Need-returns-2 (
   put-decimal.Post,
 ) (put-decimal-at t) put-decimal.Post
 put-decimal-returns-2 t c =
-    let m = c .before .before .before .before .before .before .before .before in (
+    let after-m = c .before .before .before .before in
+    let m = after-m .before .before .before .before in (
       search (wrote-digits, needs),
       omega (arith, decimal-length _ (m .before .before .fits .n .fits), decimal-longer _ (m .if1 .left)),
     )

@@ -10,11 +10,11 @@ use Rattle.print_edns.proofs.put_options.Statement.{statement}
 use Rattle.print_edns.proofs.put_options.Tie as tie
 
 abbrev Inv-loop : tie.InvT-loop
-Inv-loop rdata out₀ to next₀ from₀ out next from = (from ≤ length rdata) × (next ≤ to + 64 * from)
-    × OptionsLoop rdata out₀ to out next from
+Inv-loop rdata out₀ to next₀ at₀ out next at = (at ≤ length rdata) × (next ≤ to + 64 * at)
+    × OptionsLoop rdata out₀ to out next at
 
 abbrev μ-loop : tie.MeasureT-loop
-μ-loop rdata out₀ to next₀ from₀ out next from = length rdata - from
+μ-loop rdata out₀ to next₀ at₀ out next at = length rdata - at
 
 loop-holds : tie.Need-loop-holds Inv-loop μ-loop
 loop-holds c = (search needs, search needs, left-start _ _ _ (search needs))

@@ -10,15 +10,15 @@ use Rattle.print_values.proofs.put_list.Statement.{statement}
 use Rattle.print_values.proofs.put_list.Tie as tie
 
 abbrev Inv-loop : tie.InvT-loop
-Inv-loop value width out₀ to next₀ i₀ out next i =
-    (i ≤ length value)
-    × (next ≤ to + 4 * i)
+Inv-loop value width out₀ to next₀ at₀ out next at =
+    (at ≤ length value)
+    × (next ≤ to + 4 * at)
     × (length out ≡ length out₀)
-    × Continues (Wrote out next (entries (numbers width (drop i value))))
+    × Continues (Wrote out next (entries (numbers width (drop at value))))
     (Wrote out₀ next₀ (entries (numbers width (drop width value))))
 
 abbrev μ-loop : tie.MeasureT-loop
-μ-loop value width out₀ to next₀ i₀ out next i = length value - i
+μ-loop value width out₀ to next₀ at₀ out next at = length value - at
 
 slice-aggregate-put-all : tie.Need-slice-aggregate-put-all Inv-loop μ-loop
 slice-aggregate-put-all c = search needs
@@ -44,8 +44,8 @@ add-loop c = search needs
 put-entry-requires-2 : tie.Need-put-entry-requires-2 Inv-loop μ-loop
 put-entry-requires-2 c κs = search needs
 
-add-i : tie.Need-add-i Inv-loop μ-loop
-add-i c = search needs
+add-at : tie.Need-add-at Inv-loop μ-loop
+add-at c = search needs
 
 loop-less : tie.Need-loop-less Inv-loop μ-loop
 loop-less c = search needs
@@ -53,11 +53,12 @@ loop-less c = search needs
 loop-again : tie.Need-loop-again Inv-loop μ-loop
 loop-again c =
     let w = c .before .before .put-entry2 .ensures .0 in
-    let l = c .before .before .before .before .before .loop in (
+    let test = c .before .before .before .before in
+    let l = test .before .loop in (
       search needs,
       search needs,
       same-long w ∙ l .inv .2,
-      list-next (search needs) _ _ (l .inv .3) (c .before .before .before .before .loop-test .taken) w,
+      list-next (search needs) _ _ (l .inv .3) (test .loop-test .taken) w,
     )
 
 put-requires : tie.Need-put-requires Inv-loop μ-loop
@@ -65,8 +66,9 @@ put-requires c κs = search needs
 
 same-length-2 : tie.Need-same-length-2 Inv-loop μ-loop
 same-length-2 c =
-    let l = c .before .before .before .before .before in
-    same-long (c .before .before .put .ensures) ∙ l .loop .inv .2
+    let written = c .before .before in
+    let l = written .before .before .before in
+    same-long (written .put .ensures) ∙ l .loop .inv .2
     ∙ same-long (l .before .before .before .put-entry .ensures .0)
 
 returns-2 : tie.Need-returns-2 Inv-loop μ-loop
@@ -86,7 +88,7 @@ put-list-spec =
     loop-holds
     add-loop
     put-entry-requires-2
-    add-i
+    add-at
     loop-less
     loop-again
     put-requires
