@@ -1,5 +1,6 @@
-/* collector: messages from standard input, each with the two-octet length of DNS over TCP before it, as texts, one a line.
-   collector -r: texts from standard input, one a line, as messages with their lengths.
+/* collector: messages from standard input, each with the two-octet length of DNS over TCP before it, as texts, one per
+   line.
+   collector -r: texts from standard input, one per line, as messages with their lengths.
 
    One pool buffer takes every message, and is never cleared: what a message does not fill still holds octets of earlier
    ones. A refusal is printed as `refused N at P`; with -r, to standard error. */

@@ -1,6 +1,7 @@
-/* cuts: reads one message from standard input and cuts it to every length from 0 to 600. Each cut is converted twice: from
-   memory of exactly its length, and out of a pool buffer that still holds the whole message and into a text buffer that
-   still holds the text before it. Number, value and every octet of the text buffer must be the same as on clean memory. */
+/* cuts: reads one message from standard input and cuts it to every length from 0 to 600. Each cut is converted twice:
+   from memory of exactly its length, and out of a pool buffer that still holds the whole message and into a text buffer
+   that still holds the text before it. Number, value and every octet of the text buffer must be the same as on clean
+   memory. */
 
 #include "velvetshelf.h"
 

@@ -56,7 +56,8 @@ fn report(title: &str, things: &str, pair: &Pair, inputs: &[Vec<u8>], buffer: &m
     let (ours, theirs, octets) = best(pair, inputs, buffer);
     let input: usize = inputs.iter().map(Vec::len).sum();
     println!(
-        "{title}: {} {things}, {input} octets in, {octets} octets out: proved {ours:.3} s, plain {theirs:.3} s, ratio {:.2}",
+        "{title}: {} {things}, {input} octets in, {octets} octets out: proved {ours:.3} s, plain {theirs:.3} s, \
+         ratio {:.2}",
         inputs.len(),
         ours / theirs
     );
