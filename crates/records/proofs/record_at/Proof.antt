@@ -29,14 +29,14 @@ fields-at-requires c κs = (
 enum-known-fault : tie.Need-enum-known-fault
 enum-known-fault c = search needs
 
+returns : tie.Need-returns
+returns c = (search (head-cut, needs), tt)
+
 enum-known-head : tie.Need-enum-known-head
 enum-known-head c = search needs
 
-returns : tie.Need-returns
-returns c = (search (head-faulty, needs), tt)
-
 returns-2 : tie.Need-returns-2
-returns-2 c = (search (head-cut, needs), tt)
+returns-2 c = (search (head-faulty, needs), tt)
 
 returns-3 : tie.Need-returns-3
 returns-3 c = (
@@ -61,7 +61,7 @@ record-at-spec =
     enum-known-answer-2
     fields-at-requires
     enum-known-fault
-    enum-known-head
     returns
+    enum-known-head
     returns-2
     returns-3)
