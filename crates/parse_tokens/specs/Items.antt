@@ -2,7 +2,7 @@
 use mathlib.Core.Path.{_≡_, refl, sym, _∙_, ap}
 use mathlib.Core.Bool.{Bool, true, false, not}
 use mathlib.Core.List.{List, [], _∷_, _++_, append-assoc, append-nil}
-use Prim.Native.Nat.{ℕ, _+_, _≤_, _<_}
+use Prim.Native.Nat.{ℕ, _+_, _-_, _≤_, _<_}
 use native.Mathlib.Omega.{arith}
 use borrow.Author.Tests.{eq-eqb, not-true, not-false}
 use lib.ListN.{length, drop, getD, length-append, length-drop}
@@ -149,9 +149,13 @@ module _ {A : Type 0} {I : A → Type 0} {f : A → List ℕ} {F : List ℕ
           got : Got (item-of p stop first (drop (d .at) t)) P (drop (r .at) t)
           got = reads-got (found-there y (w .grammatical)) (not-false (r .grammatical) j)
 
-          pub items-far : d .at < r .at
-          items-far = far-at first (d .at) (r .at) (got .value) (w .moves .safe .inside) (y .moves .safe .inside)
-              (got .is)
+          -- less is left to read
+          pub items-less : length t - r .at < length t - d .at
+          items-less = omega (
+            arith,
+            far-at first (d .at) (r .at) (got .value) (w .moves .safe .inside) (y .moves .safe .inside) (got .is),
+            y .moves .safe .inside,
+          )
 
           pub items-more : {R : List A → Type 0} → ((l : List A) (a : A) → Q l → P a → R (l ++ (a ∷ [])))
               → Items p stop R t c start r false

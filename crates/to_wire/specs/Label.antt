@@ -2,7 +2,7 @@
 use mathlib.Core.Path.{_≡_, refl, sym, _∙_, subst}
 use mathlib.Core.Bool.{true, false, not}
 use mathlib.Core.List.{List, [], _∷_, _++_}
-use Prim.Native.Nat.{ℕ, _+_, _≤_, _<_}
+use Prim.Native.Nat.{ℕ, _+_, _-_, _≤_, _<_}
 use native.Mathlib.Omega.{arith}
 use borrow.Author.Tests.{not-true, not-false}
 use lib.Dec.{T}
@@ -173,8 +173,8 @@ module _ {t : List ℕ} {start : ℕ} {b : List ℕ} {to at n : ℕ} {out : List
 
     -- one octet more
     module _ (g : not (o .found) ≡ false) where
-      pub letters-far : at < o .at
-      letters-far = q .further (not-false _ g)
+      pub letters-less : length t - o .at < length t - at
+      letters-less = omega (arith, q .further (not-false _ g), q .within)
 
       got : Got (spelledAt (drop at t)) (λ v. o .value ≡ v) (drop (o .at) t)
       got = tells-got (q .tells) (not-false _ g)
@@ -187,7 +187,7 @@ module _ {t : List ℕ} {start : ℕ} {b : List ℕ} {to at n : ℕ} {out : List
         size = rw length-append (omega (arith, w .size));
         wrote = more;
         within = q .within;
-        onward = omega (arith, w .onward, letters-far);
+        onward = omega (arith, w .onward, letters-less);
         some = λ k. omega arith;
         long = s .long ∙ w .long;
       }

@@ -3,7 +3,7 @@ use mathlib.Core.Path.{_≡_, refl, sym, _∙_, ap, subst}
 use mathlib.Core.Logic.{⊎-elim}
 use mathlib.Core.Bool.{Bool, true, false, not, cond, _&&_, and-true}
 use mathlib.Core.List.{List, [], _∷_, _++_}
-use Prim.Native.Nat.{ℕ, _+_, _≤_, _<_}
+use Prim.Native.Nat.{ℕ, _+_, _-_, _≤_, _<_}
 use native.Mathlib.Omega.{arith}
 use borrow.Author.Tests.{not-true, not-false, le-leb, lt-leb, le-ltb, ltb-false, eq-eqb, ne-eqb}
 use lib.Dec.{T, leb, ltb, eqb, leb→le, le→leb}
@@ -220,8 +220,8 @@ module _ {t : List ℕ} {start : ℕ} {b : List ℕ} {to at size : ℕ} {out : L
 
     -- one label more
     module _ (g : not (p .found) ≡ false) where
-      pub labels-far : at < p .at
-      labels-far = omega (arith, q .further (not-false _ g))
+      pub labels-less : length t - p .at < length t - at
+      labels-less = omega (arith, q .further (not-false _ g), q .within)
 
       got : Got (label .parse (drop at t)) (Lettered out (to + size) (p .size) b′) (drop (p .at) t)
       got = tells-got (q .tells) (not-false _ g)
@@ -235,7 +235,7 @@ module _ {t : List ℕ} {start : ℕ} {b : List ℕ} {to at size : ℕ} {out : L
         over = overs;
         most = k .most;
         within = q .within;
-        onward = omega (arith, w .onward, labels-far);
+        onward = omega (arith, w .onward, labels-less);
         some = λ z. (omega (arith, w .onward, q .further (not-false _ g)), none-last (w .l) a);
         long = q .long ∙ w .long;
       }

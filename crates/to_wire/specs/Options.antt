@@ -41,7 +41,7 @@ use Rattle.parse_tokens.specs.Hex.{HexRun, HexRead}
 use Rattle.parse_tokens.specs.Rows.{RowRead}
 use Rattle.parse_tokens.specs.Fields.{Done}
 use Rattle.parse_tokens.specs.Place.{Byte}
-use Rattle.parse_tokens.specs.Items.{part-of, item-of, Items, items-start, items-end, items-stop, items-far, items-more}
+use Rattle.parse_tokens.specs.Items.{part-of, item-of, Items, items-start, items-end, items-stop, items-less, items-more}
 use Rattle.to_wire.specs.Values.{run-octets, ValueStep}
 
 -- ---- code and length before a value
@@ -388,8 +388,8 @@ module _ {t : List ℕ} {c : Cursor} {b : List ℕ} (g : not (c .grammatical) �
           → OptionsStep membersParse t c b (r .cursor) out′
       rising-stop k z j = items-stop member 125 member-avoids member-comma t g (w .items) (y .found) k z j
 
-      pub rising-far : not (r .cursor .grammatical) ≡ false → d .at < r .cursor .at
-      rising-far j = items-far member 125 member-avoids member-comma t g (w .items) (y .found) j
+      pub rising-less : not (r .cursor .grammatical) ≡ false → length t - r .cursor .at < length t - d .at
+      rising-less j = items-less member 125 member-avoids member-comma t g (w .items) (y .found) j
 
       pub rising-more : {n : ℕ} → not (r .cursor .grammatical) ≡ false → length out′ ≡ length out → n ≡ r .code + 1
           → Rising t c b (r .cursor) n out′

@@ -2,7 +2,7 @@
 use mathlib.Core.Path.{_≡_, refl, sym, _∙_, ap, subst}
 use mathlib.Core.Bool.{Bool, true, false, not, cond, _||_, or-false, or-assoc}
 use mathlib.Core.List.{List, [], _∷_, _++_}
-use Prim.Native.Nat.{ℕ, _+_, _≤_, _<_, min}
+use Prim.Native.Nat.{ℕ, _+_, _-_, _≤_, _<_, min}
 use native.Mathlib.Omega.{arith}
 use borrow.Author.Tests.{not-true, not-false}
 use lib.Dec.{T}
@@ -23,7 +23,7 @@ use Rattle.parse_tokens.specs.Step.{put-last}
 use Rattle.parse_tokens.specs.Step.{all-last, Step}
 use Rattle.parse_tokens.specs.Leaf.{found-same}
 use Rattle.parse_tokens.specs.Place.{Byte}
-use Rattle.parse_tokens.specs.Items.{comma-of, part-of, item-of, Items, items-start, items-end, items-stop, items-far}
+use Rattle.parse_tokens.specs.Items.{comma-of, part-of, item-of, Items, items-start, items-end, items-stop, items-less}
 use Rattle.parse_tokens.specs.Items.{items-more}
 use Rattle.to_wire.specs.Meant.{any, recordMeant?, recordOctets, hides?, itemMeant?, itemOctets, itemOpt?}
 use Rattle.to_wire.specs.Meant.{itemShown?, itemHides?}
@@ -256,8 +256,8 @@ module _ {e : Element} (rcode : ℕ) {t b : List ℕ} {c : Cursor} (g : not (c .
       inside-no k p j q = rw q (items-stop (codecOf e) 93 (avoids e) (apart e) t g (w .items) z k p j)
 
       module _ (j : not (y .cursor .grammatical) ≡ false) where
-        pub gathered-far : d .at < y .cursor .at
-        gathered-far = items-far (codecOf e) 93 (avoids e) (apart e) t g (w .items) z j
+        pub gathered-less : length t - y .cursor .at < length t - d .at
+        gathered-less = items-less (codecOf e) 93 (avoids e) (apart e) t g (w .items) z j
 
         -- one more
         pub gathered-more : {n′ o′ : ℕ} {s′ h′ : Bool} → n′ ≡ atMost65536 (n + bit true)

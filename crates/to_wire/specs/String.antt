@@ -2,7 +2,7 @@
 use mathlib.Core.Path.{_≡_, refl, sym, _∙_, ap}
 use mathlib.Core.Bool.{Bool, true, false, not}
 use mathlib.Core.List.{List, [], _∷_, _++_}
-use Prim.Native.Nat.{ℕ, _+_, _≤_, _<_}
+use Prim.Native.Nat.{ℕ, _+_, _-_, _≤_, _<_}
 use native.Mathlib.Omega.{arith}
 use borrow.Author.Tests.{not-true, not-false, eq-eqb, ne-eqb, eqb-true, eqb-false}
 use lib.Dec.{eqb}
@@ -99,10 +99,11 @@ module _ {t : List ℕ} {c : Cursor} {b : List ℕ} {d : Cursor} {out : List ℕ
 -- one octet more
 module _ {t : List ℕ} {c : Cursor} {b : List ℕ} {d : Cursor} {out : List ℕ} (w : Chars t c b d out) {o : Letter}
     (q : LetterAt stringAt t (d .at) o) (m : not (o .found) ≡ false) where
-  pub chars-far : d .at < o .at
-  chars-far = q .further (not-false _ m)
+  pub chars-less : {r : Cursor} {b′ : List ℕ} → Added d (o .at) (o .value) out r b′
+      → length t - r .at < length t - d .at
+  chars-less a = omega (arith, a .emits .at, a .came .at, q .further (not-false _ m), q .within)
 
-  pub chars-more : {r : Cursor} {b′ : List ℕ} → Added d (o .at) (o .value) out r b′ → length b′ ≡ length b
+  pub chars-more : {r : Cursor} {b′ : List ℕ} → Added d (o .at) (o .value) out r b′ → length b′ ≡ length out
       → Chars t c b r b′
   unfolding stringChar
   chars-more {r} {b′} a z =
@@ -115,11 +116,11 @@ module _ {t : List ℕ} {c : Cursor} {b : List ℕ} {d : Cursor} {out : List ℕ
         put = put-as refl (ap (λ v. w .l ++ (v ∷ [])) (sym (got .holds))) (put-emit (put-to (w .put) keeps) (a .emits));
         moves = record {
           safe = record { inside = omega (arith, e, q .within); room = a .emits .room };
-          onward = omega (arith, e, chars-far, w .moves .onward);
+          onward = omega (arith, e, chars-less a, w .moves .onward);
         };
         place = none-last (w .l) (got .value)
-            ∙ sym (ne-eqb (r .at) (c .at) (λ y. omega (arith, e, chars-far, w .moves .onward)));
-        long = z;
+            ∙ sym (ne-eqb (r .at) (c .at) (λ y. omega (arith, e, chars-less a, w .moves .onward)));
+        long = z ∙ w .long;
       }
     where
       got : Got (stringAt (drop (d .at) t)) (λ v. o .value ≡ v) (drop (o .at) t)

@@ -39,7 +39,7 @@ use Rattle.parse_tokens.specs.Fields.{Done, done-past, done-held, found-done}
 use Rattle.to_wire.specs.String.{StringRead}
 use Rattle.hex_or_octets.specs.Digits.{Hexes, hexes, paired-hexes}
 use Rattle.parse_tokens.specs.Place.{Byte}
-use Rattle.parse_tokens.specs.Items.{comma-of, part-of, item-of, Items, items-start, items-end, items-stop, items-far}
+use Rattle.parse_tokens.specs.Items.{comma-of, part-of, item-of, Items, items-start, items-end, items-stop, items-less}
 use Rattle.parse_tokens.specs.Items.{items-more}
 
 -- ---- octets in hexadecimal, in place in the text
@@ -137,8 +137,8 @@ module _ {wide : Bool} {t : List ℕ} {c : Cursor} {b : List ℕ} (g : not (c .g
           → Step (all (numeral? wide)) (each (numeralForm wide)) numeralsParse t c b r out′
       numerals-stop k z j = items-stop number 93 (number-avoids 93 tt) number-apart t g (w .items) one-more k z j
 
-      pub numerals-far : not (r .grammatical) ≡ false → d .at < r .at
-      numerals-far j = items-far number 93 (number-avoids 93 tt) number-apart t g (w .items) one-more j
+      pub numerals-less : not (r .grammatical) ≡ false → length t - r .at < length t - d .at
+      numerals-less j = items-less number 93 (number-avoids 93 tt) number-apart t g (w .items) one-more j
 
       pub numerals-more : not (r .grammatical) ≡ false → length out′ ≡ length out → Numerals wide t c b r false out′
       numerals-more j z = record {
@@ -434,8 +434,8 @@ module _ {t : List ℕ} {c : Cursor} {b : List ℕ} (g : not (c .grammatical) �
           → Step cookie? (each (λ h. h)) cookieParse t c b r out′
       cookies-stop k z j = items-stop hex 93 (hexText-avoids 93 tt) cookie-apart t g (w .items) one-cookie k z j
 
-      pub cookies-far : not (r .grammatical) ≡ false → d .at < r .at
-      cookies-far j = items-far hex 93 (hexText-avoids 93 tt) cookie-apart t g (w .items) one-cookie j
+      pub cookies-less : not (r .grammatical) ≡ false → length t - r .at < length t - d .at
+      cookies-less j = items-less hex 93 (hexText-avoids 93 tt) cookie-apart t g (w .items) one-cookie j
 
       pub cookies-more : {n : ℕ} → not (r .grammatical) ≡ false → length out′ ≡ length out → n ≡ next-part i
           → Cookies t c b r false n out′

@@ -1,9 +1,7 @@
 use Prim.Native.Nat.{_-_}
-use mathlib.Core.Path.{_∙_}
-use native.Mathlib.Omega.{arith}
 use lib.ListN.{length}
 use borrow.Author.Needs.{needs}
-use Rattle.to_wire.specs.Sections.{Gathered, gathered-start, gathered-far, gathered-more, inside-stopped}
+use Rattle.to_wire.specs.Sections.{Gathered, gathered-start, gathered-less, gathered-more, inside-stopped}
 use Rattle.to_wire.specs.Sections.{inside-end, inside-no}
 use Rattle.to_wire.proofs.entries.elements.Statement.{statement}
 use Rattle.to_wire.proofs.entries.elements.Tie as tie
@@ -53,22 +51,13 @@ either-requires-2 : tie.Need-either-requires-2 Inv-loop μ-loop
 either-requires-2 c κs = search needs
 
 same-length-2 : tie.Need-same-length-2 Inv-loop μ-loop
-same-length-2 c = c .before .before .before .before .before .before .before .before .out .given
-    ∙ c .before .before .before .before .before .before .before .before .before .before .before .before .before .loop
-    .inv .long
+same-length-2 c = search needs
 
 returns-3 : tie.Need-returns-3 Inv-loop μ-loop
 returns-3 c = search (inside-no, needs)
 
 loop-less : tie.Need-loop-less Inv-loop μ-loop
-loop-less c =
-    let m = c .before .before .before .before .before .before .before .before .before in
-    omega (
-      arith,
-      gathered-far _ (m .before .before .before .before .before .if1 .left)
-          (m .before .before .before .before .loop .inv) (m .comma-entry .ensures) (c .if3 .left),
-      m .comma-entry .ensures .moves .safe .inside,
-    )
+loop-less c = search (gathered-less, needs)
 
 loop-again : tie.Need-loop-again Inv-loop μ-loop
 loop-again c = search (gathered-more, needs)

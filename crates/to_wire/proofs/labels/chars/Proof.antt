@@ -1,5 +1,4 @@
-use Rattle.to_wire.specs.String.{Chars, chars-start, chars-stuck, chars-end, chars-bad, chars-far, chars-more}
-use native.Mathlib.Omega.{arith}
+use Rattle.to_wire.specs.String.{Chars, chars-start, chars-stuck, chars-end, chars-bad, chars-less, chars-more}
 use Prim.Native.Nat.{_-_}
 use lib.ListN.{length}
 use borrow.Author.Needs.{needs}
@@ -49,21 +48,10 @@ put-char-requires : tie.Need-put-char-requires Inv-loop μ-loop
 put-char-requires c κs = search needs
 
 loop-less : tie.Need-loop-less Inv-loop μ-loop
-loop-less c =
-    let m = c .before .before .before .before in
-    omega (
-      arith,
-      chars-far (m .before .before .before .before .before .loop .inv) (m .before .before .char-at .ensures)
-          (m .if3 .left),
-      c .before .before .put-char .ensures .emits .at,
-      c .before .before .put-char .ensures .came .at,
-    )
+loop-less c = search (chars-less, needs)
 
 loop-again : tie.Need-loop-again Inv-loop μ-loop
-loop-again c =
-    let m = c .before .before .before .before in
-    chars-more (m .before .before .before .before .before .loop .inv) (m .before .before .char-at .ensures)
-    (m .if3 .left) (c .before .before .put-char .ensures) (search needs)
+loop-again c = search (chars-more, needs)
 
 pub chars-spec : {M : Type 1} → statement M
 chars-spec =

@@ -1,6 +1,5 @@
 use Rattle.to_wire.specs.Label.{Letters, letters-start, label-none, letters-long, letters-end, letters-bad}
-use Rattle.to_wire.specs.Label.{letters-far, letters-more}
-use native.Mathlib.Omega.{arith}
+use Rattle.to_wire.specs.Label.{letters-less, letters-more}
 use Prim.Native.Nat.{_-_}
 use lib.ListN.{length}
 use borrow.Author.Needs.{needs}
@@ -68,13 +67,7 @@ add-n : tie.Need-add-n Inv-loop μ-loop
 add-n c = search needs
 
 loop-less : tie.Need-loop-less Inv-loop μ-loop
-loop-less c =
-    let m = c .before .before .before .before .before .before in
-    omega (
-      arith,
-      letters-far (m .before .before .before .loop .inv) (m .before .before .octet-at2 .ensures)
-          (m .before .if2 .left) (m .octet .ensures) (c .before .before .before .before .if4 .left),
-    )
+loop-less c = search (letters-less, needs)
 
 loop-again : tie.Need-loop-again Inv-loop μ-loop
 loop-again c = search (letters-more, needs)

@@ -1,6 +1,5 @@
-use Rattle.to_wire.specs.Name.{LabelsLoop, labels-start, labels-none, labels-end, labels-bad, labels-far}
+use Rattle.to_wire.specs.Name.{LabelsLoop, labels-start, labels-none, labels-end, labels-bad, labels-less}
 use Rattle.to_wire.specs.Name.{labels-more}
-use native.Mathlib.Omega.{arith}
 use Prim.Native.Nat.{_-_}
 use lib.ListN.{length}
 use borrow.Author.Needs.{needs}
@@ -59,14 +58,7 @@ name-length-requires : tie.Need-name-length-requires Inv-loop μ-loop
 name-length-requires c κs = search needs
 
 loop-less : tie.Need-loop-less Inv-loop μ-loop
-loop-less c =
-    let m = c .before .before .before .before .before in
-    omega (
-      arith,
-      labels-far (m .before .before .before .before .loop .inv)
-          (m .before .before .before .octet-at2 .ensures) (m .before .before .if2 .left) (m .label-at .ensures)
-          (c .before .if3 .left),
-    )
+loop-less c = search (labels-less, needs)
 
 loop-again : tie.Need-loop-again Inv-loop μ-loop
 loop-again c = search (labels-more, needs)

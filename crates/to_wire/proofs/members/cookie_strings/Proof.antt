@@ -1,11 +1,10 @@
 -- `members::cookie_strings` meets its contract: a string a turn.
 use Prim.Native.Nat.{_-_}
-use native.Mathlib.Omega.{arith}
 use borrow.Author.Needs.{needs}
 use borrow.Author.Tests.{not-true}
 use lib.ListN.{length}
 use Rattle.parse_tokens.specs.Step.{found-failed}
-use Rattle.to_wire.specs.Values.{Cookies, cookieParse, cookies-start, cookies-end, cookies-stop, cookies-far}
+use Rattle.to_wire.specs.Values.{Cookies, cookieParse, cookies-start, cookies-end, cookies-stop, cookies-less}
 use Rattle.to_wire.specs.Values.{cookies-more}
 use Rattle.to_wire.proofs.members.cookie_strings.Statement.{statement}
 use Rattle.to_wire.proofs.members.cookie_strings.Tie as tie
@@ -56,14 +55,7 @@ next-part-requires : tie.Need-next-part-requires Inv-loop μ-loop
 next-part-requires c κs = search needs
 
 loop-less : tie.Need-loop-less Inv-loop μ-loop
-loop-less c =
-    let m = c .before .before .before .before .before in
-    omega (
-      arith,
-      cookies-far (m .before .before .before .before .before .before .if1 .left)
-          (m .before .before .before .before .before .loop .inv) (m .before .before .comma .ensures)
-          (m .cookie-string .ensures) (c .before .if3 .left),
-    )
+loop-less c = search (cookies-less, needs)
 
 loop-again : tie.Need-loop-again Inv-loop μ-loop
 loop-again c = search (cookies-more, needs)

@@ -1,12 +1,11 @@
 -- `members::numerals` meets its contract: a number a turn.
 use Prim.Native.Nat.{_-_}
-use native.Mathlib.Omega.{arith}
 use borrow.Author.Needs.{needs}
 use borrow.Author.Tests.{not-true}
 use lib.ListN.{length}
 use Rattle.parse_tokens.specs.Step.{found-failed}
 use Rattle.to_wire.specs.Values.{Numerals, numeralsParse, numerals-start, numerals-end, numerals-stop}
-use Rattle.to_wire.specs.Values.{numerals-far, numerals-more}
+use Rattle.to_wire.specs.Values.{numerals-less, numerals-more}
 use Rattle.to_wire.proofs.members.numerals.Statement.{statement}
 use Rattle.to_wire.proofs.members.numerals.Tie as tie
 
@@ -50,13 +49,7 @@ returns-3 : tie.Need-returns-3 Inv-loop μ-loop
 returns-3 c = search (numerals-stop, needs)
 
 loop-less : tie.Need-loop-less Inv-loop μ-loop
-loop-less c =
-    let m = c .before .before .before .before .before .before in
-    omega (
-      arith,
-      numerals-far (m .before .before .before .before .if1 .left) (m .before .before .before .loop .inv)
-          (m .comma .ensures) (c .before .before .before .before .numeral .ensures) (c .if3 .left),
-    )
+loop-less c = search (numerals-less, needs)
 
 loop-again : tie.Need-loop-again Inv-loop μ-loop
 loop-again c = search (numerals-more, needs)

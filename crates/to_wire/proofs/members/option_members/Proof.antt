@@ -1,11 +1,10 @@
 -- `members::option_members` meets its contract: a member a turn.
 use Prim.Native.Nat.{_-_}
-use native.Mathlib.Omega.{arith}
 use borrow.Author.Needs.{needs}
 use borrow.Author.Tests.{not-true}
 use lib.ListN.{length}
 use Rattle.parse_tokens.specs.Step.{found-failed}
-use Rattle.to_wire.specs.Options.{Rising, membersParse, rising-start, rising-end, rising-stop, rising-far}
+use Rattle.to_wire.specs.Options.{Rising, membersParse, rising-start, rising-end, rising-stop, rising-less}
 use Rattle.to_wire.specs.Options.{rising-more}
 use Rattle.to_wire.proofs.members.option_members.Statement.{statement}
 use Rattle.to_wire.proofs.members.option_members.Tie as tie
@@ -53,13 +52,7 @@ add-least : tie.Need-add-least Inv-loop μ-loop
 add-least c = search needs
 
 loop-less : tie.Need-loop-less Inv-loop μ-loop
-loop-less c =
-    let m = c .before .before .before .before .before .before in
-    omega (
-      arith,
-      rising-far (m .before .before .before .before .before .if1 .left)
-          (m .before .before .before .before .loop .inv) (m .rising-member .ensures) (c .before .if3 .left),
-    )
+loop-less c = search (rising-less, needs)
 
 loop-again : tie.Need-loop-again Inv-loop μ-loop
 loop-again c = search (rising-more, needs)

@@ -88,8 +88,7 @@ same-length-7 c = search needs
 
 returns-7 : tie.Need-returns-7
 unfolding lookup rows syntaxOf
-returns-7 c = at-form (c .before .before .before .before .before .before .before .args .code) 11
-    (c .before .before .before .before .match .keys7) refl (word-value (c .before .before .numeral .ensures))
+returns-7 c = search (at-form, word-value, needs)
 
 same-length-8 : tie.Need-same-length-8
 same-length-8 c = search needs
