@@ -13,7 +13,7 @@ use Rattle.octets.specs.Bits.{is-true, and-left, and-right, octets-test}
 use Rattle.octets.specs.Fields.{be16, be32}
 use Rattle.octets.specs.Parsed.{Parsed, parsed, failed, and-then, strip}
 use Rattle.octets.specs.Codec.{_▷_, _⊗_, _◁_}
-use Rattle.octets.specs.Decimal.{natural, number, numberThen}
+use Rattle.octets.specs.Decimal.{number, numberThen}
 use Rattle.octets.specs.Hexadecimal.{hex}
 use Rattle.names.specs.Name.{Name, name?, nameForm}
 use Rattle.records.specs.Layout.{layouts, layoutOf, rdataAt, rdataFits?}
@@ -35,39 +35,72 @@ use Rattle.parse_tokens.specs.Cursor.{Passed}
 use Rattle.parse_tokens.specs.Step.{Found, found-as, found-sound, found-lit, found-map, found-behind, found-pair}
 use Rattle.parse_tokens.specs.Step.{found-at}
 use Rattle.parse_tokens.specs.Step.{Put, put-then, put-from, put-to, put-as, put-nothing, put-judged, put-emit, Step}
-use Rattle.parse_tokens.specs.Step.{step-lit, step-pair, step-behind, step-on, Judged, Emits}
-use Rattle.parse_tokens.specs.Number.{capped, capped-is, NumberRead}
+use Rattle.parse_tokens.specs.Step.{step-lit, step-pair, step-on, Judged, Emits}
+use Rattle.parse_tokens.specs.Number.{capped, capped-is, tillParse, TillRead}
 use Rattle.parse_tokens.specs.Signed.{TtlKept, SignedRead}
 use Rattle.parse_tokens.specs.Hex.{HexRun, HexRead}
-use Rattle.parse_tokens.specs.Fields.{Done}
+use Rattle.parse_tokens.specs.Fields.{Done, NumberPut, TtlPut}
 use Rattle.to_wire.specs.Name.{NameRead}
-use Rattle.to_wire.specs.Values.{sizeOf, run-octets}
+use Rattle.to_wire.specs.Values.{HexSpan, sizeOf, run-digits, run-octets}
 use Rattle.to_wire.specs.Meant.{recordMeant?, recordOctets, hides?}
 use Rattle.to_wire.specs.declared.entries.Entry.{Entry}
+use Rattle.to_wire.specs.declared.entries.Start.{Start}
 
--- ---- a number of two octets
-abbrev pub WordRead : List ℕ → Cursor → List ℕ → Amount → List ℕ → Type 0
-WordRead t c b r b′ = Found natural (λ n. Put u16? be16 c b (r .cursor) b′ n × (r .value ≡ capped n)) t c (r .cursor)
+-- ---- a number of two octets, and the title after it
+abbrev pub WordRead : List ℕ → List ℕ → Cursor → List ℕ → Amount → List ℕ → Type 0
+WordRead title t c b r b′ =
+    Found (tillParse title) (λ n. Put u16? be16 c b (r .cursor) b′ n × (r .value ≡ capped n)) t c (r .cursor)
 
-pub word-read : {t : List ℕ} {c d : Cursor} {n : Amount} {b b′ : List ℕ} → NumberRead t c n
-    → Done (λ m. n .value ≡ capped m) u16? be16 (n .cursor) b d b′
-    → WordRead t c b (record { cursor = d; value = n .value }) b′
-word-read x w = found-at (x .found) (w .at) (w .grammatical) (w .room) λ m e. (put-from (x .keeps) (w .put m e), e)
+pub word-read : {title t : List ℕ} {c d : Cursor} {n : Amount} {b b′ : List ℕ} → TillRead title t c n
+    → NumberPut (n .value) u16? be16 (n .cursor) b d b′
+    → WordRead title t c b (record { cursor = d; value = n .value }) b′
+word-read x w = found-at (x .found) (w .done .at) (w .done .grammatical) (w .done .room) λ m e.
+    (put-from (x .keeps) (w .done .put m e), e)
+
+-- ---- what a question and a record begin with
+-- the owner, TYPE and CLASS, and the title after them, part by part
+pub record StartRead (title t : List ℕ) (c : Cursor) (b : List ℕ) (r : Start) (b′ : List ℕ) : Type 0 where
+  pub end : Cursor
+  pub d : Cursor
+  pub e : Cursor
+  pub b₁ : List ℕ
+  pub b₂ : List ℕ
+  pub value : ℕ
+  pub name : NameRead t c b end b₁
+  pub title-type : Passed (ascii ",\"TYPE\":") t end d
+  pub type : WordRead (ascii ",\"CLASS\":") t d b₁ (record { cursor = e; value = r .rtype }) b₂
+  pub class : WordRead title t e b₂ (record { cursor = r .cursor; value = value }) b′
+  pub root : r .root ≡ eqb (end .at - c .at) 3
+
+pub start-read : {title t b b₁ b₂ b₃ : List ℕ} {c d e : Cursor} {k l : Amount} {root : Bool} → NameRead t c b d b₁
+    → Passed (ascii ",\"TYPE\":") t d e → WordRead (ascii ",\"CLASS\":") t e b₁ k b₂
+    → WordRead title t (k .cursor) b₂ l b₃ → root ≡ eqb (d .at - c .at) 3
+    → StartRead title t c b (record { cursor = l .cursor; rtype = k .value; root = root }) b₃
+start-read {b₁ = b₁} {b₂ = b₂} {d = d} {e = e} {k = k} {l = l} n p x y z = record {
+  end = d;
+  d = e;
+  e = k .cursor;
+  b₁ = b₁;
+  b₂ = b₂;
+  value = l .value;
+  name = n;
+  title-type = p;
+  type = x;
+  class = y;
+  root = z;
+}
 
 -- ---- questions
-pub question-read : {t b b₁ b₂ b₃ : List ℕ} {c d e f g r : Cursor} {k l : Amount}
-    → Passed (ascii "{\"NAME\":") t c d → NameRead t d b e b₁ → Passed (ascii ",\"TYPE\":") t e f
-    → WordRead t f b₁ k b₂ → Passed (ascii ",\"CLASS\":") t (k .cursor) g
-    → WordRead t g b₂ l b₃ → Passed (ascii "}") t (l .cursor) r
-    → Step question? questionForm (questionCodec .parse) t c b r b₃
+pub question-read : {t b b′ : List ℕ} {c d : Cursor} {r : Start} → Passed (ascii "{\"NAME\":") t c d
+    → StartRead (ascii "}") t d b r b′ → Step question? questionForm (questionCodec .parse) t c b (r .cursor) b′
 unfolding questionCodec question? questionForm
-question-read p n q k s l z =
+question-read p x =
     step-on {ok = λ u. name? (u .0) && (u16? (u .1 .0) && u16? (u .1 .1))} {wire = λ u. nameForm (u .0)
     ++ (be16 (u .1 .0) ++ be16 (u .1 .1))}
     (λ (n, (t, c)). record { name = n; type = t; class = c })
     (λ (n, (t, c)). and-assoc (name? n) (u16? t) (u16? c)) (λ (n, (t, c)). append-assoc (nameForm n) (be16 t) (be16 c))
-    (step-pair (step-lit p (found-as n λ a h. h .0))
-    (step-pair (step-lit q (step-behind (found-as k λ a h. h .0) s)) (step-behind (found-as l λ a h. h .0) z)))
+    (step-pair (step-lit p (found-as (x .name) λ a h. h .0))
+    (step-pair (step-lit (x .title-type) (found-as (x .type) λ a h. h .0)) (found-as (x .class) λ a h. h .0)))
 
 -- ---- RDATA
 -- the TYPE as the code judges it
@@ -99,7 +132,7 @@ zero-unlisted : layoutOf 0 ≡ none
 unfolding layoutOf layouts lookup
 zero-unlisted = refl
 
-pub kind-fits : (n : ℕ) (l : List ℕ) → rdataFits? (typeOr0 (capped n)) l ≡ rdataFits? n l
+kind-fits : (n : ℕ) (l : List ℕ) → rdataFits? (typeOr0 (capped n)) l ≡ rdataFits? n l
 kind-fits n l = go (ltb 65535 (capped n)) refl
   where
     go : (b : Bool) → ltb 65535 (capped n) ≡ b → rdataFits? (cond b 0 (capped n)) l ≡ rdataFits? n l
@@ -108,18 +141,26 @@ kind-fits n l = go (ltb 65535 (capped n)) refl
     go false e = let k : capped n ≡ n = omega (arith, nltb→le 65535 (capped n) (subst (λ b. T (not b)) (sym e) tt)) in
         ap (λ m. rdataFits? m l) k
 
+-- whether RDATA has the layout of its TYPE
+pub record RdataFits (t : List ℕ) (s : Span) (rtype : ℕ) (ok : Bool) : Type 0 where
+  pub fits : (n : ℕ) (l : List ℕ) → rtype ≡ capped n → HexRun t s l → rdataFits? n l ≡ ok
+
+pub rdata-fits : {rtype f : ℕ} {t : List ℕ} {s : Span} {ok : Bool} → f ≡ typeOr0 rtype
+    → ok ≡ rdataFits? f (paired (take (s .end - s .from) (drop (s .from) t))) → RdataFits t s rtype ok
+rdata-fits k o = record { fits = λ n l e x. sym (o ∙ rw (k, run-octets x, e) (kind-fits n l)) }
+
 -- the same digits, with the cursor elsewhere
 run-at : {t l : List ℕ} {s : Span} (r : Cursor) → HexRun t s l
     → HexRun t (record { cursor = r; from = s .from; end = s .end }) l
 run-at r h = record { digits = h .digits; octets = h .octets; ordered = h .ordered; within = h .within; long = h .long }
 
-pub rdata-read : {rtype f n : ℕ} {t b b₁ b₂ h : List ℕ} {c d e r : Cursor} {s : Span} {ok : Bool} → HexRead t c s
-    → h ≡ take (s .end - s .from) (drop (s .from) t) → f ≡ typeOr0 rtype → ok ≡ rdataFits? f (paired h)
-    → Judged ok (s .cursor) d → n ≡ sizeOf s → Emits ((n / 256 % 256) ∷ (n % 256) ∷ []) d b e b₁
-    → Done (HexRun t s) (λ l. true) (λ l. l) e b₁ r b₂
+pub rdata-read : {rtype n : ℕ} {t b b₁ b₂ : List ℕ} {c d e r : Cursor} {s : Span} {ok : Bool} → HexRead t c s
+    → RdataFits t s rtype ok → Judged ok (s .cursor) d → n ≡ sizeOf s
+    → Emits ((n / 256 % 256) ∷ (n % 256) ∷ []) d b e b₁ → Done (HexRun t s) (λ l. true) (λ l. l) e b₁ r b₂
     → RdataRead rtype t c b (record { cursor = r; from = s .from; end = s .end }) b₂
-rdata-read {rtype} {f} {n} {t} {b} {b₁} {b₂} {h} {c} {d} {e} {r} {s} {ok} x g k o j i y z = record {
-  found = found-at (x .found) (z .at ∙ y .at ∙ j .at) (z .grammatical ∙ y .grammatical ∙ j .grammatical) (z .room) told;
+rdata-read {rtype} {n} {t} {b} {b₁} {b₂} {c} {d} {e} {r} {s} {ok} x f j i y z = record {
+  found = found-at (x .found) (z .at ∙ y .at ∙ j .at) (z .grammatical ∙ y .grammatical ∙ j .grammatical) (z .room)
+      λ l v. (put l v, run-at r v);
   so-far = x .so-far;
   run = run-at r (x .run);
   still = λ m. subst T (x .keeps .meaningful)
@@ -128,27 +169,34 @@ rdata-read {rtype} {f} {n} {t} {b} {b₁} {b₂} {h} {c} {d} {e} {r} {s} {ok} x 
       (and-left (e .meaningful) true (subst T (z .put (x .so-far) (x .run) .meaningful) m))));
 }
   where
-    told : (l : List ℕ) → HexRun t s l
-        → ((m : ℕ) → rtype ≡ capped m → Put (rdataFits? m) (λ l. be16 (length l) ++ l) c b r b₂ l)
-        × HexRun t (record { cursor = r; from = s .from; end = s .end }) l
-    told l v = (put, run-at r v)
-      where
-        octets : paired h ≡ l
-        octets = ap paired g ∙ run-octets v
+    put : (l : List ℕ) → HexRun t s l → (m : ℕ) → rtype ≡ capped m
+        → Put (rdataFits? m) (λ l. be16 (length l) ++ l) c b r b₂ l
+    put l v m q =
+        let size : n ≡ length l = omega (arith, i, v .long) in
+        put-as (sym (and-true (rdataFits? m l))) (rw (← size))
+        (put-then (put-emit {wire = λ l. []}
+        (put-judged {wire = λ l. []} {ok = λ l. true} {ok′ = rdataFits? m}
+        (put-nothing b {a = l} (x .keeps) refl refl) j (f .fits m l q v)) y) (z .put l v))
 
-        size : n ≡ length l
-        size = omega (arith, i, v .long)
-
-        judged : (m : ℕ) → rtype ≡ capped m → ok ≡ rdataFits? m l
-        judged m q = o ∙ rw (k, octets, q) (kind-fits m l)
-
-        put : (m : ℕ) → rtype ≡ capped m → Put (rdataFits? m) (λ l. be16 (length l) ++ l) c b r b₂ l
-        put m q = put-as (sym (and-true (rdataFits? m l))) (rw (← size))
-            (put-then (put-emit {wire = λ l. []}
-            (put-judged {wire = λ l. []} {ok = λ l. true} {ok′ = rdataFits? m}
-            (put-nothing b {a = l} (x .keeps) refl refl) j (sym (judged m q))) y) (z .put l v))
+pub rdata-digits : {rtype : ℕ} {t b b′ : List ℕ} {c : Cursor} {s : Span} → RdataRead rtype t c b s b′ → HexSpan t s
+rdata-digits x = run-digits (x .run)
 
 -- ---- records
+-- TTL, and the title of RDATA
+abbrev pub ttlParse : List ℕ → Parsed Signed
+ttlParse = numberThen ",\"RDATAHEX\":" tt signedNumber .parse
+
+abbrev pub TtlRead : List ℕ → Cursor → List ℕ → Ttl → List ℕ → Type 0
+TtlRead t c b r b′ = Found ttlParse (λ s. SignedNumber s
+    × (Put ttl? (λ s. be32 (unsigned s)) c b (r .cursor) b′ s × TtlKept (r .fits) (r .bits) s)) t c (r .cursor)
+
+pub ttl-read : {t b b′ : List ℕ} {c d r : Cursor} {v : Ttl} → SignedRead t c v
+    → Passed (ascii ",\"RDATAHEX\":") t (v .cursor) d → TtlPut (v .fits) (v .bits) d b r b′
+    → TtlRead t c b (record { cursor = r; bits = v .bits; fits = v .fits }) b′
+ttl-read x q w =
+    found-at (found-behind (found-sound signedNumber (x .found)) q) (w .done .at) (w .done .grammatical) (w .done .room)
+    λ s k. (k .0, (put-from (x .keeps) (put-from (q .keeps) (w .done .put s (k .1))), k .1))
+
 abbrev pub tailParse : List ℕ → Parsed (Signed × List ℕ)
 tailParse = (numberThen ",\"RDATAHEX\":" tt signedNumber ⊗ hex ◁ "}") .parse
 
@@ -182,26 +230,21 @@ pub shows-edns-of : {rtype bits rcode : ℕ} {root r : Bool} {t : List ℕ} {s :
     → CouldBeElement rtype root bits rcode t s r
 shows-edns-of {rtype} e f = record { shows = f ∙ rw (eq-eqb rtype 41 e) }
 
-pub tail-read : {rtype rcode : ℕ} {root h : Bool} {t b b₁ b₂ : List ℕ} {c d e r : Cursor} {v : Ttl} {s : Span}
-    → SignedRead t c v → Done (TtlKept (v .fits) (v .bits)) ttl? (λ s. be32 (unsigned s)) (v .cursor) b d b₁
-    → Passed (ascii ",\"RDATAHEX\":") t d e → RdataRead rtype t e b₁ s b₂
-    → Passed (ascii "}") t (s .cursor) r → CouldBeElement rtype root (v .bits) rcode t s h
+pub tail-read : {rtype rcode : ℕ} {root h : Bool} {t b b₁ b₂ : List ℕ} {c r : Cursor} {v : Ttl} {s : Span}
+    → TtlRead t c b v b₁ → RdataRead rtype t (v .cursor) b₁ s b₂ → Passed (ascii "}") t (s .cursor) r
+    → CouldBeElement rtype root (v .bits) rcode t s h
     → TailRead rtype root rcode t c b (record { cursor = r; opt = eqb rtype 41; shown = false; eligible = h }) b₂
-tail-read {rtype} {rcode} {root} {h} {t} {b} {b₁} {b₂} {c} {d} {e} {r} {v} {s} x w q y z g =
-    found-as (found-pair (found-behind (found-sound signedNumber ttl) q) (found-behind (y .found) z)) told
+tail-read {rtype} {rcode} {root} {h} {t} {b} {b₁} {b₂} {c} {r} {v} {s} x y z g =
+    found-as (found-pair x (found-behind (y .found) z)) told
   where
-    ttl : Found (signedNumber .parse) (λ a. Put ttl? (λ s. be32 (unsigned s)) c b d b₁ a
-        × TtlKept (v .fits) (v .bits) a) t c d
-    ttl = found-at (x .found) (w .at) (w .grammatical) (w .room) λ a k. (put-from (x .keeps) (w .put a k), k)
-
     told : (u : Signed × List ℕ)
         → (SignedNumber (u .0)
-        × (Put ttl? (λ s. be32 (unsigned s)) c b d b₁ (u .0) × TtlKept (v .fits) (v .bits) (u .0)))
-        × (((n : ℕ) → rtype ≡ capped n → Put (rdataFits? n) (λ l. be16 (length l) ++ l) e b₁ (s .cursor) b₂ (u .1))
-        × HexRun t s (u .1))
+        × (Put ttl? (λ s. be32 (unsigned s)) c b (v .cursor) b₁ (u .0) × TtlKept (v .fits) (v .bits) (u .0)))
+        × (((n : ℕ) → rtype ≡ capped n
+        → Put (rdataFits? n) (λ l. be16 (length l) ++ l) (v .cursor) b₁ (s .cursor) b₂ (u .1)) × HexRun t s (u .1))
         → Tail rtype root rcode c b (record { cursor = r; opt = eqb rtype 41; shown = false; eligible = h }) b₂ u
     told u k = record {
-      put = all;
+      put = λ n i. put-then (k .0 .1 .0) (put-to (k .1 .0 n i) (z .keeps));
       signed = k .0 .0;
       octets = k .1 .1 .octets;
       opt = refl;
@@ -209,16 +252,10 @@ tail-read {rtype} {rcode} {root} {h} {t} {b} {b₁} {b₂} {c} {d} {e} {r} {v} {
       eligible = λ m. g .shows ∙ rw (run-octets (k .1 .1), k .0 .1 .1 .1 (in-range m));
     }
       where
-        all : (n : ℕ) → rtype ≡ capped n
-            → Put (λ u. ttl? (u .0) && rdataFits? n (u .1)) (λ u. be32 (unsigned (u .0))
-            ++ (be16 (length (u .1)) ++ u .1)) c b r b₂ u
-        all n i = put-then (k .0 .1 .0) (put-to (put-from (q .keeps) (k .1 .0 n i)) (z .keeps))
-
         in-range : T (r .meaningful) → T (v .fits)
         in-range m =
-            let e′ : T (e .meaningful) = y .still (subst T (z .keeps .meaningful) m) in
-            subst T (sym (k .0 .1 .1 .0))
-            (and-right (c .meaningful) _ (subst T (q .keeps .meaningful ∙ k .0 .1 .0 .meaningful) e′))
+            let e : T (v .cursor .meaningful) = y .still (subst T (z .keeps .meaningful) m) in
+            subst T (sym (k .0 .1 .1 .0)) (and-right (c .meaningful) _ (subst T (k .0 .1 .0 .meaningful) e))
 
 -- a record from its owner on
 abbrev Fields : Type 0
@@ -293,15 +330,13 @@ three-behind m n h = go (eqb n (m + 3)) refl
     go true e = eq-eqb (n - m) 3 (omega (arith, eqb→eq n (m + 3) (subst T (sym e) tt)))
     go false e = ne-eqb (n - m) 3 (λ d. eqb-false n (m + 3) e (omega (arith, d)))
 
-pub record-read : {rcode : ℕ} {root : Bool} {t b b₁ b₂ b₃ b₄ : List ℕ} {c d f g h : Cursor} {k l : Amount} {r : Entry}
-    → NameRead t c b d b₁ → root ≡ eqb (d .at - c .at) 3 → Passed (ascii ",\"TYPE\":") t d f → WordRead t f b₁ k b₂
-    → Passed (ascii ",\"CLASS\":") t (k .cursor) g
-    → WordRead t g b₂ l b₃ → Passed (ascii ",\"TTL\":") t (l .cursor) h → TailRead (k .value) root rcode t h b₃ r b₄
-    → RecordRead rcode t c b r b₄
+pub record-read : {rcode : ℕ} {t b b₁ b₂ : List ℕ} {c : Cursor} {s : Start} {r : Entry}
+    → StartRead (ascii ",\"TTL\":") t c b s b₁ → TailRead (s .rtype) (s .root) rcode t (s .cursor) b₁ r b₂
+    → RecordRead rcode t c b r b₂
 unfolding recordRest recordOctets recordForm itemRecord hides?
-record-read {rcode} {root} {t} {b} {b₁} {b₂} {b₃} {b₄} {c} {d} {f} {g} {h} {k} {l} {r} n e p x q y s z =
+record-read {rcode} {t} {b} {b₁} {b₂} {c} {s} {r} x z =
     found-map recordFrom (λ u v. v)
-    (found-as (found-pair n (found-pair (found-lit p (found-behind x q)) (found-pair (found-behind y s) z))) told)
+    (found-as (found-pair (x .name) (found-pair (found-lit (x .title-type) (x .type)) (found-pair (x .class) z))) told)
   where
     wire : (u : Fields) → recordOctets (recordFrom u) ≡ nameForm (u .0)
         ++ (be16 (u .1 .0) ++ (be16 (u .1 .1 .0)
@@ -312,23 +347,23 @@ record-read {rcode} {root} {t} {b} {b₁} {b₂} {b₃} {b₄} {c} {d} {f} {g} {
         chain : (a b c d e f : List ℕ) → a ++ b ++ c ++ d ++ e ++ f ≡ a ++ (b ++ (c ++ (d ++ (e ++ f))))
         chain a b c d e f = simp append-assoc
 
-    hides : (u : Fields) → none? (u .0) ≡ root → k .value ≡ capped (u .1 .0)
-        → (eqb (k .value) 41 && showsEdns root (unsigned (u .1 .1 .1 .0)) rcode (u .1 .1 .1 .1)) ≡ hides? rcode
+    hides : (u : Fields) → none? (u .0) ≡ s .root → s .rtype ≡ capped (u .1 .0)
+        → (eqb (s .rtype) 41 && showsEdns (s .root) (unsigned (u .1 .1 .1 .0)) rcode (u .1 .1 .1 .1)) ≡ hides? rcode
         (recordFrom u)
     hides u e d = rw (d, capped-is (u .1 .0) 41 (omega arith), ← e)
         (ap (λ x. eqb (u .1 .0) 41 && x) (shows-edns rcode (itemRecord (recordFrom u))))
 
-    told : (u : Fields) → (Put name? nameForm c b d b₁ (u .0) × (none? (u .0) ≡ eqb (d .at) (c .at + 3)))
-        × ((Put u16? be16 f b₁ (k .cursor) b₂ (u .1 .0) × (k .value ≡ capped (u .1 .0)))
-        × ((Put u16? be16 g b₂ (l .cursor) b₃ (u .1 .1 .0) × (l .value ≡ capped (u .1 .1 .0)))
-        × Tail (k .value) root rcode h b₃ r b₄ (u .1 .1 .1)))
-        → RecordFacts rcode c b r b₄ (recordFrom u)
+    told : (u : Fields) → (Put name? nameForm c b (x .end) (x .b₁) (u .0) × (none? (u .0) ≡ eqb (x .end .at) (c .at + 3)))
+        × ((Put u16? be16 (x .d) (x .b₁) (x .e) (x .b₂) (u .1 .0) × (s .rtype ≡ capped (u .1 .0)))
+        × ((Put u16? be16 (x .e) (x .b₂) (s .cursor) b₁ (u .1 .1 .0) × (x .value ≡ capped (u .1 .1 .0)))
+        × Tail (s .rtype) (s .root) rcode (s .cursor) b₁ r b₂ (u .1 .1 .1)))
+        → RecordFacts rcode c b r b₂ (recordFrom u)
     told u v = record {
       put = put-as (record-judged u (v .1 .1 .1 .signed) (v .1 .1 .1 .octets)) (wire u) all;
       is-opt = v .1 .1 .1 .opt ∙ rw (v .1 .0 .1) (capped-is (u .1 .0) 41 (omega arith));
       is-shown = v .1 .1 .1 .shown;
-      is-hidden = λ m. v .1 .1 .1 .eligible m ∙ hides u (v .0 .1 ∙ sym (three-behind (c .at) (d .at) (n .moves .onward))
-          ∙ sym e) (v .1 .0 .1);
+      is-hidden = λ m. v .1 .1 .1 .eligible m ∙ hides u
+          (v .0 .1 ∙ sym (three-behind (c .at) (x .end .at) (x .name .moves .onward)) ∙ sym (x .root)) (v .1 .0 .1);
     }
       where
         all : Put {A = Fields} (λ u. name? (u .0)
@@ -337,7 +372,7 @@ record-read {rcode} {root} {t} {b} {b₁} {b₂} {b₃} {b₄} {c} {d} {f} {g} {
             (λ u. nameForm (u .0)
             ++ (be16 (u .1 .0) ++ (be16 (u .1 .1 .0)
             ++ (be32 (unsigned (u .1 .1 .1 .0)) ++ (be16 (length (u .1 .1 .1 .1)) ++ u .1 .1 .1 .1))))) c b
-            (r .cursor) b₄ u
+            (r .cursor) b₂ u
         all = put-as refl refl
-            (put-then (v .0 .0) (put-then (put-to (put-from (p .keeps) (v .1 .0 .0)) (q .keeps))
-            (put-then (put-to (v .1 .1 .0 .0) (s .keeps)) (v .1 .1 .1 .put (u .1 .0) (v .1 .0 .1)))))
+            (put-then (v .0 .0) (put-then (put-from (x .title-type .keeps) (v .1 .0 .0))
+            (put-then (v .1 .1 .0 .0) (v .1 .1 .1 .put (u .1 .0) (v .1 .0 .1)))))

@@ -7,7 +7,8 @@ ghost use Rattle.parse_tokens.specs.Step.{Step};
 ghost use Rattle.to_wire.specs.Values.{HexSpan};
 ghost use Rattle.records.specs.Message.{question?, questionForm};
 ghost use Rattle.strict.specs.Parser.{questionCodec};
-ghost use Rattle.to_wire.specs.Reading.{WordRead, typeOr0, RdataRead, CouldBeElement, TailRead, RecordRead};
+ghost use Rattle.to_wire.specs.Reading.{WordRead, StartRead, typeOr0, RdataFits, RdataRead};
+ghost use Rattle.to_wire.specs.Reading.{CouldBeElement, TtlRead, TailRead, RecordRead};
 ghost use Rattle.to_wire.specs.Items.{ItemRead};
 ghost use Rattle.to_wire.specs.Sections.{QuestionEntryRead, TitledRead, OneRead, NextRead, InsideRead};
 ghost use Rattle.to_wire.specs.Sections.{SectionRead};
@@ -21,6 +22,7 @@ use parse_rdata::fits_layout;
 use parse_tokens::Amount;
 use parse_tokens::Cursor;
 use parse_tokens::Span;
+use parse_tokens::Ttl;
 use parse_tokens::advance;
 use parse_tokens::comma;
 use parse_tokens::demand;
@@ -29,7 +31,7 @@ use parse_tokens::emit;
 use parse_tokens::furthest_failure;
 use parse_tokens::hex;
 use parse_tokens::literal;
-use parse_tokens::number;
+use parse_tokens::number_then;
 use parse_tokens::octet_at;
 use parse_tokens::put_ttl;
 use parse_tokens::put_u16;
@@ -44,15 +46,42 @@ struct Entry {
     eligible: bool,
 }
 
-// A number of two octets, and what it is.
-fn u16_field(text: &[u8], c: Cursor, out: &mut [u8]) -> Amount
+// A number of two octets with `title` after it, and what it is.
+fn u16_then(text: &[u8], c: Cursor, title: &[u8], out: &mut [u8]) -> Amount
     requires { ⌜ Safe (now text) c ⌝ }
-    ensures { λ r. ⌜ WordRead (now (text .entry)) c (now (out .entry)) r (now (out .exit)) ⌝ }
+    ensures { λ r. ⌜ WordRead (now (title .entry)) (now (text .entry)) c (now (out .entry)) r (now (out .exit)) ⌝ }
 {
-    let n = number(text, c);
+    let n = number_then(text, c, title);
     Amount {
         cursor: put_u16(n.cursor, n.value, out),
         value: n.value,
+    }
+}
+
+// What was read of the members that a question and a record begin with: TYPE, and whether the owner is the root.
+struct Start {
+    cursor: Cursor,
+    rtype: u64,
+    root: bool,
+}
+
+// Owner, TYPE and CLASS with `title` after them.
+fn name_type_class(text: &[u8], c: Cursor, title: &[u8], out: &mut [u8]) -> Start
+    requires { ⌜ Safe (now text) c ⌝ }
+    ensures { λ r. ⌜ StartRead (now (title .entry)) (now (text .entry)) c (now (out .entry)) r (now (out .exit)) ⌝ }
+{
+    let start = c.at;
+    let owner = name(text, c, out);
+    let end = owner.at;
+    let size = end - start;
+    let behind = literal(text, owner, b",\"TYPE\":");
+    let rtype = u16_then(text, behind, b",\"CLASS\":", out);
+    let class = u16_then(text, rtype.cursor, title, out);
+    let next = class.cursor;
+    Start {
+        cursor: next,
+        rtype: rtype.value,
+        root: size == 3,
     }
 }
 
@@ -63,12 +92,8 @@ fn question(text: &[u8], c: Cursor, out: &mut [u8]) -> Cursor
         (now (out .exit)) ⌝ }
 {
     let start = literal(text, c, b"{\"NAME\":");
-    let owner = name(text, start, out);
-    let behind = literal(text, owner, b",\"TYPE\":");
-    let rtype = u16_field(text, behind, out);
-    let further = literal(text, rtype.cursor, b",\"CLASS\":");
-    let class = u16_field(text, further, out);
-    literal(text, class.cursor, b"}")
+    let question = name_type_class(text, start, b"}", out);
+    question.cursor
 }
 
 // A TYPE as it is judged; one that is out of range has no layout.
@@ -81,21 +106,29 @@ fn type_or_0(value: u64) -> u32
     value as u32
 }
 
+// Whether the RDATA of this span has the layout of its TYPE.
+fn rdata_fits(text: &[u8], span: Span, rtype: u64) -> bool
+    requires { ⌜ HexSpan (now text) span ⌝ }
+    ensures { λ r. ⌜ RdataFits (now (text .entry)) span rtype r ⌝ }
+{
+    let from = span.from;
+    let end = span.end;
+    fits_layout(type_or_0(rtype), &text[from..end])
+}
+
 // RDATA of a TYPE: judged, and written after its length.
 fn rdata(text: &[u8], c: Cursor, rtype: u64, out: &mut [u8]) -> Span
     requires { ⌜ Safe (now text) c ⌝ }
     ensures { λ r. ⌜ RdataRead rtype (now (text .entry)) c (now (out .entry)) r (now (out .exit)) ⌝ }
 {
     let span = hex(text, c);
-    let from = span.from;
-    let end = span.end;
     let size = size_of(span);
-    let d = demand(span.cursor, fits_layout(type_or_0(rtype), &text[from..end]));
+    let d = demand(span.cursor, rdata_fits(text, span, rtype));
     let e = emit(d, &[(size / 256 % 256) as u8, (size % 256) as u8], out);
     Span {
         cursor: put_hex(text, span, e, out),
-        from: from,
-        end: end,
+        from: span.from,
+        end: span.end,
     }
 }
 
@@ -112,15 +145,27 @@ fn shows_edns(text: &[u8], span: Span, rtype: u64, root: bool, bits: u32, rcode:
     is_edns(root, bits, rcode, &text[from..end], true)
 }
 
+// TTL with the title of RDATA after it.
+fn ttl_field(text: &[u8], c: Cursor, out: &mut [u8]) -> Ttl
+    requires { ⌜ Safe (now text) c ⌝ }
+    ensures { λ r. ⌜ TtlRead (now (text .entry)) c (now (out .entry)) r (now (out .exit)) ⌝ }
+{
+    let ttl = signed(text, c);
+    let title = literal(text, ttl.cursor, b",\"RDATAHEX\":");
+    Ttl {
+        cursor: put_ttl(title, ttl.bits, ttl.fits, out),
+        bits: ttl.bits,
+        fits: ttl.fits,
+    }
+}
+
 // TTL and RDATA, and the end of a record.
 fn ttl_rdata(text: &[u8], c: Cursor, rtype: u64, root: bool, rcode: u32, out: &mut [u8]) -> Entry
     requires { ⌜ Safe (now text) c × (rcode < 16) ⌝ }
     ensures { λ r. ⌜ TailRead rtype root rcode (now (text .entry)) c (now (out .entry)) r (now (out .exit)) ⌝ }
 {
-    let ttl = signed(text, c);
-    let written = put_ttl(ttl.cursor, ttl.bits, ttl.fits, out);
-    let title = literal(text, written, b",\"RDATAHEX\":");
-    let span = rdata(text, title, rtype, out);
+    let ttl = ttl_field(text, c, out);
+    let span = rdata(text, ttl.cursor, rtype, out);
     Entry {
         cursor: literal(text, span.cursor, b"}"),
         opt: rtype == 41,
@@ -134,15 +179,8 @@ fn record(text: &[u8], c: Cursor, rcode: u32, out: &mut [u8]) -> Entry
     requires { ⌜ Safe (now text) c × (rcode < 16) ⌝ }
     ensures { λ r. ⌜ RecordRead rcode (now (text .entry)) c (now (out .entry)) r (now (out .exit)) ⌝ }
 {
-    let start = c.at;
-    let owner = name(text, c, out);
-    let end = owner.at;
-    let behind = literal(text, owner, b",\"TYPE\":");
-    let rtype = u16_field(text, behind, out);
-    let further = literal(text, rtype.cursor, b",\"CLASS\":");
-    let class = u16_field(text, further, out);
-    let title = literal(text, class.cursor, b",\"TTL\":");
-    ttl_rdata(text, title, rtype.value, end - start == 3, rcode, out)
+    let start = name_type_class(text, c, b",\"TTL\":", out);
+    ttl_rdata(text, start.cursor, start.rtype, start.root, rcode, out)
 }
 
 // An element of the additional section.

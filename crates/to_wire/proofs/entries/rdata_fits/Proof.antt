@@ -1,0 +1,33 @@
+use borrow.Author.Needs.{needs}
+use Rattle.to_wire.specs.Reading.{rdata-fits}
+use Rattle.to_wire.proofs.entries.rdata_fits.Statement.{statement}
+use Rattle.to_wire.proofs.entries.rdata_fits.Tie as tie
+
+type-or-0-requires : tie.Need-type-or-0-requires
+type-or-0-requires c κs = search needs
+
+sub-fits-layout : tie.Need-sub-fits-layout
+sub-fits-layout c = search needs
+
+part-fits-layout-start : tie.Need-part-fits-layout-start
+part-fits-layout-start c = search needs
+
+part-fits-layout-end : tie.Need-part-fits-layout-end
+part-fits-layout-end c = search needs
+
+fits-layout-requires : tie.Need-fits-layout-requires
+fits-layout-requires c κs = search needs
+
+returns : tie.Need-returns
+returns c = search (rdata-fits, needs)
+
+pub rdata-fits-spec : {M : Type 1} → statement M
+rdata-fits-spec =
+    tie.close
+    (tie.spec
+    type-or-0-requires
+    sub-fits-layout
+    part-fits-layout-start
+    part-fits-layout-end
+    fits-layout-requires
+    returns)
