@@ -8,7 +8,7 @@ use lib.Dec.{T, ltb→lt}
 use Rattle.octets.specs.Lists.{ascii, u16?}
 use Rattle.octets.specs.Fields.{be16}
 use Rattle.octets.specs.Bits.{and-left, and-right}
-use Rattle.octets.specs.Parsed.{Parsed}
+use Rattle.octets.specs.Parsed.{Parsed, parsed, and-then, strip}
 use Rattle.octets.specs.Codec.{_⊗_}
 use Rattle.octets.specs.Decimal.{number, numberThen}
 use Rattle.records.specs.Message.{bit?, four-bits?}
@@ -17,12 +17,13 @@ use Rattle.parse_tokens.specs.declared.Amount.{Amount}
 use Rattle.parse_tokens.specs.Cursor.{Keeps, keeps-then, Passed}
 use Rattle.parse_tokens.specs.Step.{Found, found-as, found-lit, found-map, found-pair, found-at, Put, put-from, put-as}
 use Rattle.parse_tokens.specs.Step.{Judged, Emits}
-use Rattle.parse_tokens.specs.Number.{capped, capped-below, NumberRead, TillRead}
-use Rattle.parse_tokens.specs.Fields.{Done, done-then}
+use Rattle.parse_tokens.specs.Number.{capped, capped-below, NumberRead, tillParse, TillRead}
+use Rattle.parse_tokens.specs.Fields.{Done, done-then, NumberPut}
 use Rattle.strict.specs.Parser.{Head, head}
 use Rattle.to_wire.specs.Meant.{highMeant?, highOctet, lowMeant?, lowOctet, headMeant?, headOctets}
 use Rattle.to_wire.specs.declared.head.Flags.{Flags}
 use Rattle.to_wire.specs.declared.head.Counts.{Counts}
+use Rattle.to_wire.specs.declared.head.HeadNumbers.{HeadNumbers}
 use Rattle.to_wire.specs.declared.head.Header.{Header}
 
 -- ---- the flags
@@ -235,13 +236,12 @@ abbrev pub PutCounts : Counts → Cursor → List ℕ → Cursor → List ℕ �
 PutCounts counts = Done (Counted counts) words? fourWords
 
 abbrev pub Words : ℕ → Cursor → List ℕ → Cursor → List ℕ → Type 0
-Words value = Done (λ n. value ≡ capped n) u16? be16
+Words value = NumberPut value u16? be16
 
-pub put-counts : {q a n r : ℕ} {c d e f g : Cursor} {b b₁ b₂ b₃ b₄ : List ℕ} → Words q c b d b₁ → Words a d b₁ e b₂
-    → Words n e b₂ f b₃ → Words r f b₃ g b₄
-    → Done {A = Four} (λ u. (q ≡ capped (u .0))
-    × ((a ≡ capped (u .1 .0)) × ((n ≡ capped (u .1 .1 .0)) × (r ≡ capped (u .1 .1 .1))))) words? fourWords c b g b₄
-put-counts w x y z = done-then w (done-then x (done-then y z))
+pub put-counts : (n : Counts) {c d e f g : Cursor} {b b₁ b₂ b₃ b₄ : List ℕ} → Words (n .questions) c b d b₁
+    → Words (n .answers) d b₁ e b₂ → Words (n .authority) e b₂ f b₃ → Words (n .additional) f b₃ g b₄
+    → PutCounts n c b g b₄
+put-counts n w x y z = done-then (w .done) (done-then (x .done) (done-then (y .done) (z .done)))
 
 -- ---- the head
 -- what the head gives: RCODE, if all is meant, and the counts
@@ -253,68 +253,81 @@ abbrev pub HeadRead : List ℕ → Cursor → List ℕ → Header → List ℕ �
 HeadRead t c b r b′ =
     Found (head .parse) (λ h. Put headMeant? headOctets c b (r .cursor) b′ h × Told r h) t c (r .cursor)
 
-abbrev Numbers : Type 0
+abbrev pub Numbers : Type 0
 Numbers = ℕ × (Five × (Four × Four))
 
-abbrev headFrom : Numbers → Head
+abbrev pub headFrom : Numbers → Head
 headFrom (id, ((qr, (opcode, (aa, (tc, rd)))), ((ra, (ad, (cd, rcode))), n))) = (
   record { id = id; qr = qr; opcode = opcode; aa = aa; tc = tc; rd = rd; ra = ra; ad = ad; cd = cd; rcode = rcode },
   n,
 )
 
-pub head-read : {t b b₁ b₂ b₃ : List ℕ} {c start d e r : Cursor} {id : Amount} {high low : Flags} {counts : Counts}
-    {rcode : ℕ}
+abbrev pub numbersParse : List ℕ → Parsed Numbers
+numbersParse w = and-then (and-then (strip (ascii "{\"ID\":") w) λ u r. tillParse (ascii ",\"QR\":") r) λ i w.
+    and-then (and-then (highParse w) λ h w.
+    and-then (and-then (lowParse w) λ l w. and-then (countsParse w) λ n r. parsed (l, n) r) λ u r. parsed (h, u) r)
+    λ u r. parsed (i, u) r
+
+-- what is known of the numbers that were read
+abbrev pub NumbersKept : HeadNumbers → Numbers → Type 0
+NumbersKept r u = (r .id ≡ capped (u .0))
+    × (FlagsKept highMeant? highOctet (r .high) (u .1 .0)
+    × (FlagsKept lowMeant? lowOctet (r .low) (u .1 .1 .0) × Counted (r .counts) (u .1 .1 .1)))
+
+pub record NumbersRead (t : List ℕ) (c : Cursor) (r : HeadNumbers) : Type 0 where
+  pub found : Found numbersParse (NumbersKept r) t c (r .counts .cursor)
+  pub keeps : Keeps t c (r .counts .cursor)
+
+pub numbers-read : {t : List ℕ} {c start : Cursor} {id : Amount} {high low : Flags} {counts : Counts}
     → Passed (ascii "{\"ID\":") t c start → TillRead (ascii ",\"QR\":") t start id → HighRead t (id .cursor) high
     → LowRead t (high .cursor) low → CountsRead t (low .cursor) counts
-    → Words (id .value) (counts .cursor) b d b₁ → PutFlags high low d b₁ e b₂ → PutCounts counts e b₂ r b₃
-    → rcode ≡ low .octet % 16
-    → HeadRead t c b (record { cursor = r; rcode = rcode; counts = counts }) b₃
-unfolding head headMeant? headOctets
-head-read {t} {b} {b₁} {b₂} {b₃} {c} {start} {d} {e} {r} {id} {high} {low} {counts} {rcode} q i h l n w f g z =
-    found-map headFrom (λ u k. k)
-    (found-at {Q = λ u. Put headMeant? headOctets c b r b₃ (headFrom u)
-    × Told (record { cursor = r; rcode = rcode; counts = counts }) (headFrom u)}
-    (found-pair (found-lit q (i .found)) (found-pair (h .found) (found-pair (l .found) (n .found))))
-    (all .at) (all .grammatical) (all .room) told)
+    → NumbersRead t c (record { id = id .value; high = high; low = low; counts = counts })
+numbers-read q i h l n = record {
+  found = found-pair (found-lit q (i .found)) (found-pair (h .found) (found-pair (l .found) (n .found)));
+  keeps = keeps-then (q .keeps) (keeps-then (i .keeps) (keeps-then (h .keeps) (keeps-then (l .keeps) (n .keeps))));
+}
+
+-- the header was written
+abbrev pub PutHeader : HeadNumbers → List ℕ → Cursor → List ℕ → Type 0
+PutHeader r b d b′ = Done (NumbersKept r) (λ u. headMeant? (headFrom u)) (λ u. headOctets (headFrom u))
+    (r .counts .cursor) b d b′
+
+pub put-header : (m : HeadNumbers) {b b₁ b₂ b₃ : List ℕ} {d e r : Cursor} → Words (m .id) (m .counts .cursor) b d b₁
+    → PutFlags (m .high) (m .low) d b₁ e b₂ → PutCounts (m .counts) e b₂ r b₃ → PutHeader m b r b₃
+unfolding headMeant? headOctets
+put-header m w f g =
+    let all = done-then (w .done) (done-then f g) in
+    record {
+      at = all .at;
+      grammatical = all .grammatical;
+      room = all .room;
+      put = λ u k. put-as (inner (u16? (u .0)) (highMeant? (u .1 .0)) (lowMeant? (u .1 .1 .0)) (words? (u .1 .1 .1))) refl
+          (all .put (u .0, ((u .1 .0, u .1 .1 .0), u .1 .1 .1)) (k .0, ((k .1 .0, k .1 .1 .0), k .1 .1 .1)));
+    }
   where
-    all : Done {A = ℕ × ((Five × Four) × Four)} (λ u. (id .value ≡ capped (u .0))
-        × ((FlagsKept highMeant? highOctet high (u .1 .0 .0) × FlagsKept lowMeant? lowOctet low (u .1 .0 .1))
-        × Counted counts (u .1 .1)))
-        (λ u. u16? (u .0) && ((highMeant? (u .1 .0 .0) && lowMeant? (u .1 .0 .1)) && words? (u .1 .1)))
-        (λ u. be16 (u .0) ++ ((highOctet (u .1 .0 .0) ∷ lowOctet (u .1 .0 .1) ∷ []) ++ fourWords (u .1 .1)))
-        (counts .cursor) b r b₃
-    all = done-then w (done-then f g)
+    inner : (a x y v : Bool) → a && (x && (y && v)) ≡ a && ((x && y) && v)
+    inner true true y v = refl
+    inner true false y v = refl
+    inner false x y v = refl
 
-    keeps : Keeps t c (counts .cursor)
-    keeps = keeps-then (q .keeps) (keeps-then (i .keeps) (keeps-then (h .keeps) (keeps-then (l .keeps) (n .keeps))))
-
-    told : (u : Numbers) → (id .value ≡ capped (u .0))
-        × (FlagsKept highMeant? highOctet high (u .1 .0)
-        × (FlagsKept lowMeant? lowOctet low (u .1 .1 .0) × Counted counts (u .1 .1 .1)))
-        → Put headMeant? headOctets c b r b₃ (headFrom u) × Told (record { cursor = r; rcode = rcode; counts = counts })
-        (headFrom u)
-    told u k =
-        let p = put-from keeps
-        (all .put (u .0, ((u .1 .0, u .1 .1 .0), u .1 .1 .1)) (k .0, ((k .1 .0, k .1 .1 .0), k .1 .1 .1))) in (
-          put-as (inner (u16? (u .0)) (highMeant? (u .1 .0)) (lowMeant? (u .1 .1 .0)) (words? (u .1 .1 .1))) refl p,
-          record { rcode = code p; counts = k .1 .1 .1 },
-        )
-      where
-        inner : (a x y v : Bool) → a && (x && (y && v)) ≡ a && ((x && y) && v)
-        inner true true y v = refl
-        inner true false y v = refl
-        inner false x y v = refl
-
-        code : Put {A = ℕ × ((Five × Four) × Four)} (λ v. u16? (v .0)
-            && ((highMeant? (v .1 .0 .0) && lowMeant? (v .1 .0 .1)) && words? (v .1 .1))) (λ v. be16 (v .0)
-            ++ ((highOctet (v .1 .0 .0) ∷ lowOctet (v .1 .0 .1) ∷ []) ++ fourWords (v .1 .1))) c b r b₃
-            (u .0, ((u .1 .0, u .1 .1 .0), u .1 .1 .1))
-            → T (r .meaningful) → rcode ≡ u .1 .1 .0 .1 .1 .1
-        code p m =
-            let t0 = and-right (c .meaningful) _ (subst T (p .meaningful) m) in
-            let t1 = and-left (highMeant? (u .1 .0) && lowMeant? (u .1 .1 .0)) _ (and-right (u16? (u .0)) _ t0) in
-            let t2 = and-right (highMeant? (u .1 .0)) _ t1 in
-            let o = k .1 .1 .0 .1 (subst T (sym (k .1 .1 .0 .0)) t2) in
-            let t3 = and-right (bit? (u .1 .1 .0 .1 .1 .0)) _
-            (and-right (bit? (u .1 .1 .0 .1 .0)) _ (and-right (bit? (u .1 .1 .0 .0)) _ t2)) in
-            omega (arith, z, o, ltb→lt (u .1 .1 .0 .1 .1 .1) 16 t3)
+pub head-read : {t b b′ : List ℕ} {c r : Cursor} {m : HeadNumbers} {rcode : ℕ} → NumbersRead t c m
+    → PutHeader m b r b′ → rcode ≡ m .low .octet % 16
+    → HeadRead t c b (record { cursor = r; rcode = rcode; counts = m .counts }) b′
+unfolding head headMeant?
+head-read {c = c} {r = r} {m = m} {rcode = rcode} x w z =
+    found-map headFrom (λ u k. k) (found-at (x .found) (w .at) (w .grammatical) (w .room) λ u k.
+    let p = put-from (x .keeps) (w .put u k) in (
+      put-as refl refl p,
+      record { rcode = code u k (p .meaningful); counts = k .1 .1 .1 },
+    ))
+  where
+    code : (u : Numbers) → NumbersKept m u → r .meaningful ≡ (c .meaningful && headMeant? (headFrom u))
+        → T (r .meaningful) → rcode ≡ u .1 .1 .0 .1 .1 .1
+    code u k e y =
+        let t0 = and-right (c .meaningful) _ (subst T e y) in
+        let t1 = and-right (highMeant? (u .1 .0)) _ (and-right (u16? (u .0)) _ t0) in
+        let t2 = and-left (lowMeant? (u .1 .1 .0)) _ t1 in
+        let o = k .1 .1 .0 .1 (subst T (sym (k .1 .1 .0 .0)) t2) in
+        let t3 = and-right (bit? (u .1 .1 .0 .1 .1 .0)) _
+        (and-right (bit? (u .1 .1 .0 .1 .0)) _ (and-right (bit? (u .1 .1 .0 .0)) _ t2)) in
+        omega (arith, z, o, ltb→lt (u .1 .1 .0 .1 .1 .1) 16 t3)

@@ -2,7 +2,7 @@
 ghost use Prim.Native.Nat.{_≤_, _<_};
 ghost use Rattle.parse_tokens.specs.Cursor.{Safe};
 ghost use Rattle.to_wire.specs.Head.{HighBits, LowBits, HighRead, LowRead, CountsRead, PutFlags, PutCounts};
-ghost use Rattle.to_wire.specs.Head.{HeadRead};
+ghost use Rattle.to_wire.specs.Head.{NumbersRead, PutHeader, HeadRead};
 use parse_tokens::Cursor;
 use parse_tokens::both;
 use parse_tokens::demand;
@@ -25,6 +25,14 @@ pub struct Counts {
     pub answers: u64,
     pub authority: u64,
     pub additional: u64,
+}
+
+// The numbers of the head.
+struct HeadNumbers {
+    id: u64,
+    high: Flags,
+    low: Flags,
+    counts: Counts,
 }
 
 // What the rest needs of the head: RCODE and the counts.
@@ -130,22 +138,46 @@ fn put_counts(c: Cursor, counts: Counts, out: &mut [u8]) -> Cursor
     put_u16(n, counts.additional, out)
 }
 
-// Reads the head and writes the header.
-pub fn head(text: &[u8], c: Cursor, out: &mut [u8]) -> Header
+// Reads the head.
+fn read_numbers(text: &[u8], c: Cursor) -> HeadNumbers
     requires { ⌜ Safe (now text) c ⌝ }
-    ensures { λ r. ⌜ HeadRead (now (text .entry)) c (now (out .entry)) r (now (out .exit)) ⌝ }
-    ensures { λ r. ⌜ r .rcode < 16 ⌝ }
+    ensures { λ r. ⌜ NumbersRead (now (text .entry)) c r ⌝ }
 {
     let start = literal(text, c, b"{\"ID\":");
     let id = number_then(text, start, b",\"QR\":");
     let high = high_flags(text, id.cursor);
     let low = low_flags(text, high.cursor);
     let counts = read_counts(text, low.cursor);
-    let a = put_u16(counts.cursor, id.value, out);
-    let b = put_flags(a, high, low, out);
-    let d = put_counts(b, counts, out);
+    HeadNumbers {
+        id: id.value,
+        high: high,
+        low: low,
+        counts: counts,
+    }
+}
+
+// Writes the header.
+fn put_header(numbers: HeadNumbers, out: &mut [u8]) -> Cursor
+    requires { ⌜ numbers .counts .cursor .to ≤ 65535 ⌝ }
+    ensures { λ r. ⌜ PutHeader numbers (now (out .entry)) r (now (out .exit)) ⌝ }
+{
+    let counts = numbers.counts;
+    let a = put_u16(counts.cursor, numbers.id, out);
+    let b = put_flags(a, numbers.high, numbers.low, out);
+    put_counts(b, counts, out)
+}
+
+// Reads the head and writes the header.
+pub fn head(text: &[u8], c: Cursor, out: &mut [u8]) -> Header
+    requires { ⌜ Safe (now text) c ⌝ }
+    ensures { λ r. ⌜ HeadRead (now (text .entry)) c (now (out .entry)) r (now (out .exit)) ⌝ }
+    ensures { λ r. ⌜ r .rcode < 16 ⌝ }
+{
+    let numbers = read_numbers(text, c);
+    let low = numbers.low;
+    let counts = numbers.counts;
     Header {
-        cursor: d,
+        cursor: put_header(numbers, out),
         rcode: (low.octet % 16) as u32,
         counts: counts,
     }

@@ -37,13 +37,7 @@ high-bits-requires : tie.Need-high-bits-requires
 high-bits-requires c κs = search needs
 
 returns : tie.Need-returns
-returns c = high-read
-    (c .before .before .before .before .before .before .before .before .before .number-then .ensures)
-    (c .before .before .before .before .before .before .before .number-then2 .ensures)
-    (c .before .before .before .before .before .number-then3 .ensures)
-    (c .before .before .before .number-then4 .ensures)
-    (c .before .number-then5 .ensures)
-    (c .high-bits .ensures)
+returns c = search (high-read, c .before .before .before .before, needs)
 
 pub high-flags-spec : {M : Type 1} → statement M
 high-flags-spec =

@@ -19,11 +19,7 @@ same-length : tie.Need-same-length
 same-length c = search needs
 
 returns : tie.Need-returns
-returns c =
-    let m = c .before .before .before .before .before .before in
-    put-counts (m .before .before .before .before .before .before .before .before .put-u16 .ensures .done)
-    (m .before .before .before .before .put-u162 .ensures .done) (m .put-u163 .ensures .done)
-    (c .before .before .put-u164 .ensures .done)
+returns c = search (put-counts, needs)
 
 pub put-counts-spec : {M : Type 1} → statement M
 put-counts-spec =
