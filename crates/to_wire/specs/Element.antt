@@ -34,6 +34,7 @@ use Rattle.parse_tokens.specs.declared.Row.{Row}
 use Rattle.parse_tokens.specs.Number.{capped, capped-below, capped-is, NumberRead, TillRead}
 use Rattle.parse_tokens.specs.Rows.{RowRead}
 use Rattle.to_wire.specs.Options.{options?, OptionsStep}
+use Rattle.to_wire.specs.declared.members.EdnsHead.{EdnsHead}
 
 -- ---- the parser after the title
 abbrev pub EdnsFields : Type 0
@@ -159,18 +160,15 @@ pub opt-none : {size full flags start to r : ℕ} (b : List ℕ) → to < start 
     → OptFronted size full flags start to b b r
 opt-none b h = record { wrote = λ i j k l. absurd (omega arith) }
 
-pub opt-fronted : {size full flags start to class ttl n : ℕ} {b b₁ b₂ b₃ b₄ b₅ : List ℕ} {r₁ r₂ r₃ r₄ r₅ : ℕ}
-    → class ≡ size % 65536 → ttl ≡ full / 16 % 256 * 16777216 + flags % 2 * 32768 → n ≡ to - (start + 11)
-    → Wrote b start (0 ∷ []) b₁ r₁ → Wrote b₁ r₁ (be16 41) b₂ r₂ → Wrote b₂ r₂ (be16 class) b₃ r₃
-    → Wrote b₃ r₃ (be32 ttl) b₄ r₄ → Wrote b₄ r₄ (be16 n) b₅ r₅
-    → OptFronted size full flags start to b b₅ r₅
-opt-fronted {size} {full} {flags} {start} {to} {class} {ttl} {n} {b} {b₅ = b₅} {r₅ = r₅} e d m v w x y z = record {
+pub opt-fronted : {size full flags start to : ℕ} {b b₁ b₂ b₃ b₄ : List ℕ} {r₁ r₂ r₃ r₄ : ℕ}
+    → Wrote b start (0 ∷ 0 ∷ 41 ∷ []) b₁ r₁ → Wrote b₁ r₁ (be16 (size % 65536)) b₂ r₂
+    → Wrote b₂ r₂ (be32 (full / 16 % 256 * 16777216 + flags % 2 * 32768)) b₃ r₃
+    → Wrote b₃ r₃ (be16 (to - (start + 11))) b₄ r₄ → OptFronted size full flags start to b b₄ r₄
+opt-fronted {size} {full} {flags} {start} {to} {b} {b₄ = b₄} {r₄ = r₄} w x y z = record {
   wrote = λ i j k l.
-      let s : class ≡ size = omega (arith, e) in
-      let u : ttl ≡ optTtl full flags = omega (arith, d) in
-      subst (λ (i : ℕ). Wrote b start (optFront i (optTtl full flags) (to - (start + 11))) b₅ r₅) s
-      (subst (λ (i : ℕ). Wrote b start (optFront class i (to - (start + 11))) b₅ r₅) u
-      (subst (λ (i : ℕ). Wrote b start (optFront class ttl i) b₅ r₅) m (then (then (then (then v w) x) y) z)));
+      let s : size % 65536 ≡ size = omega arith in
+      let u : full / 16 % 256 * 16777216 + flags % 2 * 32768 ≡ optTtl full flags = omega arith in
+      then (then (then w (rw s at x)) (rw u at y)) z;
 }
 
 -- ---- the whole
@@ -193,37 +191,58 @@ form-is e = rw (each-option (e .options))
 abbrev pub EdnsStep : ℕ → List ℕ → Cursor → List ℕ → Cursor → List ℕ → Type 0
 EdnsStep rcode t c b r b′ = Step (element? rcode) elementForm ednsRest t c b r b′
 
-pub edns-read : (rcode : ℕ) {t : List ℕ} {c h o j : Cursor} {b b₁ b₂ : List ℕ} {v s : Amount} {f x : Row} {ok : Bool}
-    {e : ℕ} → TillRead (ascii ",\"FLAGS\":") t c v → RowRead (tableParser flags) t (v .cursor) f
-    → RcodeRead t (f .cursor) x
-    → NumberRead t (x .cursor) s
-    → Held 11 (s .cursor) h → OptionsStep (optionMembers .parse) t h b o b₁
-    → ok ≡ ednsFits? (v .value) (x .key) rcode (s .value) → Judged ok o j
-    → OptFronted (s .value) (x .key) (f .key) (s .cursor .to) (j .to) b₁ b₂ e → EdnsStep rcode t c b j b₂
+-- the fields before the options, one after another
+pub record EdnsHeadRead (t : List ℕ) (c : Cursor) (r : EdnsHead) : Type 0 where
+  pub d : Cursor
+  pub e : Cursor
+  pub f : Cursor
+  pub version : TillRead (ascii ",\"FLAGS\":") t c (record { cursor = d; value = r .version })
+  pub row : RowRead (tableParser flags) t d (record { cursor = e; key = r .flags })
+  pub full : RcodeRead t e (record { cursor = f; key = r .full })
+  pub size : NumberRead t f (record { cursor = r .cursor; value = r .size })
+
+pub edns-head-read : {t : List ℕ} {c : Cursor} {v s : Amount} {f x : Row} → TillRead (ascii ",\"FLAGS\":") t c v
+    → RowRead (tableParser flags) t (v .cursor) f → RcodeRead t (f .cursor) x → NumberRead t (x .cursor) s
+    → EdnsHeadRead t c
+    (record { cursor = s .cursor; version = v .value; flags = f .key; full = x .key; size = s .value })
+edns-head-read {v = v} {f = f} {x = x} a b c d = record {
+  d = v .cursor;
+  e = f .cursor;
+  f = x .cursor;
+  version = a;
+  row = b;
+  full = c;
+  size = d;
+}
+
+pub edns-read : (rcode : ℕ) {t : List ℕ} {c h o j : Cursor} {b b₁ b₂ : List ℕ} {f : EdnsHead} {ok : Bool} {e : ℕ}
+    → EdnsHeadRead t c f → Held 11 (f .cursor) h → OptionsStep (optionMembers .parse) t h b o b₁
+    → ok ≡ ednsFits? (f .version) (f .full) rcode (f .size) → Judged ok o j
+    → OptFronted (f .size) (f .full) (f .flags) (f .cursor .to) (j .to) b₁ b₂ e → EdnsStep rcode t c b j b₂
 unfolding ednsRest ednsBehind
-edns-read rcode {t} {c} {h} {o} {j} {b} {b₁} {b₂} {v} {s} {f} {x} {ok} {e = end} version row full size places members
-    fit judged front =
+edns-read rcode {t} {c} {h} {o} {j} {b} {b₁} {b₂} {f} {ok} {e = end} x places members fit judged front =
     found-at (found-sound ednsBehind fields) (judged .at) (judged .grammatical)
     (omega (arith, judged .to, members .moves .safe .room)) λ e k. done e (k .0) (k .1)
   where
     Q : EdnsItem → Type 0
-    Q e = (v .value ≡ capped (e .version))
-        × ((f .key ≡ e .flags)
-        × ((x .key ≡ e .rcode)
-        × ((s .value ≡ capped (e .size)) × Put options? (each (λ m. optionForm (optionOf m))) h b o b₁ (e .options))))
+    Q e = (f .version ≡ capped (e .version))
+        × ((f .flags ≡ e .flags)
+        × ((f .full ≡ e .rcode)
+        × ((f .size ≡ capped (e .size)) × Put options? (each (λ m. optionForm (optionOf m))) h b o b₁ (e .options))))
 
     fields : Found (ednsBehind .parse) Q t c o
     fields = found-map itemOf (λ u k. k)
-        (found-pair (version .found)
-        (found-pair (row .found)
-        (found-pair (full .found) (found-pair (size .found) (found-from (places .at) (places .grammatical) members)))))
+        (found-pair (x .version .found)
+        (found-pair (x .row .found)
+        (found-pair (x .full .found)
+        (found-pair (x .size .found) (found-from (places .at) (places .grammatical) members)))))
 
     frontOf : EdnsItem → List ℕ
     frontOf e = optFront (e .size) (optTtl (e .rcode) (e .flags)) (length (rdataOf e))
 
     done : (e : EdnsItem) → EdnsIn e → Q e → Put (element? rcode) elementForm c b j b₂ e
     done e i q = put-from
-        (keeps-then (version .keeps) (keeps-then (row .keeps) (keeps-then (full .keeps) (size .keeps))))
+        (keeps-then (x .version .keeps) (keeps-then (x .row .keeps) (keeps-then (x .full .keeps) (x .size .keeps))))
         (put-as refl (form-is e) (put-before frontOf places refl p before))
       where
         fits : ok ≡ ednsFits? (e .version) (e .rcode) rcode (e .size)
@@ -239,9 +258,9 @@ edns-read rcode {t} {c} {h} {o} {j} {b} {b₁} {b₂} {v} {s} {f} {x} {ok} {e = 
         p = put-judged (put-as {ok′ = λ e. options? (e .options)} {wire′ = rdataOf} {a′ = e} refl refl (q .1 .1 .1 .1))
             judged (element-is rcode e i ∙ ap (λ (k : Bool). options? (e .options) && k) (sym fits))
 
-        before : T (j .meaningful) → T (j .bounded) → Wrote b₁ (s .cursor .to) (frontOf e) b₂ end
+        before : T (j .meaningful) → T (j .bounded) → Wrote b₁ (f .cursor .to) (frontOf e) b₂ end
         before y z =
-            let start = s .cursor .to in
+            let start = f .cursor .to in
             let w : T (options? (e .options) && ednsFits? (e .version) (e .rcode) rcode (e .size)) =
             subst T (element-is rcode e i) (and-right (h .meaningful) (element? rcode e) (subst T (p .meaningful) y)) in
             let l : e .size < 65536 =
@@ -251,13 +270,13 @@ edns-read rcode {t} {c} {h} {o} {j} {b} {b₁} {b₂} {v} {s} {f} {x} {ok} {e = 
             let u : j .to ≡ start + 11 + length (rdataOf e) =
             omega (arith, places .to (and-left (h .bounded) _ (subst T (p .bounded y) z)), p .wrote y z .place) in
             let n : j .to - (start + 11) ≡ length (rdataOf e) = omega (arith, u) in
-            let g : s .value ≡ e .size = omega (arith, q .1 .1 .1 .0) in
+            let g : f .size ≡ e .size = omega (arith, q .1 .1 .1 .0) in
             let k = front .wrote (omega (arith, g)) (rw (q .1 .1 .0) (rcode-octet (e .rcode) (i .1 .1 .0)))
             (rw (q .1 .0) (flags-bit (e .flags) (i .1 .0))) (omega (arith, u)) in
             subst (λ (m : ℕ). Wrote b₁ start (optFront (e .size) (optTtl (e .rcode) (e .flags)) m) b₂ end) n
             (subst (λ (m : ℕ). Wrote b₁ start (optFront m (optTtl (e .rcode) (e .flags)) (j .to - (start + 11))) b₂ end)
             g
-            (subst (λ (m : ℕ). Wrote b₁ start (optFront (s .value) (optTtl m (e .flags)) (j .to - (start + 11))) b₂ end)
+            (subst (λ (m : ℕ). Wrote b₁ start (optFront (f .size) (optTtl m (e .flags)) (j .to - (start + 11))) b₂ end)
             (q .1 .1 .0)
-            (subst (λ (m : ℕ). Wrote b₁ start (optFront (s .value) (optTtl (x .key) m) (j .to - (start + 11))) b₂ end)
+            (subst (λ (m : ℕ). Wrote b₁ start (optFront (f .size) (optTtl (f .full) m) (j .to - (start + 11))) b₂ end)
             (q .1 .0) k)))

@@ -19,9 +19,10 @@ ghost use Rattle.to_wire.specs.Values.{next-part, CookieStep, cookiePars
 ghost use Rattle.to_wire.specs.Values.{PaddingEnd, ErrorText, errorEnd};
 ghost use Rattle.to_wire.specs.Options.{MemberNameRead, Fronted, KnownStep, OtherFits, optionCode, OtherHex};
 ghost use Rattle.to_wire.specs.Options.{OtherRead, MemberRead, RisingRead, OptionsStep, membersParse};
-ghost use Rattle.to_wire.specs.Element.{RcodeRead, ednsFits?, OptFronted, EdnsStep};
+ghost use Rattle.to_wire.specs.Element.{RcodeRead, EdnsHeadRead, ednsFits?, OptFronted, EdnsStep};
 use crate::labels::string;
 use octets::put;
+use octets::put_all;
 use octets::put_be16;
 use octets::put_be32;
 use options::all_zero;
@@ -538,6 +539,34 @@ fn full_rcode(text: &[u8], c: Cursor) -> Row
     }
 }
 
+// What was read of the element before its options; `full` is its RCODE.
+struct EdnsHead {
+    cursor: Cursor,
+    version: u64,
+    flags: u32,
+    full: u32,
+    size: u64,
+}
+
+// Version, FLAGS, RCODE and UDPSIZE.
+fn read_edns_head(text: &[u8], c: Cursor) -> EdnsHead
+    requires { ⌜ Safe (now text) c ⌝ }
+    ensures { λ r. ⌜ EdnsHeadRead (now (text .entry)) c r ⌝ }
+{
+    let v = number_then(text, c, b",\"FLAGS\":");
+    let f = flags(text, v.cursor);
+    let x = full_rcode(text, f.cursor);
+    let s = number(text, x.cursor);
+    let next = s.cursor;
+    EdnsHead {
+        cursor: next,
+        version: v.value,
+        flags: f.key,
+        full: x.key,
+        size: s.value,
+    }
+}
+
 // Version is 0, RCODE modulo 16 is the header's, and UDPSIZE is a number of 16 bits.
 fn edns_fits(version: u64, full: u32, rcode: u32, size: u64) -> bool
     ensures { λ r. ⌜ r ≡ ednsFits? version full rcode size ⌝ }
@@ -562,8 +591,7 @@ fn put_edns_head(size: u64, full: u32, flags: u32, out: &mut [u8], start: usize,
     let length = to - (start + 11);
     let class = (size % 65536) as u32;
     let ttl = full / 16 % 256 * 16777216 + flags % 2 * 32768;
-    let mut next = put(0, out, start);
-    next = put_be16(41, out, next);
+    let mut next = put_all(b"\x00\x00\x29", out, start);
     next = put_be16(class, out, next);
     next = put_be32(ttl, out, next);
     put_be16(length as u32, out, next)
@@ -574,15 +602,12 @@ pub fn edns(text: &[u8], c: Cursor, rcode: u32, out: &mut [u8]) -> Cursor
     requires { ⌜ Safe (now text) c ⌝ }
     ensures { λ r. ⌜ EdnsStep rcode (now (text .entry)) c (now (out .entry)) r (now (out .exit)) ⌝ }
 {
-    let v = number_then(text, c, b",\"FLAGS\":");
-    let f = flags(text, v.cursor);
-    let x = full_rcode(text, f.cursor);
-    let s = number(text, x.cursor);
-    let d = s.cursor;
+    let f = read_edns_head(text, c);
+    let d = f.cursor;
     let held = reserve(d, 11);
     let o = options(text, held, out);
-    let ok = edns_fits(v.value, x.key, rcode, s.value);
+    let ok = edns_fits(f.version, f.full, rcode, f.size);
     let r = demand(o, ok);
-    let _end = put_edns_head(s.value, x.key, f.key, out, d.to, r.to);
+    let _end = put_edns_head(f.size, f.full, f.flags, out, d.to, r.to);
     r
 }
