@@ -201,20 +201,6 @@ pub record EdnsHeadRead (t : List ℕ) (c : Cursor) (r : EdnsHead) : Type 0 wher
   pub full : RcodeRead t e (record { cursor = f; key = r .full })
   pub size : NumberRead t f (record { cursor = r .cursor; value = r .size })
 
-pub edns-head-read : {t : List ℕ} {c : Cursor} {v s : Amount} {f x : Row} → TillRead (ascii ",\"FLAGS\":") t c v
-    → RowRead (tableParser flags) t (v .cursor) f → RcodeRead t (f .cursor) x → NumberRead t (x .cursor) s
-    → EdnsHeadRead t c
-    (record { cursor = s .cursor; version = v .value; flags = f .key; full = x .key; size = s .value })
-edns-head-read {v = v} {f = f} {x = x} a b c d = record {
-  d = v .cursor;
-  e = f .cursor;
-  f = x .cursor;
-  version = a;
-  row = b;
-  full = c;
-  size = d;
-}
-
 pub edns-read : (rcode : ℕ) {t : List ℕ} {c h o j : Cursor} {b b₁ b₂ : List ℕ} {f : EdnsHead} {ok : Bool} {e : ℕ}
     → EdnsHeadRead t c f → Held 11 (f .cursor) h → OptionsStep (optionMembers .parse) t h b o b₁
     → ok ≡ ednsFits? (f .version) (f .full) rcode (f .size) → Judged ok o j

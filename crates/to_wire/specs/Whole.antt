@@ -28,6 +28,7 @@ use Rattle.to_wire.specs.declared.entries.Section.{Section}
 use Rattle.to_wire.specs.Meant.{settledBy, headMeant?, headOctets, recordMeant?, recordOctets, itemMeant?}
 use Rattle.to_wire.specs.Meant.{itemOctets, itemOpt?, settledItems?, documentMeant?, documentOctets, head-numbers}
 use Rattle.to_wire.specs.Sections.{Thing, atMost65536, arrayParse, SectionFacts, SectionRead}
+use Rattle.to_wire.specs.declared.TwoSections.{TwoSections}
 use Rattle.to_wire.specs.declared.head.Counts.{Counts}
 use Rattle.to_wire.specs.declared.head.Header.{Header}
 use Rattle.to_wire.specs.Head.{Told, HeadRead}
@@ -54,6 +55,13 @@ array-read e rcode q x =
       eligible = h .eligible;
     })
 
+-- two of them, one after the other
+pub record TwoRead (title : List ℕ) (e : Element) (title′ : List ℕ) (e′ : Element) (rcode : ℕ) (t : List ℕ) (c : Cursor)
+    (b : List ℕ) (r : TwoSections) (b′ : List ℕ) : Type 0 where
+  pub between : List ℕ
+  pub first : ArrayRead title e rcode t c b (r .first) between
+  pub second : ArrayRead title′ e′ rcode t (r .first .cursor) between (r .second) b′
+
 -- ---- what is judged over all
 -- the counts are those of the arrays; nothing of the additional section is left unsettled
 abbrev pub agreement : Counts → ℕ → ℕ → ℕ → ℕ → Bool
@@ -61,6 +69,25 @@ agreement c q a n r = eqb (c .questions) q && (eqb (c .answers) a && (eqb (c .au
 
 abbrev pub settledSection : Section → Bool
 settledSection s = settledBy (eqb (s .opts) 1) (s .shown) (s .eligible)
+
+abbrev pub consistent? : Counts → TwoSections → TwoSections → Bool
+consistent? c x y =
+    agreement c (x .first .count) (x .second .count) (y .first .count) (y .second .count) && settledSection (y .second)
+
+-- the four arrays, the brace after them, and what is judged
+pub record ArraysRead (t : List ℕ) (h : Header) (b : List ℕ) (d : Cursor) (b′ : List ℕ) : Type 0 where
+  pub x : TwoSections
+  pub y : TwoSections
+  pub between : List ℕ
+  pub end : Cursor
+  pub ok : Bool
+  pub front : TwoRead (ascii ",\"questionRRs\":") Questions (ascii ",\"answerRRs\":") Records (h .rcode) t (h .cursor) b x
+      between
+  pub back : TwoRead (ascii ",\"authorityRRs\":") Records (ascii ",\"additionalRRs\":") Additionals (h .rcode) t
+      (x .second .cursor) between y b′
+  pub brace : Passed (ascii "}") t (y .second .cursor) end
+  pub judged : Judged ok end d
+  pub holds : ok ≡ consistent? (h .counts) x y
 
 -- a number of 16 bits is a length exactly if what was kept of both is equal
 count-same : (n m : ℕ) → T (u16? n) → eqb (capped n) (atMost65536 m) ≡ eqb n m
@@ -110,23 +137,21 @@ abbrev lastParse : List ℕ → Parsed (List Item)
 lastParse w = and-then (strip (ascii ",\"additionalRRs\":") w)
     (λ u r. and-then (arrayParse Additionals r) λ a w. and-then (strip (ascii "}") w) λ u r. parsed a r)
 
-module _ {t b b₁ b₂ b₃ b₄ b₅ : List ℕ} {h : Header} {q a n r : Section} {e d : Cursor} {f : Bool} where
-  pub document-read : HeadRead t start b h b₁
-      → ArrayRead (ascii ",\"questionRRs\":") Questions (h .rcode) t (h .cursor) b₁ q b₂
-      → ArrayRead (ascii ",\"answerRRs\":") Records (h .rcode) t (q .cursor) b₂ a b₃
-      → ArrayRead (ascii ",\"authorityRRs\":") Records (h .rcode) t (a .cursor) b₃ n b₄
-      → ArrayRead (ascii ",\"additionalRRs\":") Additionals (h .rcode) t (n .cursor) b₄ r b₅
-      → Passed (ascii "}") t (r .cursor) e → Judged f e d
-      → f ≡ (agreement (h .counts) (q .count) (a .count) (n .count) (r .count) && settledSection r)
-      → Step documentMeant? documentOctets (document .parse) t start b d b₅
+module _ {t b b₁ b₂ b₃ : List ℕ} {h : Header} {x y : TwoSections} {e d : Cursor} {f : Bool} where
+  parts-read : HeadRead t start b h b₁
+      → TwoRead (ascii ",\"questionRRs\":") Questions (ascii ",\"answerRRs\":") Records (h .rcode) t (h .cursor) b₁ x b₂
+      → TwoRead (ascii ",\"authorityRRs\":") Records (ascii ",\"additionalRRs\":") Additionals (h .rcode) t (x .second .cursor)
+      b₂ y b₃
+      → Passed (ascii "}") t (y .second .cursor) e → Judged f e d → f ≡ consistent? (h .counts) x y
+      → Step documentMeant? documentOctets (document .parse) t start b d b₃
   unfolding document documentOctets documentMeant? counts?
-  document-read x y z w v l j g =
+  parts-read p v w l j g =
       found-map documentFrom (λ u k. k)
-      (found-at {Q = λ u. Put documentMeant? documentOctets start b d b₅ (documentFrom u)}
-      (found-pair x (found-pair y
-      (found-pair z (found-pair w
-      (found-same lastParse (λ i. last (strip (ascii ",\"additionalRRs\":") (drop (n .cursor .at) t)))
-      (found-behind v l))))))
+      (found-at {Q = λ u. Put documentMeant? documentOctets start b d b₃ (documentFrom u)}
+      (found-pair p (found-pair (v .first)
+      (found-pair (v .second) (found-pair (w .first)
+      (found-same lastParse (λ i. last (strip (ascii ",\"additionalRRs\":") (drop (y .first .cursor .at) t)))
+      (found-behind (w .second) l))))))
       (j .at) (j .grammatical) (omega (arith, j .to, l .keeps .safe .room)) told)
     where
       last : (o : Parsed (Unit {0}))
@@ -141,14 +166,14 @@ module _ {t b b₁ b₂ b₃ b₄ b₅ : List ℕ} {h : Header} {q a n r : Secti
       nested false b c d = refl
 
       told : (u : Parts) → (Put headMeant? headOctets start b (h .cursor) b₁ (u .0) × Told h (u .0))
-          × (SectionFacts Questions (h .rcode) (h .cursor) b₁ q b₂ (u .1 .0)
-          × (SectionFacts Records (h .rcode) (q .cursor) b₂ a b₃ (u .1 .1 .0)
-          × (SectionFacts Records (h .rcode) (a .cursor) b₃ n b₄ (u .1 .1 .1 .0)
-          × SectionFacts Additionals (h .rcode) (n .cursor) b₄ r b₅ (u .1 .1 .1 .1))))
-          → Put documentMeant? documentOctets start b d b₅ (documentFrom u)
+          × (SectionFacts Questions (h .rcode) (h .cursor) b₁ (x .first) (v .between) (u .1 .0)
+          × (SectionFacts Records (h .rcode) (x .first .cursor) (v .between) (x .second) b₂ (u .1 .1 .0)
+          × (SectionFacts Records (h .rcode) (x .second .cursor) b₂ (y .first) (w .between) (u .1 .1 .1 .0)
+          × SectionFacts Additionals (h .rcode) (y .first .cursor) (w .between) (y .second) b₃ (u .1 .1 .1 .1))))
+          → Put documentMeant? documentOctets start b d b₃ (documentFrom u)
       told u k = put-as judged refl (put-judged {ok′ = λ u. partsMeant? (h .rcode) u && f} all-put j refl)
         where
-          all-put : Put {A = Parts} (partsMeant? (h .rcode)) partsOctets start b e b₅ u
+          all-put : Put {A = Parts} (partsMeant? (h .rcode)) partsOctets start b e b₃ u
           all-put = put-as refl refl
               (put-then (k .0 .0) (put-then (k .1 .0 .put)
               (put-then (k .1 .1 .0 .put) (put-then (k .1 .1 .1 .0 .put) (put-to (k .1 .1 .1 .1 .put) (l .keeps))))))
@@ -186,8 +211,8 @@ module _ {t b b₁ b₂ b₃ b₄ b₅ : List ℕ} {h : Header} {q a n r : Secti
                       w3 : T (u16? (u .0 .1 .1 .1 .0) && u16? (u .0 .1 .1 .1 .1))
                       w3 = and-right (u16? (u .0 .1 .1 .0)) _ w2
 
-                      counts : counts? (documentFrom u) ≡ agreement (h .counts) (q .count) (a .count) (n .count)
-                          (r .count)
+                      counts : counts? (documentFrom u) ≡ agreement (h .counts) (x .first .count) (x .second .count) (y .first .count)
+                          (y .second .count)
                       counts =
                           rw (
                             k .0 .1 .counts .0,
@@ -209,11 +234,11 @@ module _ {t b b₁ b₂ b₃ b₄ b₅ : List ℕ} {h : Header} {q a n r : Secti
                           (eqb (u .0 .1 .1 .1 .0) (length (u .1 .1 .1 .0)))
                           (eqb (u .0 .1 .1 .1 .1) (length (u .1 .1 .1 .1))))
 
-                      all-meant : T (r .cursor .meaningful)
+                      all-meant : T (y .second .cursor .meaningful)
                       all-meant = subst T (l .keeps .meaningful)
                           (subst T (sym (all-put .meaningful ∙ ap (λ x. x && rest (h .rcode)) e ∙ ap rest c ∙ d)) tt)
 
-                      settled : settledItems? (documentFrom u) ≡ settledSection r
+                      settled : settledItems? (documentFrom u) ≡ settledSection (y .second)
                       settled = rw (
                         k .1 .1 .1 .1 .opts,
                         k .1 .1 .1 .1 .shown,
@@ -221,3 +246,7 @@ module _ {t b b₁ b₂ b₃ b₄ b₅ : List ℕ} {h : Header} {q a n r : Secti
                         c,
                         lone-same (count itemOpt? (u .1 .1 .1 .1)),
                       )
+
+pub document-read : {t b b₁ b₂ : List ℕ} {h : Header} {d : Cursor} → HeadRead t start b h b₁ → ArraysRead t h b₁ d b₂
+    → Step documentMeant? documentOctets (document .parse) t start b d b₂
+document-read x s = parts-read x (s .front) (s .back) (s .brace) (s .judged) (s .holds)

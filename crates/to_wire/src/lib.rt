@@ -5,13 +5,15 @@ ghost use Rattle.strict.specs.Parser.{document};
 ghost use Rattle.parse_tokens.specs.Step.{Step};
 ghost use Prim.Native.Nat.{_<_};
 ghost use Rattle.parse_tokens.specs.Cursor.{Safe};
-ghost use Rattle.to_wire.specs.Whole.{start, ArrayRead, agreement, settledSection};
+ghost use Rattle.to_wire.specs.Whole.{start, ArrayRead, TwoRead, agreement, settledSection, consistent?};
+ghost use Rattle.to_wire.specs.Whole.{ArraysRead};
 ghost use Rattle.octets.specs.Calls.{Call};
 ghost use Rattle.strict.specs.Reading.{Reads};
 use entries::Element;
 use entries::Section;
 use entries::read_section;
 use head::Counts;
+use head::Header;
 use head::head;
 use octets::Outcome;
 use parse_tokens::Cursor;
@@ -42,6 +44,34 @@ fn array(
     read_section(text, behind, element, rcode, out)
 }
 
+// Two arrays, one after the other.
+struct TwoSections {
+    first: Section,
+    second: Section,
+}
+
+fn two_arrays(
+    text: &[u8],
+    c: Cursor,
+    title: &[u8],
+    element: Element,
+    title2: &[u8],
+    element2: Element,
+    rcode: u32,
+    out: &mut [u8],
+) -> TwoSections
+    requires { ⌜ Safe (now text) c × (rcode < 16) ⌝ }
+    ensures { λ r. ⌜ TwoRead (now (title .entry)) element (now (title2 .entry)) element2 rcode (now (text .entry))
+        c (now (out .entry)) r (now (out .exit)) ⌝ }
+{
+    let first = array(text, c, title, element, rcode, out);
+    let second = array(text, first.cursor, title2, element2, rcode, out);
+    TwoSections {
+        first: first,
+        second: second,
+    }
+}
+
 // Whether the counts are those of the arrays.
 fn agree(counts: Counts, questions: u64, answers: u64, authority: u64, additional: u64) -> bool
     ensures { λ r. ⌜ r ≡ agreement counts questions answers authority additional ⌝ }
@@ -67,6 +97,52 @@ fn settled(section: Section) -> bool
     both(either(!shown, lone), !both(hidden, lone))
 }
 
+// Whether the counts are those of the arrays, and nothing of the additional section is left unsettled.
+fn consistent(counts: Counts, x: TwoSections, y: TwoSections) -> bool
+    ensures { λ r. ⌜ r ≡ consistent? counts x y ⌝ }
+{
+    let q = x.first;
+    let a = x.second;
+    let n = y.first;
+    let r = y.second;
+    both(
+        agree(counts, q.count, a.count, n.count, r.count),
+        settled(r),
+    )
+}
+
+// Reads the arrays after the head.
+fn arrays(text: &[u8], h: Header, out: &mut [u8]) -> Cursor
+    requires { ⌜ Safe (now text) (h .cursor) × (h .rcode < 16) ⌝ }
+    ensures { λ r. ⌜ ArraysRead (now (text .entry)) h (now (out .entry)) r (now (out .exit)) ⌝ }
+{
+    let rcode = h.rcode;
+    let x = two_arrays(
+        text,
+        h.cursor,
+        b",\"questionRRs\":",
+        Element::Question,
+        b",\"answerRRs\":",
+        Element::Record,
+        rcode,
+        out,
+    );
+    let a = x.second;
+    let y = two_arrays(
+        text,
+        a.cursor,
+        b",\"authorityRRs\":",
+        Element::Record,
+        b",\"additionalRRs\":",
+        Element::Additional,
+        rcode,
+        out,
+    );
+    let r = y.second;
+    let end = literal(text, r.cursor, b"}");
+    demand(end, consistent(h.counts, x, y))
+}
+
 // Reads the text from its first octet on.
 fn document(text: &[u8], out: &mut [u8]) -> Cursor
     ensures { λ r. ⌜ Step documentMeant? documentOctets (document .parse) (now (text .entry)) start (now (out .entry)) r
@@ -80,42 +156,7 @@ fn document(text: &[u8], out: &mut [u8]) -> Cursor
         bounded: true,
     };
     let h = head(text, first, out);
-    let rcode = h.rcode;
-    let q = array(
-        text,
-        h.cursor,
-        b",\"questionRRs\":",
-        Element::Question,
-        rcode,
-        out,
-    );
-    let a = array(
-        text,
-        q.cursor,
-        b",\"answerRRs\":",
-        Element::Record,
-        rcode,
-        out,
-    );
-    let n = array(
-        text,
-        a.cursor,
-        b",\"authorityRRs\":",
-        Element::Record,
-        rcode,
-        out,
-    );
-    let r = array(
-        text,
-        n.cursor,
-        b",\"additionalRRs\":",
-        Element::Additional,
-        rcode,
-        out,
-    );
-    let end = literal(text, r.cursor, b"}");
-    let counted = agree(h.counts, q.count, a.count, n.count, r.count);
-    demand(end, both(counted, settled(r)))
+    arrays(text, h, out)
 }
 
 // Writes the message that a text says. A first run over no octets finds every refusal.
