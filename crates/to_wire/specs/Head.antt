@@ -301,7 +301,8 @@ put-header m w f g =
       at = all .at;
       grammatical = all .grammatical;
       room = all .room;
-      put = λ u k. put-as (inner (u16? (u .0)) (highMeant? (u .1 .0)) (lowMeant? (u .1 .1 .0)) (words? (u .1 .1 .1))) refl
+      put = λ u k.
+          put-as (inner (u16? (u .0)) (highMeant? (u .1 .0)) (lowMeant? (u .1 .1 .0)) (words? (u .1 .1 .1))) refl
           (all .put (u .0, ((u .1 .0, u .1 .1 .0), u .1 .1 .1)) (k .0, ((k .1 .0, k .1 .1 .0), k .1 .1 .1)));
     }
   where

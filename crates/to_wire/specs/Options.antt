@@ -41,7 +41,8 @@ use Rattle.parse_tokens.specs.Hex.{HexRun, HexRead}
 use Rattle.parse_tokens.specs.Rows.{RowRead}
 use Rattle.parse_tokens.specs.Fields.{Done}
 use Rattle.parse_tokens.specs.Place.{Byte}
-use Rattle.parse_tokens.specs.Items.{part-of, item-of, Items, items-start, items-end, items-stop, items-less, items-more}
+use Rattle.parse_tokens.specs.Items.{part-of, item-of, Items, items-start, items-end, items-stop, items-less}
+use Rattle.parse_tokens.specs.Items.{items-more}
 use Rattle.to_wire.specs.Values.{run-octets, ValueStep}
 
 -- ---- code and length before a value
@@ -175,19 +176,18 @@ meant-word k test {c = c} {l = l} p g =
     ltb→lt k 65536 (and-left (u16? k) (test l)
     (and-right (c .meaningful) (u16? k && test l) (subst T (p .meaningful) g)))
 
--- the hexadecimal, of any number that was read as n
-abbrev pub OtherHex : ℕ → List ℕ → Cursor → List ℕ → Cursor → List ℕ → Type 0
-OtherHex n t c b r b′ = Found (hex .parse) (λ l. (k : ℕ) → n ≡ capped k
+-- the hexadecimal, of any number that was read as n, with the code that follows from n
+abbrev pub OtherHex : ℕ → ℕ → List ℕ → Cursor → List ℕ → Cursor → List ℕ → Type 0
+OtherHex n code t c b r b′ = Found (hex .parse) (λ l. (k : ℕ) → n ≡ capped k → code ≡ optionCode n
     → Put (λ l. u16? k && not (present? (shape (syntaxOf k) l)))
     (λ l. optionForm (record { code = k; value = l })) c b r b′ l) t c r
 
 pub other-hex : {n code : ℕ} {t : List ℕ} {c i v r : Cursor} {b b₁ b₂ : List ℕ} {h : Span} {ok : Bool} {e : ℕ}
     → HexRead t c h → Held 4 (h .cursor) i → Done (HexRun t h) (λ l. true) (λ l. l) i b v b₁
-    → OtherFits t h n ok → Judged ok v r → code ≡ optionCode n → Fronted code (h .cursor .to) (r .to) b₁ b₂ e
-    → OtherHex n t c b r b₂
-other-hex {n} y x d f j z w =
+    → OtherFits t h n ok → Judged ok v r → Fronted code (h .cursor .to) (r .to) b₁ b₂ e → OtherHex n code t c b r b₂
+other-hex {n} y x d f j w =
     found-at (y .found) (j .at ∙ d .at ∙ x .at) (j .grammatical ∙ d .grammatical ∙ x .grammatical)
-    (omega (arith, j .to, d .room)) λ l u k m.
+    (omega (arith, j .to, d .room)) λ l u k m z.
     let p = put-judged {ok′ = λ l. u16? k && not (present? (shape (syntaxOf k) l))} (d .put l u) j (f .fits k l m u) in
     put-from (y .keeps) (put-option k x p w λ g.
     let s = meant-word k (λ l. not (present? (shape (syntaxOf k) l))) p g in
@@ -204,12 +204,12 @@ pub record OtherRead (t : List ℕ) (c : Cursor) (b : List ℕ) (r : Coded) (b�
   pub found : Found (otherMember .parse) (OtherOption t c b r b′) t c (r .cursor)
 
 pub other-read : {t : List ℕ} {c o e r : Cursor} {b b′ : List ℕ} {n : Amount} {code : ℕ} → Passed (ascii "\"OPT") t c o
-    → NumberRead t o n → Passed (ascii "\":") t (n .cursor) e → OtherHex (n .value) t e b r b′
+    → NumberRead t o n → Passed (ascii "\":") t (n .cursor) e → OtherHex (n .value) code t e b r b′
     → code ≡ optionCode (n .value) → OtherRead t c b (record { cursor = r; code = code }) b′
 unfolding otherMember member? optionOf
 other-read {n = n} q x e y z = record {
   found = found-as (found-pair (found-lit q (found-behind (x .found) e)) y) λ u h.
-      let p = h .1 (u .0) (h .0) in (
+      let p = h .1 (u .0) (h .0) z in (
         put-from (q .keeps) (put-from (x .keeps) (put-from (e .keeps) (put-as refl refl p))),
         λ g. z ∙ code-of-word (n .value) (u .0) (h .0)
             (meant-word (u .0) (λ l. not (present? (shape (syntaxOf (u .0)) l))) p g),

@@ -353,7 +353,8 @@ record-read {rcode} {t} {b} {b₁} {b₂} {c} {s} {r} x z =
     hides u e d = rw (d, capped-is (u .1 .0) 41 (omega arith), ← e)
         (ap (λ x. eqb (u .1 .0) 41 && x) (shows-edns rcode (itemRecord (recordFrom u))))
 
-    told : (u : Fields) → (Put name? nameForm c b (x .end) (x .b₁) (u .0) × (none? (u .0) ≡ eqb (x .end .at) (c .at + 3)))
+    told : (u : Fields)
+        → (Put name? nameForm c b (x .end) (x .b₁) (u .0) × (none? (u .0) ≡ eqb (x .end .at) (c .at + 3)))
         × ((Put u16? be16 (x .d) (x .b₁) (x .e) (x .b₂) (u .1 .0) × (s .rtype ≡ capped (u .1 .0)))
         × ((Put u16? be16 (x .e) (x .b₂) (s .cursor) b₁ (u .1 .1 .0) × (x .value ≡ capped (u .1 .1 .0)))
         × Tail (s .rtype) (s .root) rcode (s .cursor) b₁ r b₂ (u .1 .1 .1)))

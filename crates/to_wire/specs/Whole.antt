@@ -74,17 +74,22 @@ abbrev pub consistent? : Counts → TwoSections → TwoSections → Bool
 consistent? c x y =
     agreement c (x .first .count) (x .second .count) (y .first .count) (y .second .count) && settledSection (y .second)
 
--- the four arrays, the brace after them, and what is judged
+-- the first two arrays after a head, and the last two
+abbrev pub FrontRead : Header → List ℕ → List ℕ → TwoSections → List ℕ → Type 0
+FrontRead h t = TwoRead (ascii ",\"questionRRs\":") Questions (ascii ",\"answerRRs\":") Records (h .rcode) t (h .cursor)
+
+abbrev pub BackRead : Header → List ℕ → Cursor → List ℕ → TwoSections → List ℕ → Type 0
+BackRead h = TwoRead (ascii ",\"authorityRRs\":") Records (ascii ",\"additionalRRs\":") Additionals (h .rcode)
+
+-- all of them, the brace after them, and what is judged
 pub record ArraysRead (t : List ℕ) (h : Header) (b : List ℕ) (d : Cursor) (b′ : List ℕ) : Type 0 where
   pub x : TwoSections
   pub y : TwoSections
   pub between : List ℕ
   pub end : Cursor
   pub ok : Bool
-  pub front : TwoRead (ascii ",\"questionRRs\":") Questions (ascii ",\"answerRRs\":") Records (h .rcode) t (h .cursor) b x
-      between
-  pub back : TwoRead (ascii ",\"authorityRRs\":") Records (ascii ",\"additionalRRs\":") Additionals (h .rcode) t
-      (x .second .cursor) between y b′
+  pub front : FrontRead h t b x between
+  pub back : BackRead h t (x .second .cursor) between y b′
   pub brace : Passed (ascii "}") t (y .second .cursor) end
   pub judged : Judged ok end d
   pub holds : ok ≡ consistent? (h .counts) x y
@@ -138,10 +143,7 @@ lastParse w = and-then (strip (ascii ",\"additionalRRs\":") w)
     (λ u r. and-then (arrayParse Additionals r) λ a w. and-then (strip (ascii "}") w) λ u r. parsed a r)
 
 module _ {t b b₁ b₂ b₃ : List ℕ} {h : Header} {x y : TwoSections} {e d : Cursor} {f : Bool} where
-  parts-read : HeadRead t start b h b₁
-      → TwoRead (ascii ",\"questionRRs\":") Questions (ascii ",\"answerRRs\":") Records (h .rcode) t (h .cursor) b₁ x b₂
-      → TwoRead (ascii ",\"authorityRRs\":") Records (ascii ",\"additionalRRs\":") Additionals (h .rcode) t (x .second .cursor)
-      b₂ y b₃
+  parts-read : HeadRead t start b h b₁ → FrontRead h t b₁ x b₂ → BackRead h t (x .second .cursor) b₂ y b₃
       → Passed (ascii "}") t (y .second .cursor) e → Judged f e d → f ≡ consistent? (h .counts) x y
       → Step documentMeant? documentOctets (document .parse) t start b d b₃
   unfolding document documentOctets documentMeant? counts?
@@ -211,7 +213,8 @@ module _ {t b b₁ b₂ b₃ : List ℕ} {h : Header} {x y : TwoSections} {e d :
                       w3 : T (u16? (u .0 .1 .1 .1 .0) && u16? (u .0 .1 .1 .1 .1))
                       w3 = and-right (u16? (u .0 .1 .1 .0)) _ w2
 
-                      counts : counts? (documentFrom u) ≡ agreement (h .counts) (x .first .count) (x .second .count) (y .first .count)
+                      counts : counts? (documentFrom u)
+                          ≡ agreement (h .counts) (x .first .count) (x .second .count) (y .first .count)
                           (y .second .count)
                       counts =
                           rw (

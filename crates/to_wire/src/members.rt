@@ -427,16 +427,16 @@ fn code_of(n: u64) -> u32
     0
 }
 
-fn other_hex(text: &[u8], c: Cursor, n: u64, out: &mut [u8]) -> Cursor
+fn other_hex(text: &[u8], c: Cursor, n: u64, code: u32, out: &mut [u8]) -> Cursor
     requires { ⌜ Safe (now text) c ⌝ }
-    ensures { λ r. ⌜ OtherHex n (now (text .entry)) c (now (out .entry)) r (now (out .exit)) ⌝ }
+    ensures { λ r. ⌜ OtherHex n code (now (text .entry)) c (now (out .entry)) r (now (out .exit)) ⌝ }
 {
     let h = hex(text, c);
     let d = h.cursor;
     let held = reserve(d, 4);
     let v = put_hex(text, h, held, out);
     let r = demand(v, other_fits(text, h, n));
-    let _end = put_option_head(code_of(n), out, d.to, r.to);
+    let _end = put_option_head(code, out, d.to, r.to);
     r
 }
 
@@ -448,10 +448,10 @@ fn opt_n(text: &[u8], c: Cursor, out: &mut [u8]) -> Coded
     let open = literal(text, c, b"\"OPT");
     let n = number(text, open);
     let close = literal(text, n.cursor, b"\":");
-    let r = other_hex(text, close, n.value, out);
+    let code = code_of(n.value);
     Coded {
-        cursor: r,
-        code: code_of(n.value),
+        cursor: other_hex(text, close, n.value, code, out),
+        code: code,
     }
 }
 

@@ -19,11 +19,11 @@ slice-aggregate-literal-2 c = search needs
 literal-requires-2 : tie.Need-literal-requires-2
 literal-requires-2 c κs = search needs
 
-other-hex-requires : tie.Need-other-hex-requires
-other-hex-requires c κs = search needs
-
 code-of-requires : tie.Need-code-of-requires
 code-of-requires c κs = search needs
+
+other-hex-requires : tie.Need-other-hex-requires
+other-hex-requires c κs = search needs
 
 same-length : tie.Need-same-length
 same-length c = search needs
@@ -40,7 +40,7 @@ opt-n-spec =
     number-requires
     slice-aggregate-literal-2
     literal-requires-2
-    other-hex-requires
     code-of-requires
+    other-hex-requires
     same-length
     returns)

@@ -20,9 +20,6 @@ other-fits-requires c κs = search (hex-digits, needs)
 demand-requires : tie.Need-demand-requires
 demand-requires c κs = search needs
 
-code-of-requires : tie.Need-code-of-requires
-code-of-requires c κs = search needs
-
 put-option-head-requires : tie.Need-put-option-head-requires
 put-option-head-requires c κs = search needs
 
@@ -41,7 +38,6 @@ other-hex-spec =
     put-hex-requires
     other-fits-requires
     demand-requires
-    code-of-requires
     put-option-head-requires
     same-length
     returns)
