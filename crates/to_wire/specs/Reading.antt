@@ -1,14 +1,13 @@
 -- How questions, records and elements are read, judged and written.
 use mathlib.Core.Path.{_≡_, refl, sym, _∙_, ap, subst}
-use mathlib.Core.Bool.{Bool, true, false, not, cond, _&&_, and-true, and-assoc}
-use mathlib.Core.Option.{none}
+use mathlib.Core.Bool.{Bool, true, false, cond, _&&_, and-true, and-assoc}
 use mathlib.Core.List.{List, [], _∷_, _++_, append-assoc}
 use Prim.Native.Nat.{ℕ, _+_, _-_, _/_, _%_, _≤_, _<_}
 use native.Mathlib.Omega.{arith}
-use borrow.Author.Tests.{lt-ltb, le-ltb, eq-eqb, ne-eqb, eqb-false}
-use lib.Dec.{T, ltb, eqb, ltb→lt, lt→ltb, nltb→le, eqb→eq}
+use borrow.Author.Tests.{eq-eqb, ne-eqb, eqb-false}
+use lib.Dec.{T, eqb, lt→ltb, eqb→eq}
 use lib.ListN.{length, take, drop}
-use Rattle.octets.specs.Lists.{ascii, all, none?, Octets, u8?, u16?, u32?, paired, lookup}
+use Rattle.octets.specs.Lists.{ascii, all, none?, Octets, u8?, u16?, u32?, paired}
 use Rattle.octets.specs.Bits.{is-true, and-left, and-right, octets-test}
 use Rattle.octets.specs.Fields.{be16, be32}
 use Rattle.octets.specs.Parsed.{Parsed, parsed, failed, and-then, strip}
@@ -16,7 +15,7 @@ use Rattle.octets.specs.Codec.{_▷_, _⊗_, _◁_}
 use Rattle.octets.specs.Decimal.{number, numberThen}
 use Rattle.octets.specs.Hexadecimal.{hex}
 use Rattle.names.specs.Name.{Name, name?, nameForm}
-use Rattle.records.specs.Layout.{layouts, layoutOf, rdataAt, rdataFits?}
+use Rattle.records.specs.Layout.{laid, laid?, rdataAt, rdataFits?}
 use Rattle.records.proofs.Pieces.{layout-beyond}
 use Rattle.records.specs.Message.{record?, question?, questionForm, recordForm, opt?}
 use Rattle.spelling.specs.Spelling.{Signed}
@@ -103,10 +102,6 @@ question-read p x =
     (step-pair (step-lit (x .title-type) (found-as (x .type) λ a h. h .0)) (found-as (x .class) λ a h. h .0)))
 
 -- ---- RDATA
--- the TYPE as the code judges it
-abbrev pub typeOr0 : ℕ → ℕ
-typeOr0 value = cond (ltb 65535 value) 0 value
-
 pub record RdataRead (rtype : ℕ) (t : List ℕ) (c : Cursor) (b : List ℕ) (r : Span) (b′ : List ℕ) : Type 0 where
   pub found : Found (hex .parse) (λ l. ((n : ℕ) → rtype ≡ capped n
       → Put (rdataFits? n) (λ l. be16 (length l) ++ l) c b (r .cursor) b′ l) × HexRun t r l) t c (r .cursor)
@@ -114,40 +109,28 @@ pub record RdataRead (rtype : ℕ) (t : List ℕ) (c : Cursor) (b : List ℕ) (r
   pub run : HexRun t r so-far
   pub still : T (r .cursor .meaningful) → T (c .meaningful)
 
-pub kind-over : {v : ℕ} → 65535 < v → 0 ≡ typeOr0 v
-kind-over {v} h = rw (lt-ltb 65535 v h)
-
-pub kind-in : {v : ℕ} → v ≤ 65535 → v ≡ typeOr0 v
-kind-in {v} h = rw (le-ltb 65535 v h)
-
--- a TYPE that is out of range is not listed, so any RDATA fits
-unlisted : (n : ℕ) → 65535 < n → layoutOf n ≡ none
-unlisted n h = layout-beyond n (omega arith)
-
-fits-same : (n m : ℕ) (l : List ℕ) → layoutOf n ≡ layoutOf m → rdataFits? n l ≡ rdataFits? m l
-unfolding rdataFits? rdataAt
-fits-same n m l e = rw e
-
-zero-unlisted : layoutOf 0 ≡ none
-unfolding layoutOf layouts lookup
-zero-unlisted = refl
-
-kind-fits : (n : ℕ) (l : List ℕ) → rdataFits? (typeOr0 (capped n)) l ≡ rdataFits? n l
-kind-fits n l = go (ltb 65535 (capped n)) refl
-  where
-    go : (b : Bool) → ltb 65535 (capped n) ≡ b → rdataFits? (cond b 0 (capped n)) l ≡ rdataFits? n l
-    go true e = fits-same 0 n l (zero-unlisted
-        ∙ sym (unlisted n (omega (arith, ltb→lt 65535 (capped n) (subst T (sym e) tt)))))
-    go false e = let k : capped n ≡ n = omega (arith, nltb→le 65535 (capped n) (subst (λ b. T (not b)) (sym e) tt)) in
-        ap (λ m. rdataFits? m l) k
-
 -- whether RDATA has the layout of its TYPE
 pub record RdataFits (t : List ℕ) (s : Span) (rtype : ℕ) (ok : Bool) : Type 0 where
   pub fits : (n : ℕ) (l : List ℕ) → rtype ≡ capped n → HexRun t s l → rdataFits? n l ≡ ok
 
-pub rdata-fits : {rtype f : ℕ} {t : List ℕ} {s : Span} {ok : Bool} → f ≡ typeOr0 rtype
-    → ok ≡ rdataFits? f (paired (take (s .end - s .from) (drop (s .from) t))) → RdataFits t s rtype ok
-rdata-fits k o = record { fits = λ n l e x. sym (o ∙ rw (k, run-octets x, e) (kind-fits n l)) }
+-- a TYPE that is out of range is not listed, so any RDATA fits
+any-fits : (n : ℕ) (l : List ℕ) → 65535 < n → rdataFits? n l ≡ true
+unfolding rdataFits? rdataAt
+any-fits n l h = rw (layout-beyond n (omega arith)) (go (eqb (length l) 0) _)
+  where
+    go : (b : Bool) (u : List ℕ) → laid? (cond b (laid []) (laid u)) ≡ true
+    go true u = refl
+    go false u = refl
+
+module _ {rtype : ℕ} {t : List ℕ} {s : Span} where
+  pub fits-any : 65535 < rtype → RdataFits t s rtype true
+  fits-any h = record { fits = λ n l e x. any-fits n l (omega (arith, e)) }
+
+  pub fits-layout : {ok : Bool} → rtype ≤ 65535
+      → ok ≡ rdataFits? rtype (paired (take (s .end - s .from) (drop (s .from) t))) → RdataFits t s rtype ok
+  fits-layout h o = record {
+    fits = λ n l e x. let z : n ≡ rtype = omega (arith, e) in rw (z, ← (run-octets x)) (sym o);
+  }
 
 -- the same digits, with the cursor elsewhere
 run-at : {t l : List ℕ} {s : Span} (r : Cursor) → HexRun t s l

@@ -7,8 +7,8 @@ ghost use Rattle.parse_tokens.specs.Step.{Step};
 ghost use Rattle.to_wire.specs.Values.{HexSpan};
 ghost use Rattle.records.specs.Message.{question?, questionForm};
 ghost use Rattle.strict.specs.Parser.{questionCodec};
-ghost use Rattle.to_wire.specs.Reading.{WordRead, StartRead, typeOr0, RdataFits, RdataRead};
-ghost use Rattle.to_wire.specs.Reading.{CouldBeElement, TtlRead, TailRead, RecordRead};
+ghost use Rattle.to_wire.specs.Reading.{WordRead, StartRead, RdataFits, RdataRead, CouldBeElement};
+ghost use Rattle.to_wire.specs.Reading.{TtlRead, TailRead, RecordRead};
 ghost use Rattle.to_wire.specs.Items.{ItemRead};
 ghost use Rattle.to_wire.specs.Sections.{QuestionEntryRead, TitledRead, OneRead, NextRead, InsideRead};
 ghost use Rattle.to_wire.specs.Sections.{SectionRead};
@@ -96,24 +96,17 @@ fn question(text: &[u8], c: Cursor, out: &mut [u8]) -> Cursor
     question.cursor
 }
 
-// A TYPE as it is judged; one that is out of range has no layout.
-fn type_or_0(value: u64) -> u32
-    ensures { λ r. ⌜ r ≡ typeOr0 value ⌝ }
-{
-    if value > 65535 {
-        return 0;
-    }
-    value as u32
-}
-
-// Whether the RDATA of this span has the layout of its TYPE.
+// Whether the RDATA of this span has the layout of its TYPE; a TYPE that is out of range has none.
 fn rdata_fits(text: &[u8], span: Span, rtype: u64) -> bool
     requires { ⌜ HexSpan (now text) span ⌝ }
     ensures { λ r. ⌜ RdataFits (now (text .entry)) span rtype r ⌝ }
 {
+    if rtype > 65535 {
+        return true;
+    }
     let from = span.from;
     let end = span.end;
-    fits_layout(type_or_0(rtype), &text[from..end])
+    fits_layout(rtype as u32, &text[from..end])
 }
 
 // RDATA of a TYPE: judged, and written after its length.

@@ -1,10 +1,13 @@
 use borrow.Author.Needs.{needs}
-use Rattle.to_wire.specs.Reading.{rdata-fits}
+use Rattle.to_wire.specs.Reading.{fits-any, fits-layout}
 use Rattle.to_wire.proofs.entries.rdata_fits.Statement.{statement}
 use Rattle.to_wire.proofs.entries.rdata_fits.Tie as tie
 
-type-or-0-requires : tie.Need-type-or-0-requires
-type-or-0-requires c κs = search needs
+returns : tie.Need-returns
+returns c = search (fits-any, needs)
+
+cast-fits-layout : tie.Need-cast-fits-layout
+cast-fits-layout c = search needs
 
 sub-fits-layout : tie.Need-sub-fits-layout
 sub-fits-layout c = search needs
@@ -18,16 +21,17 @@ part-fits-layout-end c = search needs
 fits-layout-requires : tie.Need-fits-layout-requires
 fits-layout-requires c κs = search needs
 
-returns : tie.Need-returns
-returns c = search (rdata-fits, needs)
+returns-2 : tie.Need-returns-2
+returns-2 c = search (fits-layout, needs)
 
 pub rdata-fits-spec : {M : Type 1} → statement M
 rdata-fits-spec =
     tie.close
     (tie.spec
-    type-or-0-requires
+    returns
+    cast-fits-layout
     sub-fits-layout
     part-fits-layout-start
     part-fits-layout-end
     fits-layout-requires
-    returns)
+    returns-2)

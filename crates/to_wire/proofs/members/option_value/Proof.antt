@@ -1,5 +1,4 @@
 -- `members::value` meets its contract: one way for each row of the table, and one for every other code.
-use mathlib.Core.Path.{refl}
 use borrow.Author.Needs.{needs}
 use Rattle.octets.specs.Lists.{lookup}
 use Rattle.options.specs.Options.{rows, syntaxOf}
