@@ -330,8 +330,8 @@ module _ (records : Bool) (s : List ℕ) (left at : ℕ) {k next to : ℕ} {whol
 
   module _ {x : EntryEnd} {b₁ : List ℕ} (h : 0 < left) (p : WritesEntry (partAt records s at) b next b₁ x) where
     -- one more entry
-    pub section-goes : {opts behind n rtype : ℕ} → x ≡ entryEnd.To behind n rtype → opts ≡ optCount rtype
-        → Continues (WritesSection (k + opts) (sectionRun records s (left - 1) behind) b₁ n)
+    pub section-goes : {opts after n rtype : ℕ} → x ≡ entryEnd.To after n rtype → opts ≡ optCount rtype
+        → Continues (WritesSection (k + opts) (sectionRun records s (left - 1) after) b₁ n)
         (WritesSection 0 whole b₀ to)
     section-goes q e =
         continues-step w (rw (section-next records s left at h)

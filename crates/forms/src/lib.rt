@@ -165,9 +165,9 @@ fn put_section(
             EntryEnd::Faulty(fault) => {
                 return SectionEnd::Stopped(place, fault);
             }
-            EntryEnd::To(behind, end, rtype) => {
+            EntryEnd::To(after, end, rtype) => {
                 opts += opt_of(rtype);
-                place = behind;
+                place = after;
                 next = end;
                 left -= 1;
             }

@@ -12,7 +12,7 @@ use Rattle.octets.specs.Bits.{is-true, and-left, and-right, octets-test}
 use Rattle.octets.specs.Fields.{be16, be32}
 use Rattle.octets.specs.Parsed.{Parsed, parsed, failed, and-then, strip}
 use Rattle.octets.specs.Codec.{_▷_, _⊗_, _◁_}
-use Rattle.octets.specs.Decimal.{number, numberThen}
+use Rattle.octets.specs.Decimal.{natural, number, numberThen}
 use Rattle.octets.specs.Hexadecimal.{hex}
 use Rattle.names.specs.Name.{Name, name?, nameForm}
 use Rattle.records.specs.Layout.{laid, laid?, rdataAt, rdataFits?}
@@ -34,8 +34,8 @@ use Rattle.parse_tokens.specs.Cursor.{Passed}
 use Rattle.parse_tokens.specs.Step.{Found, found-as, found-sound, found-lit, found-map, found-behind, found-pair}
 use Rattle.parse_tokens.specs.Step.{found-at}
 use Rattle.parse_tokens.specs.Step.{Put, put-then, put-from, put-to, put-as, put-nothing, put-judged, put-emit, Step}
-use Rattle.parse_tokens.specs.Step.{step-lit, step-pair, step-on, Judged, Emits}
-use Rattle.parse_tokens.specs.Number.{capped, capped-is, tillParse, TillRead}
+use Rattle.parse_tokens.specs.Step.{step-lit, step-pair, step-behind, step-on, Judged, Emits}
+use Rattle.parse_tokens.specs.Number.{capped, capped-is, NumberRead}
 use Rattle.parse_tokens.specs.Signed.{TtlKept, SignedRead}
 use Rattle.parse_tokens.specs.Hex.{HexRun, HexRead}
 use Rattle.parse_tokens.specs.Fields.{Done, NumberPut, TtlPut}
@@ -43,63 +43,57 @@ use Rattle.to_wire.specs.Name.{NameRead}
 use Rattle.to_wire.specs.Values.{HexSpan, sizeOf, run-digits, run-octets}
 use Rattle.to_wire.specs.Meant.{recordMeant?, recordOctets, hides?}
 use Rattle.to_wire.specs.declared.entries.Entry.{Entry}
-use Rattle.to_wire.specs.declared.entries.Start.{Start}
 
--- ---- a number of two octets, and the title after it
-abbrev pub WordRead : List ℕ → List ℕ → Cursor → List ℕ → Amount → List ℕ → Type 0
-WordRead title t c b r b′ =
-    Found (tillParse title) (λ n. Put u16? be16 c b (r .cursor) b′ n × (r .value ≡ capped n)) t c (r .cursor)
+-- ---- a number of two octets
+abbrev pub WordRead : List ℕ → Cursor → List ℕ → Amount → List ℕ → Type 0
+WordRead t c b r b′ = Found natural (λ n. Put u16? be16 c b (r .cursor) b′ n × (r .value ≡ capped n)) t c (r .cursor)
 
-pub word-read : {title t : List ℕ} {c d : Cursor} {n : Amount} {b b′ : List ℕ} → TillRead title t c n
+pub word-read : {t : List ℕ} {c d : Cursor} {n : Amount} {b b′ : List ℕ} → NumberRead t c n
     → NumberPut (n .value) u16? be16 (n .cursor) b d b′
-    → WordRead title t c b (record { cursor = d; value = n .value }) b′
+    → WordRead t c b (record { cursor = d; value = n .value }) b′
 word-read x w = found-at (x .found) (w .done .at) (w .done .grammatical) (w .done .room) λ m e.
     (put-from (x .keeps) (w .done .put m e), e)
 
--- ---- what a question and a record begin with
--- the owner, TYPE and CLASS, and the title after them, part by part
-pub record StartRead (title t : List ℕ) (c : Cursor) (b : List ℕ) (r : Start) (b′ : List ℕ) : Type 0 where
-  pub end : Cursor
+-- ---- TYPE and CLASS, which a question and a record have after the owner, part by part
+pub record TypeClassRead (t : List ℕ) (c : Cursor) (b : List ℕ) (r : Amount) (b′ : List ℕ) : Type 0 where
   pub d : Cursor
   pub e : Cursor
+  pub f : Cursor
   pub b₁ : List ℕ
-  pub b₂ : List ℕ
   pub value : ℕ
-  pub name : NameRead t c b end b₁
-  pub title-type : Passed (ascii ",\"TYPE\":") t end d
-  pub type : WordRead (ascii ",\"CLASS\":") t d b₁ (record { cursor = e; value = r .rtype }) b₂
-  pub class : WordRead title t e b₂ (record { cursor = r .cursor; value = value }) b′
-  pub root : r .root ≡ eqb (end .at - c .at) 3
+  pub title-type : Passed (ascii ",\"TYPE\":") t c d
+  pub type : WordRead t d b (record { cursor = e; value = r .value }) b₁
+  pub title-class : Passed (ascii ",\"CLASS\":") t e f
+  pub class : WordRead t f b₁ (record { cursor = r .cursor; value = value }) b′
 
-pub start-read : {title t b b₁ b₂ b₃ : List ℕ} {c d e : Cursor} {k l : Amount} {root : Bool} → NameRead t c b d b₁
-    → Passed (ascii ",\"TYPE\":") t d e → WordRead (ascii ",\"CLASS\":") t e b₁ k b₂
-    → WordRead title t (k .cursor) b₂ l b₃ → root ≡ eqb (d .at - c .at) 3
-    → StartRead title t c b (record { cursor = l .cursor; rtype = k .value; root = root }) b₃
-start-read {b₁ = b₁} {b₂ = b₂} {d = d} {e = e} {k = k} {l = l} n p x y z = record {
-  end = d;
-  d = e;
+pub type-class-read : {t b b₁ b₂ : List ℕ} {c d e : Cursor} {k l : Amount} → Passed (ascii ",\"TYPE\":") t c d
+    → WordRead t d b k b₁ → Passed (ascii ",\"CLASS\":") t (k .cursor) e → WordRead t e b₁ l b₂
+    → TypeClassRead t c b (record { cursor = l .cursor; value = k .value }) b₂
+type-class-read {b₁ = b₁} {d = d} {e = e} {k = k} {l = l} p x q y = record {
+  d = d;
   e = k .cursor;
+  f = e;
   b₁ = b₁;
-  b₂ = b₂;
   value = l .value;
-  name = n;
   title-type = p;
   type = x;
+  title-class = q;
   class = y;
-  root = z;
 }
 
 -- ---- questions
-pub question-read : {t b b′ : List ℕ} {c d : Cursor} {r : Start} → Passed (ascii "{\"NAME\":") t c d
-    → StartRead (ascii "}") t d b r b′ → Step question? questionForm (questionCodec .parse) t c b (r .cursor) b′
+pub question-read : {t b b₁ b₂ : List ℕ} {c d e r : Cursor} {k : Amount} → Passed (ascii "{\"NAME\":") t c d
+    → NameRead t d b e b₁ → TypeClassRead t e b₁ k b₂ → Passed (ascii "}") t (k .cursor) r
+    → Step question? questionForm (questionCodec .parse) t c b r b₂
 unfolding questionCodec question? questionForm
-question-read p x =
+question-read p n x z =
     step-on {ok = λ u. name? (u .0) && (u16? (u .1 .0) && u16? (u .1 .1))} {wire = λ u. nameForm (u .0)
     ++ (be16 (u .1 .0) ++ be16 (u .1 .1))}
     (λ (n, (t, c)). record { name = n; type = t; class = c })
     (λ (n, (t, c)). and-assoc (name? n) (u16? t) (u16? c)) (λ (n, (t, c)). append-assoc (nameForm n) (be16 t) (be16 c))
-    (step-pair (step-lit p (found-as (x .name) λ a h. h .0))
-    (step-pair (step-lit (x .title-type) (found-as (x .type) λ a h. h .0)) (found-as (x .class) λ a h. h .0)))
+    (step-pair (step-lit p (found-as n λ a h. h .0))
+    (step-pair (step-lit (x .title-type) (step-behind (found-as (x .type) λ a h. h .0) (x .title-class)))
+    (step-behind (found-as (x .class) λ a h. h .0) z)))
 
 -- ---- RDATA
 pub record RdataRead (rtype : ℕ) (t : List ℕ) (c : Cursor) (b : List ℕ) (r : Span) (b′ : List ℕ) : Type 0 where
@@ -313,13 +307,14 @@ three-behind m n h = go (eqb n (m + 3)) refl
     go true e = eq-eqb (n - m) 3 (omega (arith, eqb→eq n (m + 3) (subst T (sym e) tt)))
     go false e = ne-eqb (n - m) 3 (λ d. eqb-false n (m + 3) e (omega (arith, d)))
 
-pub record-read : {rcode : ℕ} {t b b₁ b₂ : List ℕ} {c : Cursor} {s : Start} {r : Entry}
-    → StartRead (ascii ",\"TTL\":") t c b s b₁ → TailRead (s .rtype) (s .root) rcode t (s .cursor) b₁ r b₂
-    → RecordRead rcode t c b r b₂
+pub record-read : {rcode : ℕ} {root : Bool} {t b b₁ b₂ b₃ : List ℕ} {c d h : Cursor} {k : Amount} {r : Entry}
+    → NameRead t c b d b₁ → TypeClassRead t d b₁ k b₂ → Passed (ascii ",\"TTL\":") t (k .cursor) h
+    → TailRead (k .value) root rcode t h b₂ r b₃ → root ≡ eqb (d .at - c .at) 3 → RecordRead rcode t c b r b₃
 unfolding recordRest recordOctets recordForm itemRecord hides?
-record-read {rcode} {t} {b} {b₁} {b₂} {c} {s} {r} x z =
+record-read {rcode} {root} {t} {b} {b₁} {b₂} {b₃} {c} {d} {h} {k} {r} n x s z e =
     found-map recordFrom (λ u v. v)
-    (found-as (found-pair (x .name) (found-pair (found-lit (x .title-type) (x .type)) (found-pair (x .class) z))) told)
+    (found-as (found-pair n (found-pair (found-lit (x .title-type) (found-behind (x .type) (x .title-class)))
+    (found-pair (found-behind (x .class) s) z))) told)
   where
     wire : (u : Fields) → recordOctets (recordFrom u) ≡ nameForm (u .0)
         ++ (be16 (u .1 .0) ++ (be16 (u .1 .1 .0)
@@ -330,24 +325,23 @@ record-read {rcode} {t} {b} {b₁} {b₂} {c} {s} {r} x z =
         chain : (a b c d e f : List ℕ) → a ++ b ++ c ++ d ++ e ++ f ≡ a ++ (b ++ (c ++ (d ++ (e ++ f))))
         chain a b c d e f = simp append-assoc
 
-    hides : (u : Fields) → none? (u .0) ≡ s .root → s .rtype ≡ capped (u .1 .0)
-        → (eqb (s .rtype) 41 && showsEdns (s .root) (unsigned (u .1 .1 .1 .0)) rcode (u .1 .1 .1 .1)) ≡ hides? rcode
+    hides : (u : Fields) → none? (u .0) ≡ root → k .value ≡ capped (u .1 .0)
+        → (eqb (k .value) 41 && showsEdns root (unsigned (u .1 .1 .1 .0)) rcode (u .1 .1 .1 .1)) ≡ hides? rcode
         (recordFrom u)
     hides u e d = rw (d, capped-is (u .1 .0) 41 (omega arith), ← e)
         (ap (λ x. eqb (u .1 .0) 41 && x) (shows-edns rcode (itemRecord (recordFrom u))))
 
-    told : (u : Fields)
-        → (Put name? nameForm c b (x .end) (x .b₁) (u .0) × (none? (u .0) ≡ eqb (x .end .at) (c .at + 3)))
-        × ((Put u16? be16 (x .d) (x .b₁) (x .e) (x .b₂) (u .1 .0) × (s .rtype ≡ capped (u .1 .0)))
-        × ((Put u16? be16 (x .e) (x .b₂) (s .cursor) b₁ (u .1 .1 .0) × (x .value ≡ capped (u .1 .1 .0)))
-        × Tail (s .rtype) (s .root) rcode (s .cursor) b₁ r b₂ (u .1 .1 .1)))
-        → RecordFacts rcode c b r b₂ (recordFrom u)
+    told : (u : Fields) → (Put name? nameForm c b d b₁ (u .0) × (none? (u .0) ≡ eqb (d .at) (c .at + 3)))
+        × ((Put u16? be16 (x .d) b₁ (x .e) (x .b₁) (u .1 .0) × (k .value ≡ capped (u .1 .0)))
+        × ((Put u16? be16 (x .f) (x .b₁) (k .cursor) b₂ (u .1 .1 .0) × (x .value ≡ capped (u .1 .1 .0)))
+        × Tail (k .value) root rcode h b₂ r b₃ (u .1 .1 .1)))
+        → RecordFacts rcode c b r b₃ (recordFrom u)
     told u v = record {
       put = put-as (record-judged u (v .1 .1 .1 .signed) (v .1 .1 .1 .octets)) (wire u) all;
       is-opt = v .1 .1 .1 .opt ∙ rw (v .1 .0 .1) (capped-is (u .1 .0) 41 (omega arith));
       is-shown = v .1 .1 .1 .shown;
       is-hidden = λ m. v .1 .1 .1 .eligible m ∙ hides u
-          (v .0 .1 ∙ sym (three-behind (c .at) (x .end .at) (x .name .moves .onward)) ∙ sym (x .root)) (v .1 .0 .1);
+          (v .0 .1 ∙ sym (three-behind (c .at) (d .at) (n .moves .onward)) ∙ sym e) (v .1 .0 .1);
     }
       where
         all : Put {A = Fields} (λ u. name? (u .0)
@@ -356,7 +350,8 @@ record-read {rcode} {t} {b} {b₁} {b₂} {c} {s} {r} x z =
             (λ u. nameForm (u .0)
             ++ (be16 (u .1 .0) ++ (be16 (u .1 .1 .0)
             ++ (be32 (unsigned (u .1 .1 .1 .0)) ++ (be16 (length (u .1 .1 .1 .1)) ++ u .1 .1 .1 .1))))) c b
-            (r .cursor) b₂ u
+            (r .cursor) b₃ u
         all = put-as refl refl
-            (put-then (v .0 .0) (put-then (put-from (x .title-type .keeps) (v .1 .0 .0))
-            (put-then (v .1 .1 .0 .0) (v .1 .1 .1 .put (u .1 .0) (v .1 .0 .1)))))
+            (put-then (v .0 .0)
+            (put-then (put-to (put-from (x .title-type .keeps) (v .1 .0 .0)) (x .title-class .keeps))
+            (put-then (put-to (v .1 .1 .0 .0) (s .keeps)) (v .1 .1 .1 .put (u .1 .0) (v .1 .0 .1)))))

@@ -7,7 +7,7 @@ ghost use Rattle.parse_tokens.specs.Step.{Step};
 ghost use Rattle.to_wire.specs.Values.{HexSpan};
 ghost use Rattle.records.specs.Message.{question?, questionForm};
 ghost use Rattle.strict.specs.Parser.{questionCodec};
-ghost use Rattle.to_wire.specs.Reading.{WordRead, StartRead, RdataFits, RdataRead, CouldBeElement};
+ghost use Rattle.to_wire.specs.Reading.{WordRead, TypeClassRead, RdataFits, RdataRead, CouldBeElement};
 ghost use Rattle.to_wire.specs.Reading.{TtlRead, TailRead, RecordRead};
 ghost use Rattle.to_wire.specs.Items.{ItemRead};
 ghost use Rattle.to_wire.specs.Sections.{QuestionEntryRead, TitledRead, OneRead, NextRead, InsideRead};
@@ -31,7 +31,7 @@ use parse_tokens::emit;
 use parse_tokens::furthest_failure;
 use parse_tokens::hex;
 use parse_tokens::literal;
-use parse_tokens::number_then;
+use parse_tokens::number;
 use parse_tokens::octet_at;
 use parse_tokens::put_ttl;
 use parse_tokens::put_u16;
@@ -46,42 +46,31 @@ struct Entry {
     eligible: bool,
 }
 
-// A number of two octets with `title` after it, and what it is.
-fn u16_then(text: &[u8], c: Cursor, title: &[u8], out: &mut [u8]) -> Amount
+// A number of two octets, and what it is.
+fn u16_field(text: &[u8], c: Cursor, out: &mut [u8]) -> Amount
     requires { ⌜ Safe (now text) c ⌝ }
-    ensures { λ r. ⌜ WordRead (now (title .entry)) (now (text .entry)) c (now (out .entry)) r (now (out .exit)) ⌝ }
+    ensures { λ r. ⌜ WordRead (now (text .entry)) c (now (out .entry)) r (now (out .exit)) ⌝ }
 {
-    let n = number_then(text, c, title);
+    let n = number(text, c);
     Amount {
         cursor: put_u16(n.cursor, n.value, out),
         value: n.value,
     }
 }
 
-// What was read of the members that a question and a record begin with: TYPE, and whether the owner is the root.
-struct Start {
-    cursor: Cursor,
-    rtype: u64,
-    root: bool,
-}
-
-// Owner, TYPE and CLASS with `title` after them.
-fn name_type_class(text: &[u8], c: Cursor, title: &[u8], out: &mut [u8]) -> Start
+// TYPE and CLASS, and what TYPE is.
+fn type_class(text: &[u8], c: Cursor, out: &mut [u8]) -> Amount
     requires { ⌜ Safe (now text) c ⌝ }
-    ensures { λ r. ⌜ StartRead (now (title .entry)) (now (text .entry)) c (now (out .entry)) r (now (out .exit)) ⌝ }
+    ensures { λ r. ⌜ TypeClassRead (now (text .entry)) c (now (out .entry)) r (now (out .exit)) ⌝ }
 {
-    let start = c.at;
-    let owner = name(text, c, out);
-    let end = owner.at;
-    let size = end - start;
-    let behind = literal(text, owner, b",\"TYPE\":");
-    let rtype = u16_then(text, behind, b",\"CLASS\":", out);
-    let class = u16_then(text, rtype.cursor, title, out);
-    let next = class.cursor;
-    Start {
-        cursor: next,
-        rtype: rtype.value,
-        root: size == 3,
+    let title = literal(text, c, b",\"TYPE\":");
+    let rtype = u16_field(text, title, out);
+    let next = literal(text, rtype.cursor, b",\"CLASS\":");
+    let class = u16_field(text, next, out);
+    let end = class.cursor;
+    Amount {
+        cursor: end,
+        value: rtype.value,
     }
 }
 
@@ -92,8 +81,9 @@ fn question(text: &[u8], c: Cursor, out: &mut [u8]) -> Cursor
         (now (out .exit)) ⌝ }
 {
     let start = literal(text, c, b"{\"NAME\":");
-    let question = name_type_class(text, start, b"}", out);
-    question.cursor
+    let owner = name(text, start, out);
+    let rtype = type_class(text, owner, out);
+    literal(text, rtype.cursor, b"}")
 }
 
 // Whether the RDATA of this span has the layout of its TYPE; a TYPE that is out of range has none.
@@ -172,8 +162,12 @@ fn record(text: &[u8], c: Cursor, rcode: u32, out: &mut [u8]) -> Entry
     requires { ⌜ Safe (now text) c × (rcode < 16) ⌝ }
     ensures { λ r. ⌜ RecordRead rcode (now (text .entry)) c (now (out .entry)) r (now (out .exit)) ⌝ }
 {
-    let start = name_type_class(text, c, b",\"TTL\":", out);
-    ttl_rdata(text, start.cursor, start.rtype, start.root, rcode, out)
+    let start = c.at;
+    let owner = name(text, c, out);
+    let end = owner.at;
+    let rtype = type_class(text, owner, out);
+    let title = literal(text, rtype.cursor, b",\"TTL\":");
+    ttl_rdata(text, title, rtype.value, end - start == 3, rcode, out)
 }
 
 // An element of the additional section.

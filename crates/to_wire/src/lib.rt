@@ -40,16 +40,16 @@ fn array(
     ensures { λ r. ⌜ ArrayRead (now (title .entry)) element rcode (now (text .entry)) c (now (out .entry)) r
         (now (out .exit)) ⌝ }
 {
-    let behind = literal(text, c, title);
-    read_section(text, behind, element, rcode, out)
+    let start = literal(text, c, title);
+    read_section(text, start, element, rcode, out)
 }
 
-// Two arrays, one after the other.
 struct TwoSections {
     first: Section,
     second: Section,
 }
 
+// Two arrays, one after the other.
 fn two_arrays(
     text: &[u8],
     c: Cursor,
@@ -98,16 +98,22 @@ fn settled(section: Section) -> bool
 }
 
 // Whether the counts are those of the arrays, and nothing of the additional section is left unsettled.
-fn consistent(counts: Counts, x: TwoSections, y: TwoSections) -> bool
-    ensures { λ r. ⌜ r ≡ consistent? counts x y ⌝ }
+fn consistent(counts: Counts, front: TwoSections, back: TwoSections) -> bool
+    ensures { λ r. ⌜ r ≡ consistent? counts front back ⌝ }
 {
-    let q = x.first;
-    let a = x.second;
-    let n = y.first;
-    let r = y.second;
+    let questions = front.first;
+    let answers = front.second;
+    let authority = back.first;
+    let additional = back.second;
     both(
-        agree(counts, q.count, a.count, n.count, r.count),
-        settled(r),
+        agree(
+            counts,
+            questions.count,
+            answers.count,
+            authority.count,
+            additional.count,
+        ),
+        settled(additional),
     )
 }
 
@@ -117,7 +123,7 @@ fn arrays(text: &[u8], h: Header, out: &mut [u8]) -> Cursor
     ensures { λ r. ⌜ ArraysRead (now (text .entry)) h (now (out .entry)) r (now (out .exit)) ⌝ }
 {
     let rcode = h.rcode;
-    let x = two_arrays(
+    let front = two_arrays(
         text,
         h.cursor,
         b",\"questionRRs\":",
@@ -127,10 +133,10 @@ fn arrays(text: &[u8], h: Header, out: &mut [u8]) -> Cursor
         rcode,
         out,
     );
-    let a = x.second;
-    let y = two_arrays(
+    let answers = front.second;
+    let back = two_arrays(
         text,
-        a.cursor,
+        answers.cursor,
         b",\"authorityRRs\":",
         Element::Record,
         b",\"additionalRRs\":",
@@ -138,9 +144,9 @@ fn arrays(text: &[u8], h: Header, out: &mut [u8]) -> Cursor
         rcode,
         out,
     );
-    let r = y.second;
-    let end = literal(text, r.cursor, b"}");
-    demand(end, consistent(h.counts, x, y))
+    let additional = back.second;
+    let end = literal(text, additional.cursor, b"}");
+    demand(end, consistent(h.counts, front, back))
 }
 
 // Reads the text from its first octet on.

@@ -34,8 +34,8 @@ same-length c = search needs
 returns : tie.Need-returns Inv-loop μ-loop
 returns c = (search (section-stops, needs), tt)
 
-enum-known-behind : tie.Need-enum-known-behind Inv-loop μ-loop
-enum-known-behind c = search needs
+enum-known-after : tie.Need-enum-known-after Inv-loop μ-loop
+enum-known-after c = search needs
 
 opt-of-requires : tie.Need-opt-of-requires Inv-loop μ-loop
 opt-of-requires c κs = search needs
@@ -75,7 +75,7 @@ put-section-spec =
     enum-known-fault
     same-length
     returns
-    enum-known-behind
+    enum-known-after
     opt-of-requires
     add-opts
     sub-left

@@ -9,11 +9,17 @@ slice-aggregate-literal c = search needs
 literal-requires : tie.Need-literal-requires
 literal-requires c κs = search needs
 
-slice-aggregate-name-type-class : tie.Need-slice-aggregate-name-type-class
-slice-aggregate-name-type-class c = search needs
+name-requires : tie.Need-name-requires
+name-requires c κs = search needs
 
-name-type-class-requires : tie.Need-name-type-class-requires
-name-type-class-requires c κs = search needs
+type-class-requires : tie.Need-type-class-requires
+type-class-requires c κs = search needs
+
+slice-aggregate-literal-2 : tie.Need-slice-aggregate-literal-2
+slice-aggregate-literal-2 c = search needs
+
+literal-requires-2 : tie.Need-literal-requires-2
+literal-requires-2 c κs = search needs
 
 same-length : tie.Need-same-length
 same-length c = search needs
@@ -27,7 +33,9 @@ question-spec =
     (tie.spec
     slice-aggregate-literal
     literal-requires
-    slice-aggregate-name-type-class
-    name-type-class-requires
+    name-requires
+    type-class-requires
+    slice-aggregate-literal-2
+    literal-requires-2
     same-length
     returns)

@@ -3,11 +3,20 @@ use Rattle.to_wire.specs.Reading.{record-read}
 use Rattle.to_wire.proofs.entries.record.Statement.{statement}
 use Rattle.to_wire.proofs.entries.record.Tie as tie
 
-slice-aggregate-name-type-class : tie.Need-slice-aggregate-name-type-class
-slice-aggregate-name-type-class c = search needs
+name-requires : tie.Need-name-requires
+name-requires c κs = search needs
 
-name-type-class-requires : tie.Need-name-type-class-requires
-name-type-class-requires c κs = search needs
+type-class-requires : tie.Need-type-class-requires
+type-class-requires c κs = search needs
+
+slice-aggregate-literal : tie.Need-slice-aggregate-literal
+slice-aggregate-literal c = search needs
+
+literal-requires : tie.Need-literal-requires
+literal-requires c κs = search needs
+
+sub-ttl-rdata : tie.Need-sub-ttl-rdata
+sub-ttl-rdata c = search needs
 
 ttl-rdata-requires : tie.Need-ttl-rdata-requires
 ttl-rdata-requires c κs = search needs
@@ -22,8 +31,11 @@ pub record-spec : {M : Type 1} → statement M
 record-spec =
     tie.close
     (tie.spec
-    slice-aggregate-name-type-class
-    name-type-class-requires
+    name-requires
+    type-class-requires
+    slice-aggregate-literal
+    literal-requires
+    sub-ttl-rdata
     ttl-rdata-requires
     same-length
     returns)
