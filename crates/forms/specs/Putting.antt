@@ -402,7 +402,8 @@ module _ (s : List ℕ) (i at : ℕ) {next to : ℕ} {b₀ b : List ℕ}
       sections-goes q = continues-step w (rw sections-next (runs-chain _ (rw q at p)))
 
       -- an entry of it has a fault
-      pub sections-stop : {o : List ℕ} {j : ℕ} {g : FaultRead} → Wrote o 0 (take 12 s) b₀ to → x ≡ sectionEnd.Stopped j g
+      pub sections-stop : {o : List ℕ} {j : ℕ} {g : FaultRead} → Wrote o 0 (take 12 s) b₀ to
+          → x ≡ sectionEnd.Stopped j g
           → WritesSection 0 (messageRun s) o 0 b₁ x
       unfolding messageRun
       sections-stop d q = runs-join d (w .goes b₁ x (rw (sections-next, q) (runs-halt _ (rw q at p))))

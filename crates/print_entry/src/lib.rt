@@ -50,7 +50,8 @@ fn put_start(form: &[u8], rtype: u32, class: u32, out: &mut [u8], to: usize) -> 
 // Writes a record up to its RDATA.
 fn put_fields(form: &[u8], rtype: u32, class: u32, ttl: u32, out: &mut [u8], to: usize) -> usize
     requires { ⌜ (to < 2 ^ 36) × (length (now form) ≤ 255) ⌝ }
-    ensures { λ r. ⌜ Wrote (now (out .entry)) to (fieldsText (now (form .entry)) rtype class ttl) (now (out .exit)) r ⌝ }
+    ensures { λ r. ⌜ Wrote (now (out .entry)) to (fieldsText (now (form .entry)) rtype class ttl)
+        (now (out .exit)) r ⌝ }
     ensures { λ r. ⌜ r ≤ to + 1356 ⌝ }
 {
     let start = put_start(form, rtype, class, out, to);

@@ -20,7 +20,8 @@ ghost use Rattle.print_values.specs.Entries.{Width, numbers, numberAt};
 // Writes `head`, and after it octets in hexadecimal, in quotes.
 pub fn put_hex_text(head: &[u8], src: &[u8], out: &mut [u8], to: usize) -> usize
     requires { ⌜ (to < 2 ^ 39) × (length (now head) < 32) × (length (now src) < 65536) ⌝ }
-    ensures { λ r. ⌜ Wrote (now (out .entry)) to (now (head .entry) ++ hexText (now (src .entry))) (now (out .exit)) r ⌝ }
+    ensures { λ r. ⌜ Wrote (now (out .entry)) to (now (head .entry) ++ hexText (now (src .entry)))
+        (now (out .exit)) r ⌝ }
     ensures { λ r. ⌜ r ≡ to + length (now (head .entry)) + 2 * length (now (src .entry)) + 2 ⌝ }
 {
     let mut next = put_all(head, out, to);

@@ -168,7 +168,12 @@ fn document(text: &[u8], out: &mut [u8]) -> Cursor
 // Writes the message that a text says. A first run over no octets finds every refusal.
 pub fn read(text: &[u8], message: &mut [u8]) -> Outcome
     ensures { λ r. ⌜ Reads
-        (record { input = now (text .entry); before = now (message .entry); answer = r; after = now (message .exit) }) ⌝ }
+        (record {
+          input = now (text .entry);
+          before = now (message .entry);
+          answer = r;
+          after = now (message .exit);
+        }) ⌝ }
 {
     let c = document(text, &mut message[..0]);
     if !c.grammatical {

@@ -65,7 +65,8 @@ pub fn size_of(h: Span) -> usize
 // Writes the octets of the digits that were read, unless they go past the limit.
 pub fn put_hex(text: &[u8], h: Span, c: Cursor, out: &mut [u8]) -> Cursor
     requires { ⌜ HexSpan (now text) h × (c .to ≤ 65535) ⌝ }
-    ensures { λ r. ⌜ Done (HexRun (now (text .entry)) h) (λ l. true) (λ l. l) c (now (out .entry)) r (now (out .exit)) ⌝ }
+    ensures { λ r. ⌜ Done (HexRun (now (text .entry)) h) (λ l. true) (λ l. l) c (now (out .entry)) r
+        (now (out .exit)) ⌝ }
 {
     let r = reserve(c, size_of(h));
     if !r.bounded {
