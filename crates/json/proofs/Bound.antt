@@ -203,15 +203,15 @@ error-short : (l : List ℕ) → Short (errorTail (present l)) (10 * length l + 
 error-short [] = record { short = omega arith }
 error-short (x ∷ l) = record { short = omega (arith, (quote ",\"TEXT\":" ⊕ string-short (x ∷ l) ⊕ quote "}") .short) }
 
--- the text of a value that has its form's shape
-abbrev Holds : (form : Syntax) → Option (Value form) → ℕ → Type 0
-Holds form none n = Unit {0}
-Holds form (some v) n = Short (valueText form v) n
+-- the text of a value that has its syntax's shape
+abbrev Holds : (syntax : Syntax) → Option (Value syntax) → ℕ → Type 0
+Holds syntax none n = Unit {0}
+Holds syntax (some v) n = Short (valueText syntax v) n
 
 within : {l : List ℕ} {a : ℕ} (b : ℕ) → a ≤ b → Short l a → Short l b
 within b h k = record { short = omega (arith, h, k .short) }
 
-shape-short : (form : Syntax) (l : List ℕ) → Octets l → Holds form (shape form l) (10 * length l + 27)
+shape-short : (syntax : Syntax) (l : List ℕ) → Octets l → Holds syntax (shape syntax l) (10 * length l + 27)
 unfolding shape valueText
 shape-short hexObject l h = within _ (omega arith) (quote "{\"HEX\":" ⊕ hex-short l ⊕ quote "}")
 shape-short octetList l h = within _ (omega arith) (numbers-short l h)

@@ -8,7 +8,7 @@ use Rattle.octets.specs.Lists.{hexed, lookup}
 use Rattle.spelling.specs.Spelling.{printable?}
 use Rattle.options.specs.Options.{rows, syntaxOf, words, shape, Member, known, other, memberOf}
 
--- whether an option of this code and value takes its row's form
+-- whether an option of this code and value takes its row's syntax
 abbrev pub known? : Member → Bool
 known? (known code v) = true
 known? (other code value) = false

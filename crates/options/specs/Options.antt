@@ -34,23 +34,23 @@ pub data Syntax : Type 0 where
   -- no row of the table
   unlisted : Syntax
 
--- code, member and form
+-- the member and its value's syntax, by code
 pub record Row : Type 0 where
   pub member : String
-  pub form : Syntax
+  pub syntax : Syntax
 
 unfoldable pub rows : List (ℕ × Row)
 rows =
-    (3, record { member = "NSID"; form = hexObject })
-    ∷ (5, record { member = "DAU"; form = octetList })
-    ∷ (6, record { member = "DHU"; form = octetList })
-    ∷ (7, record { member = "N3U"; form = octetList })
-    ∷ (9, record { member = "EXPIRE"; form = expiry })
-    ∷ (10, record { member = "COOKIE"; form = hexList })
-    ∷ (11, record { member = "KEEPALIVE"; form = word })
-    ∷ (12, record { member = "PADDING"; form = padding })
-    ∷ (14, record { member = "KEYTAG"; form = wordList })
-    ∷ (15, record { member = "EDE"; form = extendedError })
+    (3, record { member = "NSID"; syntax = hexObject })
+    ∷ (5, record { member = "DAU"; syntax = octetList })
+    ∷ (6, record { member = "DHU"; syntax = octetList })
+    ∷ (7, record { member = "N3U"; syntax = octetList })
+    ∷ (9, record { member = "EXPIRE"; syntax = expiry })
+    ∷ (10, record { member = "COOKIE"; syntax = hexList })
+    ∷ (11, record { member = "KEEPALIVE"; syntax = word })
+    ∷ (12, record { member = "PADDING"; syntax = padding })
+    ∷ (14, record { member = "KEYTAG"; syntax = wordList })
+    ∷ (15, record { member = "EDE"; syntax = extendedError })
     ∷ []
 
 -- the members by code
@@ -59,7 +59,7 @@ members = map (λ (row : ℕ × Row). (row .0, row .1 .member)) rows
 
 abbrev pub row-syntax : Option Row → Syntax
 row-syntax none = unlisted
-row-syntax (some row) = row .form
+row-syntax (some row) = row .syntax
 
 unfoldable pub syntaxOf : ℕ → Syntax
 syntaxOf code = row-syntax (lookup code rows)
@@ -89,7 +89,7 @@ abbrev pub expiryText : Option ℕ → List ℕ
 expiryText none = ascii "\"NONE\""
 expiryText (some n) = decimal n
 
-unfoldable pub valueText : (form : Syntax) → Value form → List ℕ
+unfoldable pub valueText : (syntax : Syntax) → Value syntax → List ℕ
 valueText hexObject hex = ascii "{\"HEX\":" ++ hexText hex ++ ascii "}"
 valueText octetList l = listed decimal l
 valueText expiry n = expiryText n
@@ -100,7 +100,7 @@ valueText wordList l = listed decimal l
 valueText extendedError e = ascii "{\"CODE\":" ++ decimal (e .0) ++ errorTail (e .1)
 valueText unlisted u = []
 
--- ---- the shapes: what the octets of an option's value are, if they have the shape of the form
+-- ---- the shapes: what the octets of an option's value are, if they have the shape of the syntax
 abbrev pub zero? : ℕ → Bool
 zero? x = eqb x 0
 
@@ -114,7 +114,7 @@ abbrev pub present : List ℕ → Option (List ℕ)
 present [] = none
 present (x ∷ l) = some (x ∷ l)
 
-unfoldable pub shape : (form : Syntax) → List ℕ → Option (Value form)
+unfoldable pub shape : (syntax : Syntax) → List ℕ → Option (Value syntax)
 shape hexObject l = some l
 shape octetList l = some l
 shape expiry l = cond (eqb (length l) 0) (some none) (cond (eqb (length l) 4) (some (some (be32At l 0))) none)
@@ -143,7 +143,7 @@ abbrev pub chosen : (code : ℕ) → List ℕ → Option (Value (syntaxOf code))
 chosen code value none = other code value
 chosen code value (some v) = known code v
 
--- an option takes its row's form if its value has the shape
+-- an option takes its row's syntax if its value has the shape
 unfoldable pub memberOf : EdnsOption → Member
 memberOf o = chosen (o .code) (o .value) (shape (syntaxOf (o .code)) (o .value))
 

@@ -36,10 +36,10 @@ chosen-or : {A : Type 0} (b c : Bool) (a d : A) → (b || c) ≡ present? (cond 
 chosen-or true c a d = refl
 chosen-or false c a d = chosen c d
 
--- the form of no row takes no value
-form-none : (form : Syntax) (v : List ℕ) → form ≡ unlisted → false ≡ present? (shape form v)
+-- the syntax of no row takes no value
+syntax-none : (syntax : Syntax) (v : List ℕ) → syntax ≡ unlisted → false ≡ present? (shape syntax v)
 unfolding shape
-form-none form v e = rw e
+syntax-none syntax v e = rw e
 
 -- ---- the codes
 module _ {code : ℕ} (v : List ℕ) where
@@ -76,7 +76,7 @@ no-row code h = ap row-syntax (missed-row (Unit {0}) code (armsOf rows) rows tt 
 
 pub none-shaped : (code : ℕ) (v : List ℕ) → Missed (Unit {0}) code (armsOf rows)
     → false ≡ present? (shape (syntaxOf code) v)
-none-shaped code v h = form-none (syntaxOf code) v (no-row code h)
+none-shaped code v h = syntax-none (syntaxOf code) v (no-row code h)
 
 -- ---- EDE without its code, and with it
 module _ (v : List ℕ) {size : ℕ} (z : size ≡ length v) where

@@ -147,10 +147,10 @@ module _ (v : List ℕ) {b b′ : List ℕ} {at r : ℕ} where
       rw (le-leb _ _ long, text, ← e) (then (then p q) (rw (rest-is 2 v) at s))
 
 -- ---- a value without the shape of its code
-not-shaped : (form : Syntax) (v : List ℕ) → present? (shape form v) ≡ false → shape form v ≡ none
-not-shaped form v e = go (shape form v) e
+not-shaped : (syntax : Syntax) (v : List ℕ) → present? (shape syntax v) ≡ false → shape syntax v ≡ none
+not-shaped syntax v e = go (shape syntax v) e
   where
-    go : (o : Option (Value form)) → present? o ≡ false → o ≡ none
+    go : (o : Option (Value syntax)) → present? o ≡ false → o ≡ none
     go none e = refl
     go (some a) e = let z : _≡_ {A = ℕ} 0 1 = cc in absurd (omega arith)
 

@@ -131,8 +131,8 @@ module _ {A : Type 0} (P : A → Type 0) where
   either-some false c x y v f g e = one-some c y v g e
 
 -- a value in the grammar that can be an option's, and these are its octets
-abbrev pub Stands : (form : Syntax) → List ℕ → Value form → Type 0
-Stands form l v = T (value? form v) × ValueIn form v × (octetsOf form v ≡ l)
+abbrev pub Stands : (syntax : Syntax) → List ℕ → Value syntax → Type 0
+Stands syntax l v = T (value? syntax v) × ValueIn syntax v × (octetsOf syntax v ≡ l)
 
 -- a list of length 0
 empty : (l : List ℕ) → length l ≡ 0 → [] ≡ l
@@ -181,7 +181,7 @@ error-stands l o h =
     go (x ∷ t) p e = (both (u16? (be16At l 0)) true range tt, (tt, all→All printable? (x ∷ t) p), e)
 
 -- a value that octets have the shape of is valid, and they are its octets
-pub shape-value : (form : Syntax) (l : List ℕ) (v : Value form) → Octets l → shape form l ≡ some v → Stands form l v
+pub shape-value : (syntax : Syntax) (l : List ℕ) (v : Value syntax) → Octets l → shape syntax l ≡ some v → Stands syntax l v
 unfolding shape value? octetsOf each
 shape-value hexObject l v o e = subst (Stands hexObject l) (Option·some-injective l v e) (tt, o, refl)
 shape-value octetList l v o e =
@@ -206,8 +206,8 @@ shape-value unlisted l v o e = absurd (Option·none-ne-some v e)
 
 -- ---- from a value to octets
 -- octets that have the shape of a value
-abbrev pub ShapedBy : (form : Syntax) → Value form → Type 0
-ShapedBy form v = (shape form (octetsOf form v) ≡ some v) × Octets (octetsOf form v)
+abbrev pub ShapedBy : (syntax : Syntax) → Value syntax → Type 0
+ShapedBy syntax v = (shape syntax (octetsOf syntax v) ≡ some v) × Octets (octetsOf syntax v)
 
 -- expiry: nothing, or four octets
 expiry-shaped : (n : Option ℕ) → T (value? expiry n) → ShapedBy expiry n
@@ -279,7 +279,7 @@ error-shaped n (some (x ∷ l)) h o =
     )
 
 -- a valid value's octets have its shape
-pub value-shape : (form : Syntax) (v : Value form) → T (value? form v) → ValueIn form v → ShapedBy form v
+pub value-shape : (syntax : Syntax) (v : Value syntax) → T (value? syntax v) → ValueIn syntax v → ShapedBy syntax v
 unfolding shape value? octetsOf
 value-shape hexObject v h i = (refl, i)
 value-shape octetList v h i = (refl, octets-in v h)
@@ -307,7 +307,7 @@ key-holds p (row ∷ rows) n h k =
         (and-left (p (row .0)) (all (λ (row : ℕ × String). p (row .0)) rows) h)
     go false e k f = f k
 
--- the form of a row
+-- the syntax of a row
 abbrev pub Listed : Syntax → Type 0
 Listed hexObject = Unit {0}
 Listed octetList = Unit {0}
@@ -345,8 +345,8 @@ pub key-word : (code : ℕ) → T (key? code members) → code < 65536
 unfolding members rows
 key-word code k = ltb→lt code 65536 (key-holds u16? members code tt k)
 
--- only a form of a row has a value
-shape-listed : (form : Syntax) (l : List ℕ) (v : Value form) → shape form l ≡ some v → Listed form
+-- only a syntax of a row has a value
+shape-listed : (syntax : Syntax) (l : List ℕ) (v : Value syntax) → shape syntax l ≡ some v → Listed syntax
 unfolding shape
 shape-listed hexObject l v e = tt
 shape-listed octetList l v e = tt

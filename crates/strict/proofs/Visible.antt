@@ -144,7 +144,7 @@ expiry-seen : (n : Option ℕ) → Seen (expiryText n)
 expiry-seen none = quote "\"NONE\"" tt
 expiry-seen (some n) = decimal-seen n
 
-value-seen : (form : Syntax) (v : Value form) → ValueIn form v → Seen (valueText form v)
+value-seen : (syntax : Syntax) (v : Value syntax) → ValueIn syntax v → Seen (valueText syntax v)
 unfolding valueText
 value-seen hexObject v h = quote "{\"HEX\":" tt ⊕ hex-seen v h ⊕ quote "}" tt
 value-seen octetList v h = listed-seen decimal (λ n k. decimal-seen n) v h

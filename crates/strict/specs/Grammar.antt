@@ -44,7 +44,7 @@ Maybe P (some a) = P a
 abbrev pub StringIn : List ℕ → Type 0
 StringIn = All (λ x. T (printable? x))
 
-abbrev pub ValueIn : (form : Syntax) → Value form → Type 0
+abbrev pub ValueIn : (syntax : Syntax) → Value syntax → Type 0
 ValueIn hexObject hex = Octets hex
 ValueIn octetList l = All Number l
 ValueIn expiry n = Maybe Number n

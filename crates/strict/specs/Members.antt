@@ -23,7 +23,7 @@ abbrev pub paddingOctets : ℕ → Option (List ℕ) → List ℕ
 paddingOctets n none = replicate n 0
 paddingOctets n (some hex) = hex
 
-unfoldable pub octetsOf : (form : Syntax) → Value form → List ℕ
+unfoldable pub octetsOf : (syntax : Syntax) → Value syntax → List ℕ
 octetsOf hexObject hex = hex
 octetsOf octetList l = l
 octetsOf expiry n = expiryOctets n
@@ -54,7 +54,7 @@ abbrev pub text? : Option (List ℕ) → Bool
 text? none = true
 text? (some text) = not (none? text)
 
-unfoldable pub value? : (form : Syntax) → Value form → Bool
+unfoldable pub value? : (syntax : Syntax) → Value syntax → Bool
 value? hexObject hex = true
 value? octetList l = all u8? l
 value? expiry n = expiry? n

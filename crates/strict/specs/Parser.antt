@@ -84,8 +84,8 @@ pub error-same : (n : Option (List ℕ)) → errorTail n ≡ endText "\"TEXT\":"
 error-same none = refl
 error-same (some l) = refl
 
--- a value of each form
-unfoldable pub value : (form : Syntax) → Codec (ValueIn form) (valueText form) NoDigit
+-- a value of each syntax
+unfoldable pub value : (syntax : Syntax) → Codec (ValueIn syntax) (valueText syntax) NoDigit
 unfolding valueText
 value hexObject = free ("{\"HEX\":" ▷ hex ◁ "}")
 value octetList = free (array (number-avoids 93 tt) (λ r. tt) (λ r. tt) number)
@@ -122,7 +122,7 @@ unfolding members rows
 member-apart code r s h =
     apart-texts (rowText code members) (ascii "OPT") r s (row-apart (ascii "OPT") members code tt h)
 
--- a member of the table, whose code decides the form of its value
+-- a member of the table, whose code decides the syntax of its value
 unfoldable pub knownMember : Codec {A = (code : ℕ) × Value (syntaxOf code)} (λ u. MemberIn (known (u .0) (u .1)))
     (λ u. memberText (known (u .0) (u .1))) NoDigit
 unfolding memberText

@@ -153,9 +153,9 @@ unfolding each
 octets-each [] = refl
 octets-each (x ∷ l) = ap (λ (z : List ℕ). x ∷ z) (octets-each l)
 
--- the value of a form
+-- the value of a syntax
 abbrev pub ValueStep : Syntax → List ℕ → Cursor → List ℕ → Cursor → List ℕ → Type 0
-ValueStep form t c b r b′ = Step (value? form) (octetsOf form) (value form .parse) t c b r b′
+ValueStep syntax t c b r b′ = Step (value? syntax) (octetsOf syntax) (value syntax .parse) t c b r b′
 
 module _ {t : List ℕ} {c r s : Cursor} {b b′ : List ℕ} where
   pub octet-list : Passed (ascii "[") t c r → Step (all u8?) (each (λ (n : ℕ). n ∷ [])) numeralsParse t r b s b′
@@ -456,15 +456,16 @@ unfolding value value? octetsOf
 cookie-value q y = step-lit q y
 
 -- ---- a value by its option's code
-pub at-form : {form : Syntax} (code k : ℕ) {t : List ℕ} {c r : Cursor} {b b′ : List ℕ} → code ≡ k → syntaxOf k ≡ form
-    → ValueStep form t c b r b′ → ValueStep (syntaxOf code) t c b r b′
-at-form {form} code k {t} {c} {r} {b} {b′} e d y =
+pub at-syntax : {syntax : Syntax} (code k : ℕ) {t : List ℕ} {c r : Cursor} {b b′ : List ℕ} → code ≡ k
+    → syntaxOf k ≡ syntax
+    → ValueStep syntax t c b r b′ → ValueStep (syntaxOf code) t c b r b′
+at-syntax {syntax} code k {t} {c} {r} {b} {b′} e d y =
     subst (λ (f : Syntax). ValueStep f t c b r b′) (sym (ap syntaxOf e ∙ d)) y
 
-pub no-form : (code : ℕ) {t : List ℕ} {c r : Cursor} {b b′ : List ℕ} → syntaxOf code ≡ unlisted → Safe t c
+pub no-syntax : (code : ℕ) {t : List ℕ} {c r : Cursor} {b b′ : List ℕ} → syntaxOf code ≡ unlisted → Safe t c
     → FailedAt c (c .at) r → ValueStep (syntaxOf code) t c b r b′
 unfolding value
-no-form code {t} {c} {r} {b} {b′} e h s =
+no-syntax code {t} {c} {r} {b} {b′} e h s =
     subst (λ (f : Syntax). ValueStep f t c b r b′) (sym e) record {
       reads = reads-stop (go (c .grammatical)) (s .is) (s .at);
       moves = moves (went-keeps h s (omega arith) (h .inside));

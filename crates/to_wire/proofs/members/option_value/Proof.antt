@@ -3,7 +3,7 @@ use borrow.Author.Needs.{needs}
 use Rattle.octets.specs.Lists.{lookup}
 use Rattle.options.specs.Options.{rows, syntaxOf}
 use Rattle.options.specs.Shapes.{no-row}
-use Rattle.to_wire.specs.Values.{at-form, no-form, word-value}
+use Rattle.to_wire.specs.Values.{at-syntax, no-syntax, word-value}
 use Rattle.to_wire.proofs.members.option_value.Statement.{statement}
 use Rattle.to_wire.proofs.members.option_value.Tie as tie
 
@@ -45,74 +45,74 @@ same-length c = search needs
 
 returns : tie.Need-returns
 unfolding lookup rows syntaxOf
-returns c = search (at-form, needs)
+returns c = search (at-syntax, needs)
 
 same-length-2 : tie.Need-same-length-2
 same-length-2 c = search needs
 
 returns-2 : tie.Need-returns-2
 unfolding lookup rows syntaxOf
-returns-2 c = search (at-form, needs)
+returns-2 c = search (at-syntax, needs)
 
 same-length-3 : tie.Need-same-length-3
 same-length-3 c = search needs
 
 returns-3 : tie.Need-returns-3
 unfolding lookup rows syntaxOf
-returns-3 c = search (at-form, needs)
+returns-3 c = search (at-syntax, needs)
 
 same-length-4 : tie.Need-same-length-4
 same-length-4 c = search needs
 
 returns-4 : tie.Need-returns-4
 unfolding lookup rows syntaxOf
-returns-4 c = search (at-form, needs)
+returns-4 c = search (at-syntax, needs)
 
 same-length-5 : tie.Need-same-length-5
 same-length-5 c = search needs
 
 returns-5 : tie.Need-returns-5
 unfolding lookup rows syntaxOf
-returns-5 c = search (at-form, needs)
+returns-5 c = search (at-syntax, needs)
 
 same-length-6 : tie.Need-same-length-6
 same-length-6 c = search needs
 
 returns-6 : tie.Need-returns-6
 unfolding lookup rows syntaxOf
-returns-6 c = search (at-form, needs)
+returns-6 c = search (at-syntax, needs)
 
 same-length-7 : tie.Need-same-length-7
 same-length-7 c = search needs
 
 returns-7 : tie.Need-returns-7
 unfolding lookup rows syntaxOf
-returns-7 c = search (at-form, word-value, needs)
+returns-7 c = search (at-syntax, word-value, needs)
 
 same-length-8 : tie.Need-same-length-8
 same-length-8 c = search needs
 
 returns-8 : tie.Need-returns-8
 unfolding lookup rows syntaxOf
-returns-8 c = search (at-form, needs)
+returns-8 c = search (at-syntax, needs)
 
 same-length-9 : tie.Need-same-length-9
 same-length-9 c = search needs
 
 returns-9 : tie.Need-returns-9
 unfolding lookup rows syntaxOf
-returns-9 c = search (at-form, needs)
+returns-9 c = search (at-syntax, needs)
 
 same-length-10 : tie.Need-same-length-10
 same-length-10 c = search needs
 
 returns-10 : tie.Need-returns-10
 unfolding lookup rows syntaxOf
-returns-10 c = search (at-form, needs)
+returns-10 c = search (at-syntax, needs)
 
 returns-11 : tie.Need-returns-11
 unfolding rows
-returns-11 c = no-form (c .before .before .before .before .args .code) (no-row _ (c .before .match .rest))
+returns-11 c = no-syntax (c .before .before .before .before .args .code) (no-row _ (c .before .match .rest))
     (search needs) (c .fail-at .ensures)
 
 pub option-value-spec : {M : Type 1} → statement M
