@@ -1,5 +1,6 @@
--- The line programs: the lines of an input, and what each octet of it does.
+-- The line programs: the lines of an input, and what a call does with a piece of it.
 pub mod Lines
 pub mod Reading
 pub mod Programs
-pub mod Steps
+pub mod Pieces
+pub mod Runs

@@ -84,7 +84,7 @@ module _ (cap : ℕ) where
           take-append-le cap (take cap l) m (omega arith) ∙ take-take cap cap l (omega arith)
           ∙ sym (take-append-le cap l m (omega arith))
 
-  pub kept-after : (line : List ℕ) (c : ℕ) → take cap (lineAfter (take cap line) c) ≡ take cap (lineAfter line c)
+  kept-after : (line : List ℕ) (c : ℕ) → take cap (lineAfter (take cap line) c) ≡ take cap (lineAfter line c)
   unfolding lineAfter
   kept-after line c = go (eqb c 10)
     where
@@ -93,37 +93,37 @@ module _ (cap : ℕ) where
       go false = kept-append line (c ∷ [])
 
   -- two lines that begin alike go on alike
+  alike-after : (l m : List ℕ) (c : ℕ) → take cap l ≡ take cap m → take cap (lineAfter l c) ≡ take cap (lineAfter m c)
+  alike-after l m c e = sym (kept-after l c) ∙ rw e (kept-after m c)
+
   pub kept-alike : (l m s : List ℕ) → take cap l ≡ take cap m → take cap (soFar l s) ≡ take cap (soFar m s)
   unfolding soFar
   kept-alike l m [] e = e
-  kept-alike l m (c ∷ s) e = kept-alike (lineAfter l c) (lineAfter m c) s (sym (kept-after l c) ∙ rw e (kept-after m c))
+  kept-alike l m (c ∷ s) e = kept-alike (lineAfter l c) (lineAfter m c) s (alike-after l m c e)
 
--- what is printed if no more than that is kept of a line
-unfoldable pub keptOutput : ℕ → (List ℕ → List ℕ) → List ℕ → List ℕ → List ℕ
-keptOutput cap answer line [] = printedLast answer line
-keptOutput cap answer line (c ∷ s) = printedAt answer line c ++ keptOutput cap answer (take cap (lineAfter line c)) s
+  -- and print alike, if the answer to a line depends on no more than that
+  module _ (answer : List ℕ → List ℕ) (same : (line : List ℕ) → answer (take cap line) ≡ answer line) where
+    alike-printed : (l m : List ℕ) → take cap l ≡ take cap m → printed answer l ≡ printed answer m
+    unfolding printed
+    alike-printed l m e = let q : answer l ≡ answer m = sym (same l) ∙ rw e (same m) in rw q
 
--- it is what is to be printed, if the answer to a line depends on no more than that
-module _ (cap : ℕ) (answer : List ℕ → List ℕ) (same : (line : List ℕ)
-    → answer (take cap line) ≡ answer line) (some : 0 < cap) where
-  kept-last : (line : List ℕ) → printedLast answer (take cap line) ≡ printedLast answer line
-  unfolding printedLast printed
-  kept-last [] = rw (take-nil cap)
-  kept-last (x ∷ l) = go cap refl some
-    where
-      go : (n : ℕ) → cap ≡ n → 0 < n → printedLast answer (take cap (x ∷ l)) ≡ printedLast answer (x ∷ l)
-      go zero e h = absurd (omega arith)
-      go (suc n) e h =
-          let q : answer (x ∷ take n l) ≡ answer (x ∷ l) = rw e at (same (x ∷ l)) in
-          rw (e, q)
+    alike-at : (l m : List ℕ) (c : ℕ) → take cap l ≡ take cap m → printedAt answer l c ≡ printedAt answer m c
+    unfolding printedAt
+    alike-at l m c e = rw (alike-printed l m e)
 
-  kept-from : (line s : List ℕ)
-      → keptOutput cap answer (take cap line) s ≡ printedOver answer line s ++ printedLast answer (soFar line s)
-  unfolding keptOutput printedOver printedAt printed soFar
-  kept-from line [] = kept-last line
-  kept-from line (c ∷ s) = rw (same line, kept-after cap line c, kept-from (lineAfter line c) s, append-assoc)
+    pub printed-alike : (l m s : List ℕ) → take cap l ≡ take cap m → printedOver answer l s ≡ printedOver answer m s
+    unfolding printedOver
+    printed-alike l m [] e = refl
+    printed-alike l m (c ∷ s) e =
+        rw (alike-at l m c e, printed-alike (lineAfter l c) (lineAfter m c) s (alike-after l m c e))
 
-  pub kept-output : (input : List ℕ) → keptOutput cap answer [] input ≡ programOutput answer input
-  kept-output input =
-      let e : take cap [] ≡ [] = take-nil {A = ℕ} cap in
-      (rw e at (kept-from [] input)) ∙ sym (output-steps answer input)
+    pub kept-last : 0 < cap → (line : List ℕ) → printedLast answer (take cap line) ≡ printedLast answer line
+    unfolding printedLast printed
+    kept-last some [] = rw (take-nil cap)
+    kept-last some (x ∷ l) = go cap refl some
+      where
+        go : (n : ℕ) → cap ≡ n → 0 < n → printedLast answer (take cap (x ∷ l)) ≡ printedLast answer (x ∷ l)
+        go zero e h = absurd (omega arith)
+        go (suc n) e h =
+            let q : answer (x ∷ take n l) ≡ answer (x ∷ l) = rw e at (same (x ∷ l)) in
+            rw (e, q)

@@ -1,6 +1,6 @@
 -- `lines::answer_line` meets its contract, program by program.
 use borrow.Author.Needs.{needs}
-use Rattle.lines.specs.Programs.{answered, left}
+use Rattle.lines.specs.Programs.{answered}
 use Rattle.lines.specs.declared.Program.the-variants.{ToText, ToWire}
 use Rattle.lines.proofs.answer_line.Statement.{statement}
 use Rattle.lines.proofs.answer_line.Tie as tie
@@ -28,7 +28,7 @@ returns c =
     let call = c .before .before .before .before in
     let told = call .before .before .before .enum-told .given .1 in
     let answer = call .text-line .ensures in
-    (answered ToText told _ (answer .0), (search needs, left ToText told _ _ (answer .1 .1)))
+    (answered ToText told _ (answer .0), search needs)
 
 same-length-3 : tie.Need-same-length-3
 same-length-3 c = search needs
@@ -41,7 +41,7 @@ returns-2 c =
     let call = c .before .before .before .before in
     let told = call .before .before .before .enum-told2 .given .1 in
     let answer = call .wire-line .ensures in
-    (answered ToWire told _ (answer .0), (search needs, left ToWire told _ _ (answer .1 .1)))
+    (answered ToWire told _ (answer .0), search needs)
 
 pub answer-line-spec : {M : Type 1} → statement M
 answer-line-spec =

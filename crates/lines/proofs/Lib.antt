@@ -1,0 +1,3 @@
+-- Laws that no definition needs.
+pub mod Taking
+pub mod Keeping
