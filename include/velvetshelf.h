@@ -1,15 +1,18 @@
-/* Velvetshelf: one DNS message to one JSON text, and back. What the two functions promise is proved; see
-   docs/CLAIMS.md.
+/* Velvetshelf: one DNS message to one JSON text, and back. The format is described in docs/FORMAT.md. What the two
+   conversions promise is proved; see docs/CLAIMS.md.
 
-   Both take an input, a buffer lent for the call, and the address of a number.
+   Both take an input, the caller's buffer for the output, and the address of a number.
    - On success they return 0, `*value` is the length of the output, the output is at the start of the buffer, and
      every octet of the buffer after it is as it was. Outputs are not ended by a zero octet.
    - On a refusal they return its number, `*value` is its place, and every octet of the buffer is as it was.
-   The answer and the octets written depend on the input and the buffer's length alone, not on what the buffer held.
+   The answer and the octets written depend on the input and the buffer's length alone, not on the buffer's contents.
 
-   The caller owns everything. A pointer must be valid for its length for the time of the call, and not null even
-   where the length is 0; input, buffer and number must not overlap. Nothing is allocated, no state is kept, nothing
-   outside the input is read: calls from several threads are safe if their buffers and numbers are different. */
+   The caller owns everything. A pointer must be valid for its length until the call returns, and not null even where
+   the length is 0; input, buffer and number must not overlap. Nothing is allocated, no state is kept, nothing outside
+   the input is read: calls from several threads are safe if their buffers and numbers are different.
+
+   The library is for x86-64 with the calling convention of Linux. It needs nothing from the C library but memcpy, and
+   a call needs at most VELVETSHELF_STACK octets of stack. */
 
 #ifndef VELVETSHELF_H
 #define VELVETSHELF_H
@@ -20,6 +23,13 @@
 #ifdef __cplusplus
 extern "C" {
 #endif
+
+/* The library's version, as words and as major * 10000 + minor * 100 + patch. */
+#define VELVETSHELF_VERSION "1.0.0"
+#define VELVETSHELF_VERSION_NUMBER 10000
+
+/* The format's version. It counts up with every change of a text, or of a refusal's number or place. */
+#define VELVETSHELF_FORMAT 1
 
 /* What is returned. */
 enum {
@@ -44,10 +54,15 @@ enum {
     VELVETSHELF_MESSAGE_BUFFER = 23     /* message longer than the buffer */
 };
 
-/* A buffer of LONGEST_TEXT octets holds the text of every message that is accepted, one of LONGEST_MESSAGE octets the
-   message of every text. */
+/* A buffer of LONGEST_TEXT octets has room for the text of every accepted message: it is an upper bound, and no text
+   need have that length. A buffer of LONGEST_MESSAGE octets has room for the message of every accepted text. */
 #define VELVETSHELF_LONGEST_TEXT 655750
 #define VELVETSHELF_LONGEST_MESSAGE 65535
+
+/* No call uses more octets of stack than this: an upper bound, checked for each release by adding up the frames of the
+   compiled functions. What memcpy uses is not in it, nor what a dynamic linker uses that binds memcpy at its first call
+   (the shared library binds it when it is loaded). */
+#define VELVETSHELF_STACK 8192
 
 /* Writes the profile text of a message. */
 uint32_t velvetshelf_to_text(const uint8_t *message, size_t message_length, uint8_t *text, size_t text_length,
@@ -56,6 +71,49 @@ uint32_t velvetshelf_to_text(const uint8_t *message, size_t message_length, uint
 /* Writes the message of a profile text, its names uncompressed. */
 uint32_t velvetshelf_to_wire(const uint8_t *text, size_t text_length, uint8_t *message, size_t message_length,
                              uint64_t *value);
+
+/* VELVETSHELF_VERSION_NUMBER and VELVETSHELF_FORMAT of the library that the program runs with. */
+uint32_t velvetshelf_version(void);
+uint32_t velvetshelf_format(void);
+
+/* What a number that was returned says, in words; null for a number that is never returned. */
+static inline const char *velvetshelf_reason(uint32_t number)
+{
+    switch (number) {
+    case VELVETSHELF_SUCCESS:
+        return "success";
+    case VELVETSHELF_CUT:
+        return "the message ends too early";
+    case VELVETSHELF_MESSAGE_TOO_LONG:
+        return "the message has more than 65,535 octets";
+    case VELVETSHELF_Z_SET:
+        return "the header's Z bit is set";
+    case VELVETSHELF_LENGTH_OCTET:
+        return "a length octet has the top bits 01 or 10";
+    case VELVETSHELF_POINTER:
+        return "a compression pointer goes forward, into the header, or to its own run of labels";
+    case VELVETSHELF_NAME_TOO_LONG:
+        return "a name has more than 255 octets uncompressed";
+    case VELVETSHELF_RDATA_LAYOUT:
+        return "RDATA does not fit the layout of its TYPE";
+    case VELVETSHELF_TRAILING:
+        return "octets follow the last record";
+    case VELVETSHELF_FORM_TOO_LONG:
+        return "the message has more than 65,535 octets with its names uncompressed";
+    case VELVETSHELF_TEXT_BUFFER:
+        return "the text is longer than the buffer";
+    case VELVETSHELF_GRAMMAR:
+        return "the text is not within the grammar";
+    case VELVETSHELF_MEANING:
+        return "no message has this text";
+    case VELVETSHELF_SIZE:
+        return "RDATA, an option's value or the message would have more than 65,535 octets";
+    case VELVETSHELF_MESSAGE_BUFFER:
+        return "the message is longer than the buffer";
+    default:
+        return NULL;
+    }
+}
 
 #ifdef __cplusplus
 }

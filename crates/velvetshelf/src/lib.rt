@@ -1,4 +1,4 @@
-// The two conversions as functions for programs in C.
+// The two conversions as functions for programs in C, and the versions of the library and of the format.
 use octets::Outcome;
 use to_text::convert;
 use to_wire::read;
@@ -60,4 +60,20 @@ pub extern "C" fn velvetshelf_to_wire(text: &[u8], message: &mut [u8], value: &m
     let outcome = read(text, message);
     *value = value_of(outcome);
     number_of(outcome)
+}
+
+// VELVETSHELF_VERSION_NUMBER of the header: major * 10000 + minor * 100 + patch.
+#[no_mangle]
+pub extern "C" fn velvetshelf_version() -> u32
+    ensures { λ r. ⌜ r ≡ 10000 ⌝ }
+{
+    10000
+}
+
+// VELVETSHELF_FORMAT of the header.
+#[no_mangle]
+pub extern "C" fn velvetshelf_format() -> u32
+    ensures { λ r. ⌜ r ≡ 1 ⌝ }
+{
+    1
 }
