@@ -1,90 +1,104 @@
-/* collector: messages from standard input, each with the two-octet length of DNS over TCP before it, as texts, one per
-   line.
-   collector -r: texts from standard input, one per line, as messages with their lengths.
+/* collector: reads DNS messages from standard input, each after its length in two octets as in DNS over TCP, and writes
+   the text of each on a line of its own, or `refused N at P`.
+   collector -r: reads texts, one per line, and writes their messages, each after its length. Refusals go to standard
+   error, each with the number of its line and the reason.
 
-   One pool buffer takes every message, and is never cleared: what a message does not fill still holds octets of earlier
-   ones. A refusal is printed as `refused N at P`; with -r, to standard error. */
+   Exit status: 0 if standard output has an answer to all of the input; 1 if not: a read or a write failed, the last
+   message is cut, or, with -r, a text was refused; 2 for wrong arguments.
+
+   The buffers are never cleared: what a message or a text does not fill still holds octets of earlier ones. */
 
 #include "velvetshelf.h"
 
 #include <stdio.h>
 #include <string.h>
 
-static uint8_t pool[VELVETSHELF_LONGEST_MESSAGE];
-static uint8_t text[VELVETSHELF_LONGEST_TEXT + 1];
+static uint8_t frame[2 + VELVETSHELF_LONGEST_MESSAGE];  /* a message after its length */
+static uint8_t line[VELVETSHELF_LONGEST_TEXT + 1];      /* a text with its newline */
 
-static void refuse(FILE *out, uint32_t number, uint64_t place)
+/* Whether all output so far was written. Called before each read, so that every answer is out while the next message is
+   awaited. That is one write for each answer: where the input is a file, the flush can go. */
+static int sent(void)
 {
-    fprintf(out, "refused %u at %llu\n", (unsigned)number, (unsigned long long)place);
-}
-
-/* The two octets before a message: its length, or -1 at the end of the input. */
-static long next_length(void)
-{
-    int high = getchar();
-    int low = getchar();
-    if (high == EOF || low == EOF)
-        return -1;
-    return high * 256L + low;
+    return fflush(stdout) == 0 && !ferror(stdout);
 }
 
 static int to_text(void)
 {
-    long length;
-    while ((length = next_length()) >= 0) {
+    size_t got;
+    while (sent() && (got = fread(frame, 1, 2, stdin)) != 0) {
+        size_t length = frame[0] * (size_t)256 + frame[1];
         uint64_t value;
         uint32_t number;
-        if (fread(pool, 1, (size_t)length, stdin) != (size_t)length) {
-            fputs("collector: the last message is cut\n", stderr);
+        if (got != 2 || fread(frame + 2, 1, length, stdin) != length) {
+            if (!ferror(stdin))
+                fputs("collector: the last message is cut\n", stderr);
             return 1;
         }
-        number = velvetshelf_to_text(pool, (size_t)length, text, sizeof text, &value);
-        if (number != VELVETSHELF_SUCCESS) {
-            refuse(stdout, number, value);
-            continue;
+        number = velvetshelf_to_text(frame + 2, length, line, sizeof line - 1, &value);
+        if (number == VELVETSHELF_SUCCESS) {
+            line[value] = '\n';
+            fwrite(line, 1, (size_t)value + 1, stdout);
+        } else {
+            printf("refused %u at %llu\n", (unsigned)number, (unsigned long long)value);
         }
-        fwrite(text, 1, (size_t)value, stdout);
-        putchar('\n');
     }
     return 0;
 }
 
-/* The next line of standard input in `text`, without its end: its length, or -1 at the end of the input. A line that is
-   longer than every text is cut to one octet more than the longest, and so refused. */
+/* Reads the next line without its newline: its length, or -1 where there is none. A line that is longer than every text
+   is cut to one octet more than the longest, and so refused. */
 static long next_line(void)
 {
     long length = 0;
     int c;
     while ((c = getchar()) != EOF && c != '\n') {
-        if ((size_t)length < sizeof text)
-            text[length++] = (uint8_t)c;
+        if ((size_t)length < sizeof line)
+            line[length++] = (uint8_t)c;
     }
-    return c == EOF && length == 0 ? -1 : length;
+    return c == EOF && (length == 0 || ferror(stdin)) ? -1 : length;
 }
 
 static int to_wire(void)
 {
+    int status = 0;
+    unsigned long count = 0;
     long length;
-    while ((length = next_line()) >= 0) {
+    while (sent() && (length = next_line()) >= 0) {
         uint64_t value;
-        uint32_t number = velvetshelf_to_wire(text, (size_t)length, pool, sizeof pool, &value);
-        if (number != VELVETSHELF_SUCCESS) {
-            refuse(stderr, number, value);
-            continue;
+        uint32_t number = velvetshelf_to_wire(line, (size_t)length, frame + 2, sizeof frame - 2, &value);
+        count++;
+        if (number == VELVETSHELF_SUCCESS) {
+            frame[0] = (uint8_t)(value / 256);
+            frame[1] = (uint8_t)(value % 256);
+            fwrite(frame, 1, (size_t)value + 2, stdout);
+        } else {
+            fprintf(stderr, "line %lu: refused %u at %llu: %s\n", count, (unsigned)number, (unsigned long long)value,
+                    velvetshelf_reason(number));
+            status = 1;
         }
-        putchar((int)(value / 256));
-        putchar((int)(value % 256));
-        fwrite(pool, 1, (size_t)value, stdout);
     }
-    return 0;
+    return status;
 }
 
 int main(int argc, char **argv)
 {
-    if (argc == 1)
-        return to_text();
-    if (argc == 2 && strcmp(argv[1], "-r") == 0)
-        return to_wire();
-    fputs("usage: collector [-r]\n", stderr);
-    return 2;
+    int status;
+    if (argc == 1) {
+        status = to_text();
+    } else if (argc == 2 && strcmp(argv[1], "-r") == 0) {
+        status = to_wire();
+    } else {
+        fputs("usage: collector [-r]\n", stderr);
+        return 2;
+    }
+    if (ferror(stdin)) {
+        perror("collector: read failed");
+        status = 1;
+    }
+    if (ferror(stdout) || fclose(stdout) != 0) {
+        perror("collector: write failed");
+        status = 1;
+    }
+    return status;
 }

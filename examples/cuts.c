@@ -41,10 +41,10 @@ int main(void)
         if (memcmp(clean, dirty, written) != 0)
             return fail(length, "the texts differ");
         if (memcmp(dirty + written, before + written, ROOM - written) != 0)
-            return fail(length, "octets behind the text changed");
+            return fail(length, "octets after the text changed");
         for (size_t i = written; i < ROOM; i++)
             if (clean[i] != 0)
-                return fail(length, "octets behind the text changed on clean memory");
+                return fail(length, "octets after the text changed on clean memory");
         if (number == VELVETSHELF_SUCCESS)
             accepted++;
         else
