@@ -73,8 +73,9 @@ static int to_wire(void)
             frame[1] = (uint8_t)(value % 256);
             fwrite(frame, 1, (size_t)value + 2, stdout);
         } else {
+            const char *reason = velvetshelf_reason(number);
             fprintf(stderr, "line %lu: refused %u at %llu: %s\n", count, (unsigned)number, (unsigned long long)value,
-                    velvetshelf_reason(number));
+                    reason ? reason : "a reason of a later library");
             status = 1;
         }
     }
