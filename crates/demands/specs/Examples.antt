@@ -1,4 +1,4 @@
--- The marked examples of document 01, one row each, and one theorem over the table.
+-- The short examples of docs/FORMAT.md, one row each, and one theorem over the table.
 use mathlib.Core.Path.{_≡_, refl}
 use mathlib.Core.List.{List, [], _∷_, map}
 use Prim.Native.String.{String}

@@ -91,7 +91,7 @@ pub lists : (l m : List Call) → All Converts l → All Converts m → All Room
     → (stream l ≡ stream m) ↔ (formsOf l ≡ formsOf m)
 lists = converter.lists
 
--- Every octet written lies in 0x20 to 0x7E. The marked examples of document 01, computed.
+-- Every octet written lies in 0x20 to 0x7E. The short examples of docs/FORMAT.md, computed.
 pub visible : (c : Call) → Converts c → (n : ℕ) → reply c ≡ success n → All (λ x. (32 ≤ x) × (x ≤ 126)) (writtenBy c)
 visible = converter.visible
 

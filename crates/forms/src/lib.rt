@@ -212,7 +212,7 @@ fn refuse(number: u32, place: usize) -> Scan
     }
 }
 
-// Document 01's number of a fault.
+// The format's number of a fault.
 fn number_of(fault: Fault) -> u32
     ensures { λ r. ⌜ r ≡ faultNumber fault ⌝ }
 {

@@ -1,4 +1,4 @@
--- A line in hexadecimal, in the words of document 01, and what `unhex` promises.
+-- A line in hexadecimal, in the words of docs/FORMAT.md, and what `unhex` promises.
 use mathlib.Core.Path.{_≡_}
 use mathlib.Core.Bool.{Bool, cond, _&&_}
 use mathlib.Core.Option.{Option, none, some}

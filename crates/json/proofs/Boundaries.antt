@@ -1,4 +1,4 @@
--- EDNS records at the limits of document 01's rules, one row each, and one theorem over the table.
+-- EDNS records at the limits of the format's rules, one row each, and one theorem over the table.
 use mathlib.Core.Path.{_≡_, refl}
 use mathlib.Core.Bool.{Bool, true, false}
 use mathlib.Core.List.{List, [], _∷_, _++_, map}

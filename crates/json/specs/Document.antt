@@ -1,4 +1,4 @@
--- What a text in the grammar of document 01 holds: numbers of any size, labels of any length, options in any order and
+-- What a text in the grammar of docs/FORMAT.md holds: numbers of any size, labels of any length, options in any order and
 -- number.
 -- Which of these documents can be spelled is said by strict/specs/Grammar.antt.
 use mathlib.Core.List.{List, _++_}

@@ -12,7 +12,7 @@ unfoldable pub small-options? : Additional → Bool
 small-options? (ordinary r) = true
 small-options? (edns e) = all small-option? (e .options)
 
--- document 01's three limits; RDATA and values are parts of the message, so the last implies the others
+-- the format's three limits; RDATA and values are parts of the message, so the last implies the others
 unfoldable pub within? : View → Bool
 within? v =
     let m = messageOf v in

@@ -1,4 +1,4 @@
--- The answer of each line program to a line, in the words of document 01.
+-- The answer of each line program to a line, in the words of docs/FORMAT.md.
 use mathlib.Core.Bool.{cond}
 use mathlib.Core.Option.{Option, none, some}
 use mathlib.Core.List.{List, [], _∷_, _++_}

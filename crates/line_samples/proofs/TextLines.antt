@@ -22,7 +22,7 @@ use Rattle.hex_lines.specs.Hex.{hexValue, unhexed}
 use Rattle.line_answers.specs.Answers.{refusalLine, answerText, withinLine, textLine, printed}
 use Rattle.lines.specs.Lines.{linesFrom, linesOf, programOutput}
 
--- document 01's line
+-- the line of docs/FORMAT.md
 pub message-line : textLine (ascii "1A2B01000001000000000000016101620000010001")
     ≡ ascii "{\"ID\":6699,\"QR\":0,\"Opcode\":0,\"AA\":0,\"TC\":0,\"RD\":1,\"RA\":0,\"AD\":0,\"CD\":0,\"RCODE\":0,\"QDCOUNT\":1,\"ANCOUNT\":0,\"NSCOUNT\":0,\"ARCOUNT\":0,\"questionRRs\":[{\"NAME\":\"a.b.\",\"TYPE\":1,\"CLASS\":1}],\"answerRRs\":[],\"authorityRRs\":[],\"additionalRRs\":[]}"
 unfolding hexValue unhexed refusalLine answerText withinLine textLine lookup key? rowText decimal hexText nameForm walk nameFrom layouts layoutOf pieces rdataAt questionForm recordForm each headerForm form firstCut questionAt recordAt sectionAt sectionFrom headerOf sectionsOf messageRead decode plain? spelled labelText nameText ednsOf additionalOf viewOf questionText recordText itemText headText documentText documentOf viewText text converted

@@ -37,7 +37,7 @@ pub record Sample : Type 0 where
 
 unfoldable pub samples : List Sample
 samples =
-    -- document 01's text
+    -- the text of docs/FORMAT.md
     record {
       line = ascii "{\"ID\":6699,\"QR\":0,\"Opcode\":0,\"AA\":0,\"TC\":0,\"RD\":1,\"RA\":0,\"AD\":0,\"CD\":0,\"RCODE\":0,\"QDCOUNT\":1,\"ANCOUNT\":0,\"NSCOUNT\":0,\"ARCOUNT\":0,\"questionRRs\":[{\"NAME\":\"a.b.\",\"TYPE\":1,\"CLASS\":1}],\"answerRRs\":[],\"authorityRRs\":[],\"additionalRRs\":[]}";
       answer = ascii "1A2B01000001000000000000016101620000010001";

@@ -1,4 +1,4 @@
--- The lines of an input and what a program prints for them, in the words of document 01.
+-- The lines of an input and what a program prints for them, in the words of docs/FORMAT.md.
 use mathlib.Core.Bool.{cond}
 use mathlib.Core.List.{List, [], _∷_, _++_}
 use Prim.Native.Nat.{ℕ}

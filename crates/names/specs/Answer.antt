@@ -35,7 +35,7 @@ faultOf fault = faultCode (fault .kind) (fault .octet)
 abbrev pub pastOf : Limit → ℕ → Fault
 pastOf limit at = faultOf (past (limitOf limit) at)
 
--- the kind of the code's fault, document 01's number for it, and the octet at fault
+-- the kind of the code's fault, the format's number for it, and the octet at fault
 abbrev pub kindOf : Fault → Kind
 kindOf (Cut octet) = cut
 kindOf (Reserved octet) = reserved

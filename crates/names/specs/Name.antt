@@ -37,7 +37,7 @@ pub data Kind : Type 0 where
   -- octets of RDATA are left over after its layout
   surplus : Kind
 
--- document 01's number for each
+-- the format's number for each
 abbrev pub refusalNumber : Kind → ℕ
 refusalNumber cut = 1
 refusalNumber reserved = 4

@@ -11,7 +11,7 @@ use Rattle.octets.specs.Overlay.{Wrote, overlay-first}
 use Rattle.octets.specs.declared.Outcome.{Outcome}
 use Rattle.octets.specs.declared.Outcome.the-variants.{Length, Refused}
 
--- document 01's answer: success with the length, or the refusal's number and place
+-- the answer: success with the length, or the refusal's number and place
 abbrev pub answerOf : Outcome → Answer
 answerOf (Length n) = success n
 answerOf (Refused number place) = refusal number place
@@ -28,7 +28,7 @@ pub record Call : Type 0 where
   pub answer : Outcome
   pub after : List ℕ
 
--- what the call answered, in document 01's number and values, and left in its buffer
+-- what the call answered, in the format's number and values, and left in its buffer
 abbrev pub resultOf : Call → Result
 resultOf c = record { answer = answerOf (c .answer); buffer = c .after }
 

@@ -1,4 +1,4 @@
--- EDNS options: the table of document 01, the shapes of their values, and their members.
+-- EDNS options: the table of docs/FORMAT.md, the shapes of their values, and their members.
 use mathlib.Core.Bool.{Bool, true, false, _&&_, cond}
 use mathlib.Core.Option.{Option, none, some}
 use mathlib.Core.List.{List, [], _∷_, _++_, map}

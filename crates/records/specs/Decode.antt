@@ -1,4 +1,4 @@
--- The reading of a whole message: what it holds, or document 01's refusal.
+-- The reading of a whole message: what it holds, or its refusal.
 use mathlib.Core.Bool.{cond}
 use mathlib.Core.List.{List}
 use Prim.Native.Nat.{ℕ, _/_, _%_}

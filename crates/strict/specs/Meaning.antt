@@ -73,7 +73,7 @@ unfoldable pub agrees? : Document → Bool
 agrees? d = counts? d && all recordItem? (d .answers) && all recordItem? (d .authority)
     && all (item? (d .header .rcode)) (d .additional)
 
--- The meaning, whose absence is refusal 21. Its clauses, by document 01's list:
+-- The meaning, whose absence is refusal 21. Its clauses, by the list of docs/FORMAT.md:
 -- a number out of range: header?, word?, octet?, long?, ttl?, value?, member?, and counts over 65,535: section?;
 -- label over 63, name over 255: name?; counts that differ from the arrays: counts?;
 -- RDATA that misses its layout or has a pointer in it: fits?;

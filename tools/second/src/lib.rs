@@ -1,5 +1,5 @@
 //! A converter between DNS messages and their JSON profile, written from the
-//! profile's paper (document 01) and the RFCs it names, with nothing but the
+//! profile's paper and the RFCs it names, with nothing but the
 //! standard library. It makes test inputs and says what the answers must be.
 //!
 //! The way from a message to its text has two steps. `wire` reads the message

@@ -1,4 +1,4 @@
-//! The worked and the marked examples of document 01, and answers that its
+//! The worked and the marked examples of the profile's paper, and answers that its
 //! rules decide, written down by hand.
 
 use second::lines::{hex_of_octets, octets_of_hex};

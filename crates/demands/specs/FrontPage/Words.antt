@@ -29,7 +29,7 @@ pub use Rattle.json.specs.Converted.{converted, Converts}
 pub use Rattle.strict.specs.Reading.{Reads}
 pub use Rattle.velvetshelf.specs.Calls.{outcomeOf}
 
--- what the call answered, in document 01's numbers and values
+-- what the call answered, in the format's numbers and values
 abbrev pub reply : Call → Answer
 reply c = answerOf (c .answer)
 
