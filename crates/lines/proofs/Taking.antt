@@ -184,15 +184,15 @@ module _ (end long room : ℕ) where
   end-room h = rw (lt-leb long end h)
 
   module _ {waits : Bool} (w : waits ≡ (leb long end || ltb room answerRoom)) (f : waits ≡ false) where
-    pub within : end < long
-    within = go (leb long end) refl (sym w ∙ f)
+    pub ends-inside : end < long
+    ends-inside = go (leb long end) refl (sym w ∙ f)
       where
         go : (t : Bool) → leb long end ≡ t → (t || ltb room answerRoom) ≡ false → end < long
         go true q p = absurd (true≢false p)
         go false q p = leb-false long end q
 
-    pub room-enough : answerRoom ≤ room
-    room-enough = go (leb long end) (sym w ∙ f)
+    pub room-left : answerRoom ≤ room
+    room-left = go (leb long end) (sym w ∙ f)
       where
         go : (t : Bool) → (t || ltb room answerRoom) ≡ false → answerRoom ≤ room
         go true p = absurd (true≢false p)
@@ -275,8 +275,8 @@ module _ (program : Program) (start input out₀ : List ℕ) {line out : List �
       → Taking program start input out₀ []
       (take size out ++ (t ++ drop (size + answerRoom - size) (drop size out))) (end + 1) (size + r)
   taking-line f {t} {r} k a =
-      let before = within end (length input) (length out - size) w f in
-      let room = room-enough end (length input) (length out - size) w f in
+      let before = ends-inside end (length input) (length out - size) w f in
+      let room = room-left end (length input) (length out - size) w f in
       let rest = drop at input in
       let n = lineLength rest in
       let inside : n < length rest = omega (arith, e, length-drop at input) in

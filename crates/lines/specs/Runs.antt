@@ -38,11 +38,11 @@ Chained program line [] line′ = line ≡ line′
 Chained program line (c ∷ cs) line′ = (line ≡ c .line) × Meets program c × Chained program (c .line′) cs line′
 
 -- what they took and what they wrote, in order
-abbrev pub input : List PieceCall → List ℕ
-input = each (λ c. take (c .taken) (c .piece))
+abbrev pub inputOf : List PieceCall → List ℕ
+inputOf = each (λ c. take (c .taken) (c .piece))
 
-abbrev pub output : List PieceCall → List ℕ
-output = each (λ c. take (c .size) (c .out′))
+abbrev pub outputOf : List PieceCall → List ℕ
+outputOf = each (λ c. take (c .size) (c .out′))
 
 -- the end of the input: no call where no line is left, else one that ends the line
 abbrev pub Ended : Program → List ℕ → List PieceCall → Type 0
@@ -75,16 +75,16 @@ module _ (program : Program) (c : PieceCall) (m : Meets program c) where
 -- ---- what calls write
 module _ (program : Program) where
   written : (cs : List PieceCall) (before line line′ : List ℕ) → take mostKept before ≡ take mostKept line
-      → Chained program before cs line′ → output cs ≡ printedOver (answerTo program) line (input cs)
-      × (take mostKept line′ ≡ take mostKept (soFar line (input cs)))
+      → Chained program before cs line′ → outputOf cs ≡ printedOver (answerTo program) line (inputOf cs)
+      × (take mostKept line′ ≡ take mostKept (soFar line (inputOf cs)))
   unfolding each printedOver soFar
   written [] before line line′ k p = (refl, ap (take mostKept) (sym p) ∙ k)
   written (c ∷ cs) before line line′ k (e, m, p) =
       let s = take (c .taken) (c .piece) in
       let k′ : take mostKept (c .line) ≡ take mostKept line = ap (take mostKept) (sym e) ∙ k in
       let (w, l) = written cs (c .line′) (soFar line s) line′ (call-kept program c m line k′) p in (
-        rw (call-printed program c m line k′, w) (sym (printed-pieces (answerTo program) line s (input cs))),
-        l ∙ ap (take mostKept) (sym (so-far-pieces line s (input cs))),
+        rw (call-printed program c m line k′, w) (sym (printed-pieces (answerTo program) line s (inputOf cs))),
+        l ∙ ap (take mostKept) (sym (so-far-pieces line s (inputOf cs))),
       )
 
   -- a newline ends a line and is taken, given room
@@ -96,7 +96,7 @@ module _ (program : Program) where
       rw (t, e)
 
   last-written : (line : List ℕ) (last : List PieceCall) → Ended program line last
-      → output last ≡ printedLast (answerTo program) line
+      → outputOf last ≡ printedLast (answerTo program) line
   unfolding each printedLast printedOver printedAt
   last-written line [] e = rw e
   last-written line (c ∷ cs) (n, l, e, room, m, none) =
@@ -104,11 +104,11 @@ module _ (program : Program) where
 
   -- A run writes what the program is to print for the input that it took, whatever its pieces were and its buffers held.
   pub right-output : (cs last : List PieceCall) (line : List ℕ) → Chained program [] cs line → Ended program line last
-      → output cs ++ output last ≡ programOutput (answerTo program) (input cs)
+      → outputOf cs ++ outputOf last ≡ programOutput (answerTo program) (inputOf cs)
   right-output cs last line p e =
       let (w, l) = written cs [] [] line refl p in
       let q : (s : List ℕ) → printedLast (answerTo program) (take mostKept s) ≡ printedLast (answerTo program) s =
       kept-last mostKept (answerTo program) (answer-kept program) (omega arith) in
-      let z : output last ≡ printedLast (answerTo program) (soFar [] (input cs)) =
-      last-written line last e ∙ sym (q line) ∙ ap (printedLast (answerTo program)) l ∙ q (soFar [] (input cs)) in
-      rw (w, z) (sym (output-steps (answerTo program) (input cs)))
+      let z : outputOf last ≡ printedLast (answerTo program) (soFar [] (inputOf cs)) =
+      last-written line last e ∙ sym (q line) ∙ ap (printedLast (answerTo program)) l ∙ q (soFar [] (inputOf cs)) in
+      rw (w, z) (sym (output-steps (answerTo program) (inputOf cs)))

@@ -4,7 +4,7 @@ use Prim.Native.Nat.{_-_, _≤_}
 use mathlib.Core.Path.{_≡_}
 use lib.ListN.{length, take}
 use Rattle.lines.specs.Programs.{mostKept}
-use Rattle.lines.proofs.Taking.{Taking, taking-start, taking-line, taking-end, within, room-enough}
+use Rattle.lines.proofs.Taking.{Taking, taking-start, taking-line, taking-end, ends-inside, room-left}
 use Rattle.lines.proofs.answer_piece.Statement.{statement}
 use Rattle.lines.proofs.answer_piece.Tie as tie
 
@@ -84,7 +84,7 @@ part-answer-rest-end-2 c =
     let turn = test .before .before in
     let loop = turn .before .loop in
     let args = turn .before .before .before .before .before .args in
-    let room = room-enough (turn .line-end .result) (length (args .input .now)) (length (loop .out) - loop .size)
+    let room = room-left (turn .line-end .result) (length (args .input .now)) (length (loop .out) - loop .size)
     (test .before .waits .ensures) (test .if1 .left) in
     search needs
 
@@ -103,7 +103,7 @@ loop-less c =
     let turn = test .before .before in
     let loop = turn .before .loop in
     let args = turn .before .before .before .before .before .args in
-    let inside = within (turn .line-end .result) (length (args .input .now)) (length (loop .out) - loop .size)
+    let inside = ends-inside (turn .line-end .result) (length (args .input .now)) (length (loop .out) - loop .size)
     (test .before .waits .ensures) (test .if1 .left) in
     search needs
 
@@ -115,9 +115,9 @@ loop-again c =
     let loop = turn .before .loop in
     let args = turn .before .before .before .before .before .args in
     let ends = turn .line-end .ensures in
-    let inside = within (turn .line-end .result) (length (args .input .now)) (length (loop .out) - loop .size)
+    let inside = ends-inside (turn .line-end .result) (length (args .input .now)) (length (loop .out) - loop .size)
     (test .before .waits .ensures) (test .if1 .left) in
-    let room = room-enough (turn .line-end .result) (length (args .input .now)) (length (loop .out) - loop .size)
+    let room = room-left (turn .line-end .result) (length (args .input .now)) (length (loop .out) - loop .size)
     (test .before .waits .ensures) (test .if1 .left) in
     let answer = call .answer-rest .ensures in (
       search needs,
