@@ -1,16 +1,14 @@
 -- A run of a line program: calls that take its input piece by piece. Together they write what the program is to print.
 use mathlib.Core.Path.{_≡_, refl, sym, ap, _∙_}
-use mathlib.Core.Bool.{false, cond}
-use mathlib.Core.List.{List, [], _∷_, _++_, append-assoc, append-nil}
-use Prim.Native.Nat.{ℕ, suc, _≤_}
+use mathlib.Core.Bool.{false}
+use mathlib.Core.List.{List, [], _∷_, _++_, append-nil}
+use Prim.Native.Nat.{ℕ, _≤_}
 use native.Mathlib.Omega.{arith}
 use borrow.Author.Tests.{le-ltb}
-use lib.Dec.{ltb}
 use lib.ListN.{length, take, drop}
-use lib.Seq.{take-nil, take-take, take-append-seam}
+use lib.Seq.{take-take, take-append-seam}
 use Rattle.octets.specs.Lists.{none?, each}
 use Rattle.octets.specs.Overlay.{Wrote, overlay-first}
-use Rattle.line_answers.specs.Answers.{printed}
 use Rattle.lines.specs.Lines.{programOutput}
 use Rattle.lines.specs.Reading.{printedAt, soFar, printedOver, printedLast, output-steps, printed-pieces}
 use Rattle.lines.specs.Reading.{so-far-pieces, kept-alike, printed-alike, kept-last}
