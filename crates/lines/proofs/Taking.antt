@@ -162,7 +162,8 @@ module _ (input : List ℕ) (i : ℕ) {whole : ℕ} (p : Remains whole (i + line
       let z : lineLength (drop i input) ≡ 0 = rw (drop-cons input i 0 h) n in
       omega (arith, p .goes)
 
-  pub end-further : i < length input → (getD input i 0 ≡ 10 → ⊥) → Remains whole (i + 1 + lineLength (drop (i + 1) input))
+  pub end-further : i < length input → (getD input i 0 ≡ 10 → ⊥)
+      → Remains whole (i + 1 + lineLength (drop (i + 1) input))
   end-further h e =
       let n = other-length (getD input i 0) (drop (suc i) input) (ne-eqb _ 10 e) in
       let z : lineLength (drop i input) ≡ suc (lineLength (drop (i + 1) input)) =
@@ -260,7 +261,12 @@ module _ (program : Program) (start input out₀ : List ℕ) {line out : List �
   after-end : (k : ℕ) → soFar start (take (end + k) input)
       ≡ soFar line (take (lineLength (drop at input) + k) (drop at input))
   after-end k =
-      rw (to-end k, so-far-pieces start (take at input) (take (lineLength (drop at input) + k) (drop at input)), p .kept)
+      rw (
+        to-end k,
+        so-far-pieces start (take at input)
+            (take (lineLength (drop at input) + k) (drop at input)),
+        p .kept,
+      )
 
   ahead : end - at ≡ lineLength (drop at input)
   ahead = omega (arith, e)
@@ -286,8 +292,8 @@ module _ (program : Program) (start input out₀ : List ℕ) {line out : List �
       let o : at + suc n ≡ end + 1 = omega (arith, e) in
       let d : drop (suc n) rest ≡ drop (end + 1) input = drop-drop (suc n) at input ∙ ap (λ m. drop m input) o in
       let left : length out₀ - size - length whole ≡ length out₀ - (size + r) = omega (arith, a′ .place) in
-      let v = part-wrote out size (size + answerRoom - size) whole (omega (arith, span)) (omega (arith, span, a′ .place)) a′
-      in
+      let v = part-wrote out size (size + answerRoom - size) whole (omega (arith, span))
+      (omega (arith, span, a′ .place)) a′ in
       record {
         rest = p .rest ∙ rw (q, d, left) (omega (arith, e));
         wrote = rw (over-end 1, line-printed (answerTo program) line rest inside) (then (p .wrote) v);

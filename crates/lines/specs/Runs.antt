@@ -16,7 +16,7 @@ use Rattle.lines.specs.Programs.{answerTo, answer-kept, mostKept, answer
 use Rattle.lines.specs.Pieces.{takenOf, Answers}
 use Rattle.lines.specs.declared.Program.{Program}
 
--- a call: the line kept before it, its piece of the input and its buffer; the line and the buffer after it, and how many
+-- a call: the line kept before it, its piece of the input and its buffer; the line and the buffer after it; how many
 -- octets it took and wrote
 pub record PieceCall : Type 0 where
   pub line : List ℕ
@@ -45,8 +45,8 @@ outputOf = each (λ c. take (c .size) (c .out′))
 -- the end of the input: no call where no line is left, else one that ends the line
 abbrev pub Ended : Program → List ℕ → List PieceCall → Type 0
 Ended program line [] = line ≡ []
-Ended program line (c ∷ cs) = (none? line ≡ false) × (line ≡ c .line) × (c .piece ≡ 10 ∷ []) × (answerRoom ≤ length (c .out))
-    × Meets program c × (cs ≡ [])
+Ended program line (c ∷ cs) = (none? line ≡ false) × (line ≡ c .line) × (c .piece ≡ 10 ∷ [])
+    × (answerRoom ≤ length (c .out)) × Meets program c × (cs ≡ [])
 
 -- ---- what a call writes
 first-octets : {b b′ xs : List ℕ} {r : ℕ} → Wrote b 0 xs b′ r → r ≤ length b → take r b′ ≡ xs
@@ -100,7 +100,8 @@ module _ (program : Program) where
   last-written line (c ∷ cs) (n, l, e, room, m, none) =
       rw (none, call-output program c m, newline-taken c e room m, ← l, n) (append-nil _ ∙ append-nil _)
 
-  -- A run writes what the program is to print for the input that it took, whatever its pieces were and its buffers held.
+  -- A run writes what the program is to print for the input that it took, whatever the pieces were and the buffers
+  -- held.
   pub right-output : (cs last : List PieceCall) (line : List ℕ) → Chained program [] cs line → Ended program line last
       → outputOf cs ++ outputOf last ≡ programOutput (answerTo program) (inputOf cs)
   right-output cs last line p e =

@@ -1,6 +1,6 @@
 // The standard streams of a program: reading, writing, and telling of a call that failed. A call that a signal
-// interrupted is tried again; one that would block has failed. Proved loops need a bound: those that try again end after
-// 2^64 - 1 turns.
+// interrupted is tried again; one that would block has failed. Proved loops need a bound: those that try again end
+// after 2^64 - 1 turns.
 use libc::EINTR;
 use libc::STDERR_FILENO;
 use libc::STDIN_FILENO;

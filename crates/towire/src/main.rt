@@ -5,6 +5,6 @@ fn main() {
     line_program::run(
         Program::ToWire,
         b"towire",
-        b" < FILE\nReads texts as totext writes them, one per line, and writes the message of each in hexadecimal or its refusal.\n",
+        b" < FILE\nReads texts of totext, one per line, and writes the message of each in hexadecimal or its refusal.\n",
     );
 }

@@ -8,7 +8,8 @@ use Rattle.line_program.proofs.answer_all.Statement.{statement}
 use Rattle.line_program.proofs.answer_all.Tie as tie
 
 abbrev Inv-loop : tie.InvT-loop
-Inv-loop program name line₀ out₀ input₀ used₀ turns₀ line out input used turns = (used ≤ mostKept) × (length line ≡ mostKept) × (length out ≡ 262144) × (length input ≡ 65536)
+Inv-loop program name line₀ out₀ input₀ used₀ turns₀ line out input used turns =
+    (used ≤ mostKept) × (length line ≡ mostKept) × (length out ≡ 262144) × (length input ≡ 65536)
 
 abbrev μ-loop : tie.MeasureT-loop
 μ-loop program name line₀ out₀ input₀ used₀ turns₀ line out input used turns = turns

@@ -10,14 +10,16 @@ use Rattle.lines.proofs.answer_piece.Tie as tie
 
 abbrev Inv-loop : tie.InvT-loop
 Inv-loop program line₀ used input out₀ message₀ kept₀ at₀ size₀ line out message kept at size =
-    (at ≤ length input) × (length out ≡ length out₀) × (size ≤ length out) × (kept ≤ length line) × (length line ≡ mostKept) × (length message ≡ 4096)
+    (at ≤ length input) × (length out ≡ length out₀) × (size ≤ length out) × (kept ≤ length line)
+    × (length line ≡ mostKept) × (length message ≡ 4096)
     × Taking program (take used line₀) input out₀ (take kept line) out at size
 
 abbrev μ-loop : tie.MeasureT-loop
 μ-loop program line₀ used input out₀ message₀ kept₀ at₀ size₀ line out message kept at size = length input - at
 
 loop-holds : tie.Need-loop-holds Inv-loop μ-loop
-loop-holds c = (search needs, search needs, search needs, search needs, search needs, search needs, taking-start _ _ _ _)
+loop-holds c =
+    (search needs, search needs, search needs, search needs, search needs, search needs, taking-start _ _ _ _)
 
 line-end-requires : tie.Need-line-end-requires Inv-loop μ-loop
 line-end-requires c κs = search needs
