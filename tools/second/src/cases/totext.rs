@@ -333,6 +333,9 @@ fn jumps_out_of_rdata() -> Messages {
         // The same ends once before and once after a jump.
         messages.push(answers(&[record(&[0], 2, 1, 0, octets)]));
         messages.extend(pointing_into(octets, 0));
+        // The message goes on with an octet that would make a pointer to its
+        // header.
+        messages.push(answers(&[record(&[0], 2, 1, 0, octets), record(&[0], 1, 1, 0, &[])]));
     }
     for target in [0x40, 0x80, 0xC0, 0x4C0] {
         // The run's label ends before the message's last octet, which is the
