@@ -5,6 +5,6 @@ fn main() {
     line_program::run(
         Program::ToText,
         b"totext",
-        b" < FILE\nReads DNS messages in hexadecimal, one per line, and writes the JSON text of each or its refusal.\n",
+        b" < FILE\nReads DNS messages in hexadecimal, one per line, and writes the JSON text of each, or its refusal.\n",
     );
 }

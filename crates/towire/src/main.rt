@@ -1,10 +1,10 @@
-// Reads texts, one per line, and writes the message of each in hexadecimal or its refusal.
+// Reads texts, one per line, and writes each message in hexadecimal, or its refusal.
 use lines::Program;
 
 fn main() {
     line_program::run(
         Program::ToWire,
         b"towire",
-        b" < FILE\nReads texts of totext, one per line, and writes the message of each in hexadecimal or its refusal.\n",
+        b" < FILE\nReads texts from totext, one per line, and writes each message in hexadecimal, or its refusal.\n",
     );
 }
