@@ -1,17 +1,18 @@
-/* Velvetshelf: one DNS message to one JSON text, and back. The format is described in docs/FORMAT.md. What the two
-   conversions promise is proved; see docs/CLAIMS.md.
+/* Velvetshelf: one DNS message to one JSON text, and back. For C99, C++11 and newer. The format is described in
+   docs/FORMAT.md of the installed documents. What the two conversions promise is proved; see docs/CLAIMS.md of the
+   source tree.
 
-   Both take an input, the caller's buffer for the output, and the address of a number.
+   Both take an input, the caller's buffer for the output, and the pointer `value`.
    - On success they return 0, `*value` is the length of the output, the output is at the start of the buffer, and
      every octet of the buffer after it is as it was. Outputs are not ended by a zero octet.
    - On a refusal they return its number, `*value` is its place, and every octet of the buffer is as it was.
    The answer and the octets written depend on the input and the buffer's length alone, not on the buffer's contents.
 
    The caller owns everything. A pointer must be valid for its length until the call returns, and not null even where
-   the length is 0; input, buffer and number must not overlap. Nothing is allocated, no state is kept, nothing outside
-   the input is read: calls from several threads are safe if their buffers and numbers are different.
+   the length is 0; input, buffer and `*value` must not overlap. Nothing is allocated, no state is kept, nothing outside
+   the input is read: calls from several threads are safe if each call has its own buffer and value.
 
-   The library is for x86-64 with the calling convention of Linux. It needs nothing from the C library but memcpy, and
+   The library is for x86-64 with the System V calling convention. It needs nothing from the C library but memcpy, and
    a call needs at most VELVETSHELF_STACK octets of stack. */
 
 #ifndef VELVETSHELF_H
@@ -24,11 +25,11 @@
 extern "C" {
 #endif
 
-/* The library's version, as words and as major * 10000 + minor * 100 + patch. */
+/* The library's version, as a string and as major * 10000 + minor * 100 + patch. */
 #define VELVETSHELF_VERSION "1.0.0"
 #define VELVETSHELF_VERSION_NUMBER 10000
 
-/* The format's version. It counts up with every change of a text, or of a refusal's number or place. */
+/* The format's version. It increases with every change to a text, or to a refusal's number or place. */
 #define VELVETSHELF_FORMAT 1
 
 /* What is returned. */
@@ -36,21 +37,21 @@ enum {
     VELVETSHELF_SUCCESS = 0,
 
     /* message to text; E is the offset of the question or record being read, 0 in the header */
-    VELVETSHELF_CUT = 1,                /* under 12 octets, or a field, label or RDATA runs past the end; at E */
-    VELVETSHELF_MESSAGE_TOO_LONG = 2,   /* message over 65,535 octets; at 0 */
+    VELVETSHELF_CUT = 1,                /* fewer than 12 octets, or a field, label or RDATA runs past the end; at E */
+    VELVETSHELF_MESSAGE_TOO_LONG = 2,   /* message of more than 65,535 octets; at 0 */
     VELVETSHELF_Z_SET = 3,              /* Z is set; at 0 */
     VELVETSHELF_LENGTH_OCTET = 4,       /* length octet with top bits 01 or 10; at E */
     VELVETSHELF_POINTER = 5,            /* pointer target not allowed; at E */
-    VELVETSHELF_NAME_TOO_LONG = 6,      /* name over 255 octets; at E */
+    VELVETSHELF_NAME_TOO_LONG = 6,      /* name of more than 255 octets; at E */
     VELVETSHELF_RDATA_LAYOUT = 7,       /* RDATA of a listed type doesn't fit its layout; at E */
     VELVETSHELF_TRAILING = 8,           /* octets after the last record; at the first of them */
-    VELVETSHELF_FORM_TOO_LONG = 9,      /* uncompressed form over 65,535 octets; at 0 */
+    VELVETSHELF_FORM_TOO_LONG = 9,      /* uncompressed form of more than 65,535 octets; at 0 */
     VELVETSHELF_TEXT_BUFFER = 10,       /* text longer than the buffer; at 0 */
 
     /* text to message; the place is always 0 */
     VELVETSHELF_GRAMMAR = 20,           /* not within the grammar */
     VELVETSHELF_MEANING = 21,           /* no message has this text */
-    VELVETSHELF_SIZE = 22,              /* RDATA, an option's value or the message over 65,535 octets */
+    VELVETSHELF_SIZE = 22,              /* RDATA, an option's value or the message has more than 65,535 octets */
     VELVETSHELF_MESSAGE_BUFFER = 23     /* message longer than the buffer */
 };
 
@@ -64,11 +65,11 @@ enum {
    (the shared library binds it when it is loaded). */
 #define VELVETSHELF_STACK 8192
 
-/* Writes the profile text of a message. */
+/* Writes the text of a message. */
 uint32_t velvetshelf_to_text(const uint8_t *message, size_t message_length, uint8_t *text, size_t text_length,
                              uint64_t *value);
 
-/* Writes the message of a profile text, its names uncompressed. */
+/* Writes the message of a text, its names uncompressed. */
 uint32_t velvetshelf_to_wire(const uint8_t *text, size_t text_length, uint8_t *message, size_t message_length,
                              uint64_t *value);
 
@@ -76,7 +77,7 @@ uint32_t velvetshelf_to_wire(const uint8_t *text, size_t text_length, uint8_t *m
 uint32_t velvetshelf_version(void);
 uint32_t velvetshelf_format(void);
 
-/* What a number that was returned says, in words; null for a number that is never returned. */
+/* The meaning of a returned number, in words; null for a number that is never returned. */
 static inline const char *velvetshelf_reason(uint32_t number)
 {
     switch (number) {
@@ -111,7 +112,11 @@ static inline const char *velvetshelf_reason(uint32_t number)
     case VELVETSHELF_MESSAGE_BUFFER:
         return "the message is longer than the buffer";
     default:
+#ifdef __cplusplus
+        return nullptr;
+#else
         return NULL;
+#endif
     }
 }
 
