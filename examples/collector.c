@@ -4,7 +4,7 @@
    error, each with the number of its line and the reason.
 
    Exit status: 0 if standard output has an answer to all of the input; 1 if not: a read or a write failed, the last
-   message is cut, or, with -r, a text was refused; 2 for wrong arguments.
+   message is cut, or, with -r, a line was refused; 2 for wrong arguments or a library of another format.
 
    The buffers are never cleared: what a message or a text does not fill still holds octets of earlier ones. */
 
@@ -46,8 +46,8 @@ static int to_text(void)
     return 0;
 }
 
-/* Reads the next line without its newline: its length, or -1 where there is none. A line that is longer than every text
-   is cut to one octet more than the longest, and so refused. */
+/* Reads the next line without its newline: its length, or -1 where there is none. Of a line that is longer than any
+   text, one octet more than VELVETSHELF_LONGEST_TEXT is kept. */
 static long next_line(void)
 {
     long length = 0;
@@ -66,8 +66,14 @@ static int to_wire(void)
     long length;
     while (sent() && (length = next_line()) >= 0) {
         uint64_t value;
-        uint32_t number = velvetshelf_to_wire(line, (size_t)length, frame + 2, sizeof frame - 2, &value);
+        uint32_t number;
         count++;
+        if (length > VELVETSHELF_LONGEST_TEXT) {
+            fprintf(stderr, "line %lu: longer than any text\n", count);
+            status = 1;
+            continue;
+        }
+        number = velvetshelf_to_wire(line, (size_t)length, frame + 2, sizeof frame - 2, &value);
         if (number == VELVETSHELF_SUCCESS) {
             frame[0] = (uint8_t)(value / 256);
             frame[1] = (uint8_t)(value % 256);
@@ -75,7 +81,7 @@ static int to_wire(void)
         } else {
             const char *reason = velvetshelf_reason(number);
             fprintf(stderr, "line %lu: refused %u at %llu: %s\n", count, (unsigned)number, (unsigned long long)value,
-                    reason ? reason : "a reason of a later library");
+                    reason ? reason : "unknown reason");
             status = 1;
         }
     }
@@ -85,6 +91,11 @@ static int to_wire(void)
 int main(int argc, char **argv)
 {
     int status;
+    if (velvetshelf_format() != VELVETSHELF_FORMAT) { /* a library of another format can have the same soname */
+        fprintf(stderr, "collector: the library has format %u, not %u\n", (unsigned)velvetshelf_format(),
+                (unsigned)VELVETSHELF_FORMAT);
+        return 2;
+    }
     if (argc == 1) {
         status = to_text();
     } else if (argc == 2 && strcmp(argv[1], "-r") == 0) {
