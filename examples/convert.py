@@ -1,12 +1,13 @@
 #!/usr/bin/env python3
 """Converts with the shared library, by ctypes. For each line of FILE that is a message in hexadecimal it prints the
 text, for each that is a text (it begins with a brace) the message, or the refusal with its number, place and reason.
-Exit status: 0 if every line was converted, 1 if not.
+Exit status: 0 if every line was converted, 1 if not, 2 for wrong arguments.
 
 usage: convert.py FILE [LIBRARY]
 LIBRARY is the path of libvelvetshelf.so.1; without it VELVETSHELF_LIBRARY of the environment is taken, else the system
 searches."""
 
+import binascii
 import ctypes
 import os
 import sys
@@ -34,7 +35,7 @@ REASONS = {
 
 class Refused(Exception):
     def __init__(self, number, place):
-        super().__init__(f"refused {number} at {place}: {REASONS[number]}")
+        super().__init__(f"refused {number} at {place}: {REASONS.get(number, 'unknown reason')}")
         self.number, self.place = number, place
 
 
@@ -55,7 +56,7 @@ class Velvetshelf:
         self.library.velvetshelf_format.restype = ctypes.c_uint32
         self.library.velvetshelf_format.argtypes = []
         if self.library.velvetshelf_format() != FORMAT:
-            raise RuntimeError(f"{path} is of format {self.library.velvetshelf_format()}, not {FORMAT}")
+            raise RuntimeError(f"{path} has format {self.library.velvetshelf_format()}, not {FORMAT}")
         self.buffer = ctypes.create_string_buffer(max(LONGEST_TEXT, LONGEST_MESSAGE))
 
     def convert(self, function, given):
@@ -72,27 +73,40 @@ class Velvetshelf:
         return self.convert(self.library.velvetshelf_to_wire, text)
 
 
+def convert_line(velvetshelf, line):
+    if line.startswith(b"{"):
+        return velvetshelf.to_wire(line).hex().upper()
+    message = binascii.unhexlify(line)  # bytes.fromhex would take spaces and carriage returns
+    return velvetshelf.to_text(message).decode("ascii")
+
+
+def convert_file(velvetshelf, file, output):
+    status = 0
+    for line in file:
+        try:
+            answer = convert_line(velvetshelf, line.rstrip(b"\n"))
+        except Refused as refused:
+            answer, status = refused, 1
+        except binascii.Error:
+            answer, status = "not hexadecimal", 1
+        print(answer, file=output)
+    return status
+
+
 def main():
     if len(sys.argv) not in (2, 3):
-        sys.exit("usage: convert.py FILE [LIBRARY]")
+        print("usage: convert.py FILE [LIBRARY]", file=sys.stderr)
+        return 2
     default = os.environ.get("VELVETSHELF_LIBRARY", "libvelvetshelf.so.1")
-    velvetshelf = Velvetshelf(sys.argv[2] if len(sys.argv) == 3 else default)
-    status = 0
-    with open(sys.argv[1], "rb") as file:
-        for line in file:
-            line = line.rstrip(b"\n")
-            try:
-                if line.startswith(b"{"):
-                    print(velvetshelf.to_wire(line).hex().upper())
-                else:
-                    print(velvetshelf.to_text(bytes.fromhex(line.decode("ascii"))).decode("ascii"))
-            except Refused as refused:
-                print(refused)
-                status = 1
-            except ValueError:
-                print("not hexadecimal")
-                status = 1
-    return status
+    try:
+        velvetshelf = Velvetshelf(sys.argv[2] if len(sys.argv) == 3 else default)
+    except (OSError, AttributeError, RuntimeError) as error:  # not there, another library, another format
+        return f"convert.py: {error}"
+    try:
+        with open(1, "w", closefd=False) as output, open(sys.argv[1], "rb") as file:
+            return convert_file(velvetshelf, file, output)
+    except OSError as error:
+        return f"convert.py: {error}"
 
 
 if __name__ == "__main__":
