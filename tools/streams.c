@@ -1,12 +1,14 @@
 /* Preloaded into a program by tools/programs. Calls of read and write on descriptors 0, 1 and 2 go as planned, and all
-   calls of read and write are recorded.
+   calls of read and write are recorded, and those of close on descriptors 0, 1 and 2.
 
-   STREAMS_0, STREAMS_1 and STREAMS_2 are the plans: a number for each call on that descriptor, with spaces between. At
-   most that many octets are moved if it is positive; the call returns 0 if it is 0, and fails with the errno -N if it
-   is N below 0. With * after the last number the plan begins again; otherwise later calls are left as they are.
+   STREAMS_0, STREAMS_1 and STREAMS_2 are the plans: a number for each call on that descriptor, with spaces between. A
+   positive number is the most octets that the call moves, 0 makes it return 0, and -N makes it fail with errno N. With
+   * after the last number the plan begins again; without it later calls are left as they are.
 
-   Each call adds five numbers of 32 bits to the descriptor in STREAMS_CALLS: 0 for read or 1 for write, the descriptor,
-   the octets asked, what was returned, and errno if that was below 0, otherwise 0. */
+   STREAMS_CLOSE is the errno with which a close fails.
+
+   Each call adds five numbers of 32 bits to the descriptor in STREAMS_CALLS: 0 for read, 1 for write or 2 for close, the
+   descriptor, the octets asked, what was returned, and errno if that was below 0, otherwise 0. */
 
 #define _GNU_SOURCE
 
@@ -77,4 +79,18 @@ ssize_t read(int fd, void *octets, size_t asked)
 ssize_t write(int fd, const void *octets, size_t asked)
 {
     return call(1, fd, (void *)octets, asked);
+}
+
+int close(int fd)
+{
+    const char *fails = getenv("STREAMS_CLOSE");
+    int error = errno;
+    int returned = fails ? -1 : (int)syscall(SYS_close, fd);
+
+    if (returned < 0)
+        error = fails ? atoi(fails) : errno;
+    if (fd >= 0 && fd < PLANS)
+        record(2, fd, 0, returned, returned < 0 ? error : 0);
+    errno = error;
+    return returned;
 }

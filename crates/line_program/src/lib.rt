@@ -2,6 +2,7 @@
 // and its answers are written to standard output. The first call that fails ends the run and is told on standard error.
 use lines::Program;
 use lines::answer_piece;
+use streams::close_output;
 use streams::is_argument;
 use streams::print_line;
 use streams::read_piece;
@@ -53,14 +54,16 @@ fn answer(
     }
 }
 
-// The end of the input: a last line without newline is answered if it isn't empty.
-fn answer_last(program: Program, name: &[u8], line: &mut [u8], used: usize, out: &mut [u8])
+// The end of the input: a last line without newline is answered if it isn't empty. Whether all was written.
+fn answer_last(program: Program, name: &[u8], line: &mut [u8], used: usize, out: &mut [u8]) -> bool
     requires { ⌜ (used ≤ length (now line)) × (length (now line) ≡ mostKept) × (answerRoom ≤ length (now out)) ⌝ }
     requires { ⌜ length (now name) ≤ 1000 ⌝ }
 {
-    if used > 0 {
-        answer(program, name, line, used, b"\n", out);
+    if used == 0 {
+        return true;
     }
+    let progress = answer(program, name, line, used, b"\n", out);
+    progress.written
 }
 
 // Answers the lines of standard input, up to its end or the first call that fails. After a read that fails the line
@@ -81,7 +84,9 @@ fn answer_all(program: Program, name: &[u8])
             return;
         }
         if got == 0 {
-            answer_last(program, name, &mut line, used, &mut out);
+            if answer_last(program, name, &mut line, used, &mut out) {
+                close_output(name);
+            }
             return;
         }
         let n = io::count(got, input);

@@ -1,6 +1,7 @@
 // The standard streams of a program: reading, writing, and telling of a call that failed. A call that a signal
 // interrupted is tried again; one that would block has failed. Proved loops need a bound: those that try again end
 // after 2^64 - 1 turns.
+use libc::EBADF;
 use libc::EINTR;
 use libc::STDERR_FILENO;
 use libc::STDIN_FILENO;
@@ -27,13 +28,13 @@ pub fn read_piece(input: &mut [u8]) -> isize {
     -1
 }
 
-// Writes the first octets of a part to standard output: how many, or 0 if the write failed.
-fn write_some(part: &[u8]) -> usize
+// Writes the first octets of a part to a descriptor: how many, or 0 if the write failed.
+fn write_some(fd: i32, part: &[u8]) -> usize
     ensures { λ r. ⌜ r ≤ length (now (part .entry)) ⌝ }
 {
     let mut turns = u64::MAX;
     while turns > 0 {
-        let put = libc::write(STDOUT_FILENO, part);
+        let put = libc::write(fd, part);
         if put >= 0 {
             return io::count(put, part);
         }
@@ -45,20 +46,27 @@ fn write_some(part: &[u8]) -> usize
     0
 }
 
-// Writes the first `size` octets of `out` to standard output, and says whether all were written. After a write that
-// failed no other is tried.
-pub fn write_first(out: &[u8], size: usize) -> bool
+// Writes the first `size` octets of `out` to a descriptor, and says whether all were written. After a write that failed
+// no other is tried.
+fn write_all(fd: i32, out: &[u8], size: usize) -> bool
     requires { ⌜ size ≤ length (now out) ⌝ }
 {
     let mut done = 0;
     while done < size {
-        let put = write_some(&out[done..size]);
+        let put = write_some(fd, &out[done..size]);
         if put == 0 {
             return false;
         }
         done += put;
     }
     true
+}
+
+// Writes the first `size` octets of `out` to standard output, and says whether all were written.
+pub fn write_first(out: &[u8], size: usize) -> bool
+    requires { ⌜ size ≤ length (now out) ⌝ }
+{
+    write_all(STDOUT_FILENO, out, size)
 }
 
 // A line with the program's name in it.
@@ -97,6 +105,19 @@ pub fn tell_read(name: &[u8])
     tell_failure(name, b": read failed (errno ");
 }
 
+// Closes standard output, where some systems tell of a write that failed only then. One that was closed from the start
+// is no failure: nothing was written to it.
+pub fn close_output(name: &[u8])
+    requires { ⌜ length (now name) ≤ 1000 ⌝ }
+{
+    let closed = libc::close(STDOUT_FILENO);
+    if closed < 0 {
+        if os::errno() != EBADF {
+            tell_failure(name, b": close failed (errno ");
+        }
+    }
+}
+
 // Writes a line to standard output. A write that fails is told.
 pub fn print_line(before: &[u8], name: &[u8], after: &[u8])
     requires { ⌜ (length (now before) ≤ 1000) × (length (now name) ≤ 1000) × (length (now after) ≤ 1000) ⌝ }
@@ -114,7 +135,7 @@ pub fn tell_line(before: &[u8], name: &[u8], after: &[u8])
 {
     let mut line = io::buffer();
     let n = put_line(before, name, after, &mut line);
-    io::write_all(STDERR_FILENO, &line[0..n]);
+    write_all(STDERR_FILENO, &line, n);
 }
 
 // Whether two words are the same.

@@ -21,7 +21,8 @@ slice-aggregate-input : tie.Need-slice-aggregate-input Inv-loop μ-loop
 slice-aggregate-input c = search needs
 
 loop-holds : tie.Need-loop-holds Inv-loop μ-loop
-loop-holds c = (search needs, length-replicate {A = ℕ} 65537 0, length-replicate {A = ℕ} 262144 0, search needs)
+loop-holds c =
+    (search needs, length-replicate {A = ℕ} 65537 0, length-replicate {A = ℕ} 262144 0, search needs)
 
 read-piece-requires : tie.Need-read-piece-requires Inv-loop μ-loop
 read-piece-requires c κs = search needs
@@ -41,8 +42,14 @@ slice-aggregate-answer-last-2 c = search needs
 answer-last-requires : tie.Need-answer-last-requires Inv-loop μ-loop
 answer-last-requires c κs = search needs
 
+close-output-requires : tie.Need-close-output-requires Inv-loop μ-loop
+close-output-requires c κs = search needs
+
 returns-2 : tie.Need-returns-2 Inv-loop μ-loop
 returns-2 c = search needs
+
+returns-3 : tie.Need-returns-3 Inv-loop μ-loop
+returns-3 c = search needs
 
 count-requires : tie.Need-count-requires Inv-loop μ-loop
 count-requires c κs = search needs
@@ -65,8 +72,8 @@ slice-aggregate-answer-2 c = search needs
 answer-requires : tie.Need-answer-requires Inv-loop μ-loop
 answer-requires c κs = search needs
 
-returns-3 : tie.Need-returns-3 Inv-loop μ-loop
-returns-3 c = search needs
+returns-4 : tie.Need-returns-4 Inv-loop μ-loop
+returns-4 c = search needs
 
 sub-turns : tie.Need-sub-turns Inv-loop μ-loop
 sub-turns c = search needs
@@ -77,8 +84,8 @@ loop-less c = search needs
 loop-again : tie.Need-loop-again Inv-loop μ-loop
 loop-again c = search needs
 
-returns-4 : tie.Need-returns-4 Inv-loop μ-loop
-returns-4 c = search needs
+returns-5 : tie.Need-returns-5 Inv-loop μ-loop
+returns-5 c = search needs
 
 pub answer-all-spec : {M : Type 1} → statement M
 answer-all-spec =
@@ -95,7 +102,9 @@ answer-all-spec =
     slice-aggregate-answer-last
     slice-aggregate-answer-last-2
     answer-last-requires
+    close-output-requires
     returns-2
+    returns-3
     count-requires
     slice-aggregate-answer
     sub-answer
@@ -103,8 +112,8 @@ answer-all-spec =
     part-answer-end
     slice-aggregate-answer-2
     answer-requires
-    returns-3
+    returns-4
     sub-turns
     loop-less
     loop-again
-    returns-4)
+    returns-5)

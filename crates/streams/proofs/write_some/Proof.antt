@@ -4,10 +4,10 @@ use Rattle.streams.proofs.write_some.Statement.{statement}
 use Rattle.streams.proofs.write_some.Tie as tie
 
 abbrev Inv-loop : tie.InvT-loop
-Inv-loop part turns₀ turns = Unit {0}
+Inv-loop fd part turns₀ turns = Unit {0}
 
 abbrev μ-loop : tie.MeasureT-loop
-μ-loop part turns₀ turns = turns
+μ-loop fd part turns₀ turns = turns
 
 loop-holds : tie.Need-loop-holds Inv-loop μ-loop
 loop-holds c = search needs

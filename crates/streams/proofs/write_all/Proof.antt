@@ -1,14 +1,14 @@
--- `streams::write_first` meets its contract: the octets left fall.
+-- `streams::write_all` meets its contract: the octets left fall.
 use borrow.Author.Needs.{needs}
 use Prim.Native.Nat.{_-_, _≤_}
-use Rattle.streams.proofs.write_first.Statement.{statement}
-use Rattle.streams.proofs.write_first.Tie as tie
+use Rattle.streams.proofs.write_all.Statement.{statement}
+use Rattle.streams.proofs.write_all.Tie as tie
 
 abbrev Inv-loop : tie.InvT-loop
-Inv-loop out size done₀ done = done ≤ size
+Inv-loop fd out size done₀ done = done ≤ size
 
 abbrev μ-loop : tie.MeasureT-loop
-μ-loop out size done₀ done = size - done
+μ-loop fd out size done₀ done = size - done
 
 loop-holds : tie.Need-loop-holds Inv-loop μ-loop
 loop-holds c = search needs
@@ -40,8 +40,8 @@ loop-again c = search needs
 returns-2 : tie.Need-returns-2 Inv-loop μ-loop
 returns-2 c = search needs
 
-pub write-first-spec : {M : Type 1} → statement M
-write-first-spec =
+pub write-all-spec : {M : Type 1} → statement M
+write-all-spec =
     tie.close
     (tie.spec
     Inv-loop
