@@ -2,26 +2,16 @@
 use mathlib.Core.Path.{_≡_, refl}
 use mathlib.Core.Bool.{Bool, true, false, cond}
 use mathlib.Core.List.{List, [], _∷_, _++_}
-use Prim.Native.Nat.{ℕ, _≤_, _<_}
+use Prim.Native.Nat.{ℕ, _≤_}
 use native.Mathlib.Omega.{arith}
 use lib.Dec.{eqb}
-use lib.ListN.{length, getD}
+use lib.ListN.{length}
 use Rattle.octets.specs.Lists.{ascii}
-use Rattle.spelling.specs.Table.{tab, at}
 use Rattle.spelling.specs.Spelling.{plain?, three-digits, spelled}
 
 -- 1 for an octet that stands for itself, 3 for a dot, 4 for a backslash, 5 for every other
 unfoldable pub width : ℕ → ℕ
 width x = cond (plain? x) 1 (cond (eqb x 46) 3 (cond (eqb x 92) 4 5))
-
--- the widths of the 256 octets
-unfoldable pub widthTable : List ℕ
-widthTable = tab width 0 256
-
--- by octet
-pub width-at : (x : ℕ) → x < 256 → getD widthTable x 0 ≡ width x
-unfolding widthTable
-width-at x h = at width 256 x h
 
 -- it is the length of the spelling
 pub spelled-width : (x : ℕ) → length (spelled x) ≡ width x

@@ -7,15 +7,10 @@ ghost use Rattle.octets.specs.Overlay.{Wrote};
 ghost use Rattle.spelling.specs.Spelling.{three-digits, spelled, labelText, signed, signedText, stringOctet};
 ghost use Rattle.spelling.specs.Spelling.{stringText};
 ghost use Rattle.spelling.specs.Form.{formText};
-ghost use Rattle.spelling.specs.Width.{widthTable};
 use octets::put;
 use octets::put_all;
 use octets::put_decimal;
 use octets::wide;
-use widths::width;
-use widths::widths;
-
-mod widths;
 
 // Writes an octet as `\\DDD`, DDD three decimal digits.
 fn put_digits(x: u8, out: &mut [u8], to: usize) -> usize
@@ -28,13 +23,28 @@ fn put_digits(x: u8, out: &mut [u8], to: usize) -> usize
     put(48 + x % 10, out, third)
 }
 
-// Writes an octet of a label, by the table of widths.
-fn put_spelled(x: u8, table: &[u8; 256], out: &mut [u8], to: usize) -> usize
-    requires { ⌜ (to < 2 ^ 39) × (now table ≡ widthTable) ⌝ }
+// The width of the spelling of an octet of a label: a dot is `\\.`, a backslash `\\\\`, the quote and every octet outside
+// 0x21 to 0x7E `\\DDD`, any other octet itself.
+fn width(x: u8) -> usize
+    ensures { λ r. ⌜ r ≡ length (spelled x) ⌝ }
+    ensures { λ r. ⌜ (1 ≤ r) × (r ≤ 5) ⌝ }
+{
+    match x {
+        b'.' => 3,
+        b'\\' => 4,
+        b'"' => 5,
+        0x21..=0x7E => 1,
+        _ => 5,
+    }
+}
+
+// Writes an octet of a label.
+fn put_spelled(x: u8, out: &mut [u8], to: usize) -> usize
+    requires { ⌜ to < 2 ^ 39 ⌝ }
     ensures { λ r. ⌜ Wrote (now (out .entry)) to (spelled x) (now (out .exit)) r ⌝ }
     ensures { λ r. ⌜ r ≤ to + 5 ⌝ }
 {
-    let w = width(table, x);
+    let w = width(x);
     if to >= out.len() {
         return to + w;
     }
@@ -50,16 +60,16 @@ fn put_spelled(x: u8, table: &[u8; 256], out: &mut [u8], to: usize) -> usize
     put_digits(x, out, to)
 }
 
-// Writes a label and its dot, by the table of widths.
-fn put_label(label: &[u8], table: &[u8; 256], out: &mut [u8], to: usize) -> usize
-    requires { ⌜ (to + 5 * length (now label) < 2 ^ 39) × (now table ≡ widthTable) ⌝ }
+// Writes a label and its dot.
+fn put_label(label: &[u8], out: &mut [u8], to: usize) -> usize
+    requires { ⌜ to + 5 * length (now label) < 2 ^ 39 ⌝ }
     ensures { λ r. ⌜ Wrote (now (out .entry)) to (labelText (now (label .entry))) (now (out .exit)) r ⌝ }
     ensures { λ r. ⌜ r ≤ to + 5 * length (now (label .entry)) + 1 ⌝ }
 {
     let mut next = to;
     let mut i = 0;
     while i < label.len() {
-        next = put_spelled(label[i], table, out, next);
+        next = put_spelled(label[i], out, next);
         i += 1;
     }
     put(46, out, next)
@@ -78,7 +88,6 @@ pub fn put_name(form: &[u8], out: &mut [u8], to: usize) -> usize
     if form[0] == 0 {
         return put_all(b".\"", out, next);
     }
-    let table = widths();
     let mut i = 0;
     while i < form.len() {
         let n = wide(form[i]);
@@ -87,11 +96,11 @@ pub fn put_name(form: &[u8], out: &mut [u8], to: usize) -> usize
         }
         let start = i + 1;
         if n > form.len() - start {
-            let last = put_label(&form[start..form.len()], &table, out, next);
+            let last = put_label(&form[start..form.len()], out, next);
             return put(34, out, last);
         }
         let end = start + n;
-        next = put_label(&form[start..end], &table, out, next);
+        next = put_label(&form[start..end], out, next);
         i = end;
     }
     put(34, out, next)

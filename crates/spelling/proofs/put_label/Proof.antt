@@ -10,11 +10,11 @@ use Rattle.spelling.proofs.put_label.Statement.{statement}
 use Rattle.spelling.proofs.put_label.Tie as tie
 
 abbrev Inv-loop : tie.InvT-loop
-Inv-loop label table out₀ to next₀ i₀ out next i = (i ≤ length label) × (next ≤ to + 5 * i)
+Inv-loop label out₀ to next₀ i₀ out next i = (i ≤ length label) × (next ≤ to + 5 * i)
     × Wrote out₀ to (each spelled (take i label)) out next
 
 abbrev μ-loop : tie.MeasureT-loop
-μ-loop label table out₀ to next₀ i₀ out next i = length label - i
+μ-loop label out₀ to next₀ i₀ out next i = length label - i
 
 loop-holds : tie.Need-loop-holds Inv-loop μ-loop
 loop-holds c = (search needs, search needs, each-start _ _ _)

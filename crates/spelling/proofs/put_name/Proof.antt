@@ -10,12 +10,12 @@ use Rattle.spelling.proofs.put_name.Statement.{statement}
 use Rattle.spelling.proofs.put_name.Tie as tie
 
 abbrev Inv-loop : tie.InvT-loop
-Inv-loop form out₀ to next₀ table i₀ out next i = (i ≤ length form) × (next ≤ next₀ + 5 * i)
+Inv-loop form out₀ to next₀ i₀ out next i = (i ≤ length form) × (next ≤ next₀ + 5 * i)
     × (length out ≡ length out₀)
     × Begun form out₀ next₀ out next i
 
 abbrev μ-loop : tie.MeasureT-loop
-μ-loop form out₀ to next₀ table i₀ out next i = length form - i
+μ-loop form out₀ to next₀ i₀ out next i = length form - i
 
 put-requires : tie.Need-put-requires Inv-loop μ-loop
 put-requires c κs = search needs
@@ -43,9 +43,6 @@ same-length-2 c = search needs
 
 returns-2 : tie.Need-returns-2 Inv-loop μ-loop
 returns-2 c = (search (wrote-root, needs), search needs)
-
-widths-requires : tie.Need-widths-requires Inv-loop μ-loop
-widths-requires c κs = search needs
 
 loop-holds : tie.Need-loop-holds Inv-loop μ-loop
 loop-holds c = (search needs, search needs, search needs, search (begun-start, needs))
@@ -137,7 +134,6 @@ put-name-spec =
     put-all-requires
     same-length-2
     returns-2
-    widths-requires
     loop-holds
     shared-slice-read-wide
     wide-requires
