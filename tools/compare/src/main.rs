@@ -12,6 +12,7 @@ fn check(seed: u64, count: usize) -> Result<(), String> {
     println!("look-alike names: {} texts, all different", checks::look_alikes(3)?);
     println!("tails of small messages: {} cuts agree", worlds::every_tail()?);
     println!("pointer targets in short messages: {} agree", worlds::every_target()?);
+    println!("labels of one or two octets: {} agree", worlds::every_label()?);
     println!("random texts: {} agree", checks::random_texts(seed, count)?);
     println!("texts of large messages: {} agree", checks::large_texts(seed, count / 200)?);
     println!("texts padded to the limits: {} agree", checks::padded_texts(seed, count / 20)?);

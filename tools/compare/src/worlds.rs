@@ -1,5 +1,5 @@
-//! Small worlds, every message of which is compared: tails over a few octets at every cut, and every pointer target
-//! against short messages.
+//! Small worlds, every message of which is compared: tails over a few octets at every cut, every pointer target against
+//! short messages, and every label of one or two octets.
 
 use crate::checks::{agree, words};
 use crate::proved;
@@ -59,6 +59,23 @@ pub fn every_target() -> Result<usize, String> {
             if first != second {
                 return Err(format!("{message:02X?}: {:?} and {:?} with different leftovers", first.0, second.0));
             }
+            compared += 1;
+        }
+    }
+    Ok(compared)
+}
+
+/// Every label of one or two octets as a question's name: in a buffer with room to spare, in one of the text's length
+/// and in one that is an octet shorter, so that the widths of any two octets are written and measured.
+pub fn every_label() -> Result<usize, String> {
+    let octets: Vec<u8> = (0..=255).collect();
+    let mut compared = 0;
+    for label in words(&octets, 2).iter().filter(|label| !label.is_empty()) {
+        let name = [&[label.len() as u8][..], label, &[0]].concat();
+        let message = [&header(1, 0)[..], &name, &[0, 1, 0, 1]].concat();
+        let text = second::text_of(&message).map_err(|refusal| format!("{message:02X?}: {refusal:?}"))?;
+        for room in [LEFTOVERS.len(), text.len(), text.len() - 1] {
+            agree(&message, &LEFTOVERS[..room])?;
             compared += 1;
         }
     }
