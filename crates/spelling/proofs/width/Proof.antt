@@ -1,6 +1,5 @@
--- `spelling::width` meets its contract: the arms of the match in order, but the last arm, two ways (below and above
--- 0x21 to 0x7E), before the one of that range, two ways too: 0x21 alone, which the quote's arm, 0x22, parts from the
--- rest.
+-- `spelling::width` meets its contract. Its six ways, in order: a dot, a backslash, an octet that stands for itself, the
+-- quote, an octet below 0x21, one above 0x7E.
 use borrow.Author.Needs.{needs}
 use borrow.Author.Tests.{le-leb, lt-leb, ne-eqb}
 use mathlib.Core.Path.{_≡_, sym, ap, _∙_}
@@ -55,21 +54,17 @@ unfolding width plain?
 returns-2 c = (by-key (c .match .keys2), search needs)
 
 returns-3 : tie.Need-returns-3
-unfolding width plain?
-returns-3 c = (by-key (c .match .keys3), search needs)
+returns-3 c = (search (inside, needs), search needs)
 
 returns-4 : tie.Need-returns-4
-returns-4 c = (search (below, needs), search needs)
+unfolding width plain?
+returns-4 c = (by-key (c .match .keys3), search needs)
 
 returns-5 : tie.Need-returns-5
-returns-5 c = (above (omega (arith, c .if2 .left)), search needs)
+returns-5 c = (search (below, needs), search needs)
 
 returns-6 : tie.Need-returns-6
-unfolding width plain?
-returns-6 c = (by-key (c .match .keys4), search needs)
-
-returns-7 : tie.Need-returns-7
-returns-7 c = (search (inside, needs), search needs)
+returns-6 c = (above (omega (arith, c .if2 .left)), search needs)
 
 pub width-spec : {M : Type 1} → statement M
-width-spec = tie.close (tie.spec returns returns-2 returns-3 returns-4 returns-5 returns-6 returns-7)
+width-spec = tie.close (tie.spec returns returns-2 returns-3 returns-4 returns-5 returns-6)
