@@ -26,11 +26,11 @@ extern "C" {
 #endif
 
 /* The library's version, as a string and as major * 10000 + minor * 100 + patch. */
-#define VELVETSHELF_VERSION "1.0.0"
-#define VELVETSHELF_VERSION_NUMBER 10000
+#define VELVETSHELF_VERSION "1.1.0"
+#define VELVETSHELF_VERSION_NUMBER 10100
 
 /* The format's version. It increases with every change to a text, or to a refusal's number or place. */
-#define VELVETSHELF_FORMAT 1
+#define VELVETSHELF_FORMAT 2
 
 /* What is returned. */
 enum {

@@ -82,6 +82,12 @@ examples =
       gives = says "7" "0" "0" "1" "" ""
           "{\"EDNS\":{\"Version\":0,\"FLAGS\":[],\"RCODE\":\"BADCOOKIE\",\"UDPSIZE\":1232}}";
     }
+    -- TTL first octet 1, header RCODE 0: BADVERS
+    ∷ record {
+      message = "00000000000000000000000100002904D0010000000000";
+      gives = says "0" "0" "0" "1" "" ""
+          "{\"EDNS\":{\"Version\":0,\"FLAGS\":[],\"RCODE\":\"BADVERS\",\"UDPSIZE\":1232}}";
+    }
     ∷ []
 
 -- every example, computed

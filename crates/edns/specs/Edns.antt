@@ -57,7 +57,7 @@ rcodes =
     ∷ (9, "NotAuth")
     ∷ (10, "NotZone")
     ∷ (11, "DSOTYPENI")
-    ∷ (16, "BADSIG")
+    ∷ (16, "BADVERS")
     ∷ (17, "BADKEY")
     ∷ (18, "BADTIME")
     ∷ (19, "BADMODE")

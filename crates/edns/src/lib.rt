@@ -15,7 +15,7 @@ ghost use Rattle.edns.specs.Element.{optionsRise, ednsFields, showsEdns}
 
 // ---- RCODE
 // The table of RCODE names, row after row: the RCODE, the length of its name, the name.
-pub fn rcode_names() -> [u8; 184]
+pub fn rcode_names() -> [u8; 185]
     ensures { λ r. ⌜ r ≡ tableOctets rcodes ⌝ }
 {
     *b"\x00\x07NoError\
@@ -30,7 +30,7 @@ pub fn rcode_names() -> [u8; 184]
     \x09\x07NotAuth\
     \x0A\x07NotZone\
     \x0B\x09DSOTYPENI\
-    \x10\x06BADSIG\
+    \x10\x07BADVERS\
     \x11\x06BADKEY\
     \x12\x07BADTIME\
     \x13\x07BADMODE\

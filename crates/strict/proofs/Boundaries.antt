@@ -156,11 +156,23 @@ readings =
       gives =
           refuses 20 0;
     }
+    -- RCODE 16 is BADVERS; BADSIG is 20, beside a number out of range too; the header's RCODE is a number
     ∷ record {
       text = textWith "0" "0" "0" "1" "" ""
           "{\"EDNS\":{\"Version\":0,\"FLAGS\":[],\"RCODE\":\"BADVERS\",\"UDPSIZE\":1232}}";
+      gives = taken;
+    }
+    ∷ record {
+      text = textWith "0" "0" "0" "1" "" ""
+          "{\"EDNS\":{\"Version\":0,\"FLAGS\":[],\"RCODE\":\"BADSIG\",\"UDPSIZE\":1232}}";
       gives = refuses 20 0;
     }
+    ∷ record {
+      text = textWith "0" "0" "0" "1" "" ""
+          "{\"EDNS\":{\"Version\":0,\"FLAGS\":[],\"RCODE\":\"BADSIG\",\"UDPSIZE\":65536}}";
+      gives = refuses 20 0;
+    }
+    ∷ record { text = textWith "\"BADVERS\"" "0" "0" "0" "" "" ""; gives = refuses 20 0 }
     ∷ record {
       text = textWith "7" "0" "0" "1" "" ""
           "{\"EDNS\":{\"Version\":0,\"FLAGS\":[],\"RCODE\":\"BADCOOKIE\",\"UDPSIZE\":1232}}";

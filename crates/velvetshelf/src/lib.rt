@@ -65,15 +65,15 @@ pub extern "C" fn velvetshelf_to_wire(text: &[u8], message: &mut [u8], value: &m
 // VELVETSHELF_VERSION_NUMBER of the header: major * 10000 + minor * 100 + patch.
 #[no_mangle]
 pub extern "C" fn velvetshelf_version() -> u32
-    ensures { λ r. ⌜ r ≡ 10000 ⌝ }
+    ensures { λ r. ⌜ r ≡ 10100 ⌝ }
 {
-    10000
+    10100
 }
 
 // VELVETSHELF_FORMAT of the header.
 #[no_mangle]
 pub extern "C" fn velvetshelf_format() -> u32
-    ensures { λ r. ⌜ r ≡ 1 ⌝ }
+    ensures { λ r. ⌜ r ≡ 2 ⌝ }
 {
-    1
+    2
 }

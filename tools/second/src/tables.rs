@@ -59,7 +59,8 @@ pub const OPT: u16 = 41;
 /// The flag bits an EDNS element can show.
 pub const DO_BIT: u16 = 0x8000;
 
-/// The RCODEs with a name, rising.
+/// The RCODEs with a name, rising. Change request A10 made 16 BADVERS; BADSIG
+/// is no name of an RCODE.
 const RCODE_NAMES: [(u16, &[u8]); 20] = [
     (0, b"NoError"),
     (1, b"FormErr"),
@@ -73,7 +74,7 @@ const RCODE_NAMES: [(u16, &[u8]); 20] = [
     (9, b"NotAuth"),
     (10, b"NotZone"),
     (11, b"DSOTYPENI"),
-    (16, b"BADSIG"),
+    (16, b"BADVERS"),
     (17, b"BADKEY"),
     (18, b"BADTIME"),
     (19, b"BADMODE"),

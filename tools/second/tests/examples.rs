@@ -1,6 +1,7 @@
 //! The worked and the marked examples of the profile's paper, and answers that its
-//! rules decide, written down by hand.
+//! rules and those of change request A10 decide, written down by hand.
 
+use second::generate::RCODES;
 use second::lines::{hex_of_octets, octets_of_hex};
 use second::{message_of, text_of, to_text, to_wire, Refusal};
 
@@ -42,10 +43,15 @@ fn adding(record: &str) -> String {
     whole(0, 0, [0, 0, 0, 1], ["", "", "", record])
 }
 
+/// An EDNS element; each option begins with its comma.
+fn edns_element(rcode: &str, options: &str) -> String {
+    format!(
+        "{{\"EDNS\":{{\"Version\":0,\"FLAGS\":[],\"RCODE\":\"{rcode}\",\"UDPSIZE\":512{options}}}}}"
+    )
+}
+
 fn edns(options: &str) -> String {
-    adding(&format!(
-        "{{\"EDNS\":{{\"Version\":0,\"FLAGS\":[],\"RCODE\":\"NoError\",\"UDPSIZE\":512{options}}}}}"
-    ))
+    adding(&edns_element("NoError", options))
 }
 
 #[track_caller]
@@ -336,7 +342,7 @@ fn edns_rules_in_texts() {
         &whole(0, 6, [0, 0, 0, 1], ["", "", "", &element.replace("NoError", "BADCOOKIE")]),
         21,
     );
-    answer_is(&whole(0, 0, [0, 0, 0, 1], ["", "", "", &element.replace("NoError", "BADVERS")]), 20);
+    answer_is(&whole(0, 0, [0, 0, 0, 1], ["", "", "", &element.replace("NoError", "BADVERS")]), 0);
     answer_is(
         &whole(0, 0, [0, 0, 0, 1], ["", "", "", &element.replace("[]", "[\"DO\",\"DO\"]")]),
         20,
@@ -359,6 +365,72 @@ fn edns_rules_in_texts() {
         ),
         20,
     );
+}
+
+#[test]
+fn rcodes_and_their_names() {
+    // Every RCODE that the header and TTL's first octet can make.
+    for rcode in 0..4096 {
+        let (high, low) = (rcode / 16, rcode % 16);
+        let text =
+            text(&format!("0000000{low:X} 00000000 00000001 00 0029 0200 {high:02X}000000 0000"));
+        let element = match RCODES.iter().find(|(_, listed)| *listed == rcode) {
+            Some((name, _)) => edns_element(name, ""),
+            None => format!(
+                "{{\"NAME\":\".\",\"TYPE\":41,\"CLASS\":512,\"TTL\":{},\"RDATAHEX\":\"\"}}",
+                ((high as u32) << 24) as i32
+            ),
+        };
+        assert_eq!(text, whole(0, low as u32, [0, 0, 0, 1], ["", "", "", &element]));
+        answer_is(&text, 0);
+    }
+}
+
+#[test]
+fn rcode_16_is_badvers_and_not_badsig() {
+    let with_header = |id: u32, rcode: u32, name: &str| {
+        whole(id, rcode, [0, 0, 0, 1], ["", "", "", &edns_element(name, "")])
+    };
+    // A10.1: the EDNS element's RCODE. The header's is a number.
+    assert!(text("00000000 00000000 00000001 00 0029 04D0 01000000 0000")
+        .contains("\"RCODE\":\"BADVERS\""));
+    for name in ["BADVERS", "BADSIG"] {
+        let quoted = format!("\"RCODE\":\"{name}\"");
+        answer_is(&asking(".").replacen("\"RCODE\":0", &quoted, 1), 20);
+    }
+    // A10.1: the error field of TSIG is data, also beside an EDNS element of RCODE 16.
+    let tsig = "0161 00 000000000000 012C 0000 0000 0010 0000";
+    let tsig_record = format!(
+        "{{\"NAME\":\"k.\",\"TYPE\":250,\"CLASS\":255,\"TTL\":0,\"RDATAHEX\":\"{}\"}}",
+        tsig.replace(' ', "")
+    );
+    let message = format!("00000009 00000000 00000001 016B00 00FA 00FF 00000000 0013 {tsig}");
+    let expected = whole(0, 9, [0, 0, 0, 1], ["", "", "", &tsig_record]);
+    assert_eq!(text(&message), expected);
+    answer_is(&expected, 0);
+    let message = format!(
+        "00000000 00000000 00000002 00 0029 0200 01000000 0000 016B00 00FA 00FF 00000000 0013 {tsig}"
+    );
+    let records = format!("{},{tsig_record}", edns_element("BADVERS", ""));
+    let expected = whole(0, 0, [0, 0, 0, 2], ["", "", "", &records]);
+    assert_eq!(text(&message), expected);
+    answer_is(&expected, 0);
+    // BADSIG elsewhere is an ordinary string.
+    answer_is(&asking("BADSIG."), 0);
+    answer_is(&edns(",\"EDE\":{\"CODE\":1,\"TEXT\":\"BADSIG\"}"), 0);
+    // A10.2: no other name is taken.
+    for rcode in 0..16 {
+        answer_is(&with_header(0, rcode, "BADVERS"), if rcode == 0 { 0 } else { 21 });
+        answer_is(&with_header(0, rcode, "BADSIG"), 20);
+    }
+    for name in ["badsig", "badvers", "BadVers", "BADVER", "BADVERSS", "BAD\\u0056ERS"] {
+        answer_is(&with_header(0, 0, name), 20);
+    }
+    // A10.3: 20 comes before a number out of range, which is 21.
+    answer_is(&with_header(65_536, 0, "BADVERS"), 21);
+    answer_is(&with_header(65_536, 0, "BADSIG"), 20);
+    answer_is(&with_header(0, 0, "BADVERS").replacen("512", "65536", 1), 21);
+    answer_is(&with_header(0, 0, "BADSIG").replacen("512", "65536", 1), 20);
 }
 
 #[test]

@@ -87,6 +87,21 @@ pub fn opt_record(udp_size: u16, ttl: u32, rdata: &[u8]) -> Vec<u8> {
     record(&[0], 41, udp_size, ttl, rdata)
 }
 
+/// The RDATA of a TSIG record without a MAC, with this number in its error field.
+pub fn tsig_rdata(error: u16) -> Vec<u8> {
+    let time_and_fudge = [0, 0, 0x65, 0x53, 0xF1, 0, 1, 44];
+    let no_mac = [0, 0];
+    let original_id = [0x12, 0x34];
+    let no_other_data = [0, 0];
+    let mut octets = name("hmac-sha256");
+    octets.extend(time_and_fudge);
+    octets.extend(no_mac);
+    octets.extend(original_id);
+    octets.extend(error.to_be_bytes());
+    octets.extend(no_other_data);
+    octets
+}
+
 pub fn option(code: u16, value: &[u8]) -> Vec<u8> {
     [&code.to_be_bytes(), &(value.len() as u16).to_be_bytes(), value].concat()
 }

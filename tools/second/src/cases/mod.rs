@@ -7,6 +7,9 @@ mod towire;
 
 use std::collections::HashSet;
 
+/// The kind of the cases about RCODE 16, in both lists.
+const RCODE_16: &str = "RCODE 16";
+
 /// The lines of one kind of case.
 pub struct Group {
     pub kind: &'static str,

@@ -3,7 +3,7 @@
 use std::slice::from_ref;
 
 use super::build::*;
-use super::Group;
+use super::{Group, RCODE_16};
 use crate::generate;
 use crate::lines::hex_of_octets;
 use crate::random::Random;
@@ -13,7 +13,7 @@ type Messages = Vec<Vec<u8>>;
 type Lines = Vec<Vec<u8>>;
 
 pub fn groups() -> Vec<Group> {
-    let of_messages: [(&'static str, Messages); 29] = [
+    let of_messages: [(&'static str, Messages); 30] = [
         ("worked and marked examples", examples()),
         ("truncations", truncations()),
         ("pointer targets", pointer_targets()),
@@ -37,6 +37,7 @@ pub fn groups() -> Vec<Group> {
         ("options that don't divide", options_that_do_not_divide()),
         ("EDNS conditions", edns_conditions()),
         ("EDNS RCODEs", edns_rcodes()),
+        (RCODE_16, rcode_16()),
         ("TTL and number edges", number_edges()),
         ("octets in labels", octets_in_labels()),
         ("look-alike labels", look_alike_labels()),
@@ -598,6 +599,58 @@ fn edns_rcodes() -> Messages {
         for high in [0, 1, 2, 255] {
             messages.push(additional(rcode, &[opt_record(1232, high << 24, &[])]));
         }
+    }
+    messages
+}
+
+/// RCODE 16 in EDNS elements and in TYPE 41 records that are none, and 16 in
+/// the error field of TSIG records.
+fn rcode_16() -> Messages {
+    let options = [option(3, b"n"), option(15, b"\x00\x00BADSIG"), option(20, &[16])];
+    let mut messages = Vec::new();
+    // With and without DO; then with version 1 and with other flags.
+    for rest in [0, 0x8000, 0x0001_0000, 0x0001_8000, 0x4000, 0xC000, 1] {
+        for rdata in [vec![], options.concat()] {
+            messages.push(additional(0x8000, &[opt_record(1232, 0x0100_0000 | rest, &rdata)]));
+        }
+    }
+    // Options that don't rise, and RDATA that doesn't divide.
+    let [nsid, ede, _] = options;
+    for rdata in [[ede, nsid.clone()].concat(), [nsid, vec![0]].concat()] {
+        messages.push(additional(0x8000, &[opt_record(1232, 0x0100_0000, &rdata)]));
+    }
+    // Owners: the root by a pointer, and a label.
+    let query = [question(&name("q"), 1, 1)];
+    for owner in [pointer(14), name("o")] {
+        let record = record(&owner, 41, 1232, 0x0100_0000, &[]);
+        messages.push(message(0x8000, &query, [&[], &[], &[record]]));
+    }
+    // Two of them, also with one in another section.
+    let good = opt_record(1232, 0x0100_8000, &[]);
+    let one = from_ref(&good);
+    messages.push(additional(0x8000, &[good.clone(), good.clone()]));
+    messages.push(additional(0x8000, &[good.clone(), opt_record(1232, 0x0101_0000, &[])]));
+    messages.push(message(0x8000, &[], [one, &[], &[]]));
+    messages.push(message(0x8000, &[], [&[], one, one]));
+    // TSIG records alone and beside RCODE 0, 9, 16 and 25 in the TYPE 41 record.
+    let tsig = record(&name("key"), 250, 255, 0, &tsig_rdata(16));
+    messages.push(additional(0x8009, from_ref(&tsig)));
+    for flags in [0x8000, 0x8009] {
+        for high in [0, 1] {
+            let opt = opt_record(1232, high << 24, &[]);
+            messages.push(additional(flags, &[opt.clone(), tsig.clone()]));
+            messages.push(additional(flags, &[tsig.clone(), opt]));
+        }
+    }
+    // Both names as labels.
+    messages.push(asking(&name("BADSIG.BADVERS")));
+    // The longest text that `totext` prints, and one more octet.
+    let element = "{\"EDNS\":{\"Version\":0,\"FLAGS\":[],\"RCODE\":\"BADVERS\",\"UDPSIZE\":1232}}";
+    for length in [65_536, 65_537] {
+        let mut long = message_with_text_of(length - element.len());
+        long.extend(opt_record(1232, 0x0100_0000, &[]));
+        long[11] = 1;
+        messages.push(long);
     }
     messages
 }

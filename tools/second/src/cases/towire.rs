@@ -2,8 +2,8 @@
 
 use std::collections::HashSet;
 
-use super::build::{message as wire_message, name_of, opt_record, rich_message};
-use super::{totext_groups, Group};
+use super::build::{message as wire_message, name_of, opt_record, rich_message, tsig_rdata};
+use super::{totext_groups, Group, RCODE_16};
 use crate::generate;
 use crate::lines::{hex_of_octets, octets_of_hex, LINE_TEXT};
 use crate::random::Random;
@@ -12,8 +12,11 @@ use crate::text_of;
 type Texts = Vec<String>;
 
 pub fn groups() -> Vec<Group> {
+    // The texts of RCODE 16 are a kind of their own, so that a choice of cases keeps them all.
+    let is_rcode_16 = |group: &Group| group.kind == RCODE_16;
+    let (of_rcode_16, of_others) = totext_groups().into_iter().partition(is_rcode_16);
     let mut groups = vec![
-        Group { kind: "texts of the totext cases", lines: texts_of_totext_cases() },
+        Group { kind: "texts of the totext cases", lines: texts_of_cases(of_others) },
         Group { kind: "a rich text cut", lines: cut_texts() },
         Group { kind: "a rich text, one octet changed", lines: changed_texts() },
         Group { kind: "a rich text, one octet inserted", lines: inserted_texts() },
@@ -22,7 +25,7 @@ pub fn groups() -> Vec<Group> {
         Group { kind: "octets in EDE texts", lines: octets_in_ede_texts() },
         Group { kind: "octets in hex strings", lines: octets_in_hex() },
     ];
-    let of_texts: [(&'static str, Texts); 22] = [
+    let of_texts: [(&'static str, Texts); 23] = [
         ("members left out, doubled, swapped", members_moved()),
         ("numbers", numbers()),
         ("numbers in lists", numbers_in_lists()),
@@ -40,6 +43,7 @@ pub fn groups() -> Vec<Group> {
         ("OPTn by code", option_codes()),
         ("pairs of options", option_pairs()),
         ("EDNS RCODEs", edns_rcodes()),
+        (RCODE_16, rcode_16()),
         ("EDNS members", edns_members()),
         ("EDNS and TYPE 41 records", edns_beside_records()),
         ("sizes", sizes()),
@@ -50,6 +54,7 @@ pub fn groups() -> Vec<Group> {
         kind,
         lines: texts.into_iter().map(String::into_bytes).collect(),
     }));
+    groups.push(Group { kind: "texts of RCODE 16", lines: texts_of_cases(of_rcode_16) });
     groups.push(Group { kind: "random texts", lines: random_texts() });
     groups.push(Group { kind: "line ends", lines: line_ends() });
     groups
@@ -141,8 +146,9 @@ fn rich_text() -> Vec<u8> {
     text_of(&rich_message()).expect("the rich message is right")
 }
 
-fn texts_of_totext_cases() -> Vec<Vec<u8>> {
-    let lines = totext_groups().into_iter().flat_map(|group| group.lines);
+/// The texts of cases for `totext`.
+fn texts_of_cases(groups: Vec<Group>) -> Vec<Vec<u8>> {
+    let lines = groups.into_iter().flat_map(|group| group.lines);
     let messages = lines.filter_map(|line| octets_of_hex(&line));
     let texts = messages.filter_map(|message| text_of(&message).ok());
     let mut seen = HashSet::new();
@@ -829,27 +835,99 @@ fn option_pairs() -> Texts {
     texts
 }
 
-const RCODE_NAMES: [&str; 20] = [
-    "NoError", "FormErr", "ServFail", "NXDomain", "NotImp", "Refused", "YXDomain", "YXRRSet",
-    "NXRRSet", "NotAuth", "NotZone", "DSOTYPENI", "BADSIG", "BADKEY", "BADTIME", "BADMODE",
-    "BADNAME", "BADALG", "BADTRUNC", "BADCOOKIE",
-];
-
 fn edns_rcodes() -> Texts {
     let with_rcode = |rcode: u32, name: &str| {
         Parts { rcode: rcode.to_string(), additional: vec![edns(name, "")], ..Parts::empty() }
             .text()
     };
     let mut texts = Vec::new();
-    for name in RCODE_NAMES {
+    for (name, _) in generate::RCODES {
         texts.extend((0..=16).map(|rcode| with_rcode(rcode, name)));
         texts.push(with_rcode(0, &name.to_lowercase()));
         texts.push(with_rcode(0, &name[1..]));
         texts.push(with_rcode(0, &format!("{name} ")));
     }
-    for name in ["", "BADVERS", "0", "NOERROR", "16", "RCODE12", "NoError\\", "NoError\",\"NoError"]
+    for name in ["", "BADSIG", "0", "NOERROR", "16", "RCODE12", "NoError\\", "NoError\",\"NoError"]
     {
         texts.push(with_rcode(0, name));
+    }
+    texts
+}
+
+/// BADVERS, the name of RCODE 16, and BADSIG, which is no name of an RCODE.
+fn rcode_16() -> Texts {
+    let with_header_rcode = |rcode: &str, additional: Vec<String>| {
+        Parts { rcode: rcode.to_string(), additional, ..Parts::empty() }.text()
+    };
+    let mut texts = Vec::new();
+    for name in ["BADVERS", "BADSIG"] {
+        let plain = edns(name, "");
+        let with_do = plain.replacen("[]", "[\"DO\"]", 1);
+        texts.push(adding(&[with_do]));
+        texts.push(adding(&[edns(name, ",\"NSID\":{\"HEX\":\"16\"},\"OPT16\":\"\"")]));
+        // Faults beside the name: 21, then 22 and 23, each one of them 20 with BADSIG.
+        for (from, to) in [
+            ("\"ID\":1", "\"ID\":65536"),
+            ("\"ARCOUNT\":1", "\"ARCOUNT\":2"),
+            ("\"Version\":0", "\"Version\":1"),
+            ("\"UDPSIZE\":512", "\"UDPSIZE\":65536"),
+        ] {
+            texts.push(adding(&[plain.clone()]).replacen(from, to, 1));
+        }
+        for length in ["65536", "5000"] {
+            texts.push(adding(&[edns(name, &format!(",\"PADDING\":{{\"LENGTH\":{length}}}"))]));
+        }
+        // Names in the place of the header's number.
+        for rcode in [name.to_string(), format!("\"{name}\"")] {
+            texts.push(with_header_rcode(&rcode, vec![]));
+            texts.push(with_header_rcode(&rcode, vec![plain.clone()]));
+        }
+    }
+    // No header's RCODE fits BADSIG.
+    for rcode in ["1", "9", "15", "16"] {
+        texts.push(with_header_rcode(rcode, vec![edns("BADSIG", "")]));
+    }
+    // Other letter cases, beginnings, longer names, escapes, two names.
+    for name in [
+        "badsig", "BadSig", "BADSIg", "BadVers", "BADVERs", "B", "BAD", "BADV", "BADVER", "BADSI",
+        "BADVERSS", "BADVERSION", "BADSIGS", "BADVERSBADSIG", "BAD\\u0056ERS", "\\u0042ADVERS",
+        "BADVER\\u0053", "BAD\\u0053IG", "BAD\\\\086ERS", "BAD\\VERS", "BADVERS\\", "BADVERS\\\"",
+        "BADVERS\",\"BADSIG", "BADVERS\",\"RCODE\":\"BADSIG", "BADSIG\",\"RCODE\":\"BADVERS",
+    ] {
+        texts.push(adding(&[edns(name, "")]));
+    }
+    // One letter changed.
+    for place in 0..7 {
+        let mut name = "BADVERS".to_string();
+        name.replace_range(place..place + 1, "X");
+        texts.push(adding(&[edns(&name, "")]));
+    }
+    // Not a string.
+    for value in ["BADVERS", "[\"BADVERS\"]", "16", "\"BADVERS", "BADVERS\""] {
+        texts.push(adding(&[edns("BADVERS", "").replacen("\"BADVERS\"", value, 1)]));
+    }
+    // Ordinary strings and names, which are carried unchanged.
+    for text in ["BADSIG", "BADVERS", "\\\"RCODE\\\":\\\"BADSIG\\\""] {
+        let ede = format!(",\"EDE\":{{\"CODE\":16,\"TEXT\":\"{text}\"}}");
+        texts.push(with_options(&ede));
+        texts.push(adding(&[edns("BADVERS", &ede)]));
+    }
+    texts.push(asking("BADSIG."));
+    texts.push(answering(&[record("badsig.BADVERS.", "16", "0", &hex(b"\x06BADSIG"))]));
+    // Beside a second one, and as ordinary records: with DO, other flags, two of them.
+    let opt = |ttl: u32| record(".", "41", &ttl.to_string(), "");
+    texts.push(adding(&[edns("BADVERS", ""), edns("BADVERS", "")]));
+    texts.push(adding(&[edns("BADVERS", ""), edns("BADSIG", "")]));
+    texts.push(adding(&[edns("BADVERS", ""), opt(0x0100_0000)]));
+    texts.push(adding(&[opt(0x0100_8000)]));
+    texts.push(adding(&[opt(0x0100_4000)]));
+    texts.push(adding(&[opt(0x0100_0000), opt(0x0100_8000)]));
+    // Beside a TSIG record with 16 in its error field.
+    let tsig = record("key.", "250", "0", &hex(&tsig_rdata(16)));
+    let tsig = tsig.replacen("\"CLASS\":1", "\"CLASS\":255", 1);
+    texts.push(with_header_rcode("9", vec![tsig.clone()]));
+    for (rcode, name) in [("9", "NotAuth"), ("0", "BADVERS"), ("9", "BADVERS"), ("9", "BADSIG")] {
+        texts.push(with_header_rcode(rcode, vec![edns(name, ""), tsig.clone()]));
     }
     texts
 }

@@ -5,4 +5,4 @@ mod messages;
 mod texts;
 
 pub use messages::{damaged_message, message, message_of_size, valid_message};
-pub use texts::{damaged_text, drafted_text, harmed_text, text, valid_text};
+pub use texts::{damaged_text, drafted_text, harmed_text, text, valid_text, RCODES};

@@ -96,7 +96,9 @@ pub fn drafted_text(random: &mut Random) -> Vec<u8> {
     }
 }
 
-const RCODES: [(&str, u64); 20] = [
+/// The RCODEs with a name, rising. This list is not taken from the program's
+/// own table, so the tests compare the two.
+pub const RCODES: [(&str, u64); 20] = [
     ("NoError", 0),
     ("FormErr", 1),
     ("ServFail", 2),
@@ -109,7 +111,7 @@ const RCODES: [(&str, u64); 20] = [
     ("NotAuth", 9),
     ("NotZone", 10),
     ("DSOTYPENI", 11),
-    ("BADSIG", 16),
+    ("BADVERS", 16),
     ("BADKEY", 17),
     ("BADTIME", 18),
     ("BADMODE", 19),
@@ -321,7 +323,12 @@ impl Scribe<'_> {
     }
 
     fn edns(&mut self, rcode: &str) -> String {
-        let version = if self.slip() { "1" } else { "0" };
+        // On a slip version 1, or for RCODE 16 the name that format 1 had.
+        let (version, rcode) = match (self.slip(), rcode) {
+            (true, "BADVERS") => ("0", "BADSIG"),
+            (true, _) => ("1", rcode),
+            (false, _) => ("0", rcode),
+        };
         let flags = if self.random.one_in(2) { "[]" } else { "[\"DO\"]" };
         let udp_size = self.number(65_535);
         let options = self.options().concat();
