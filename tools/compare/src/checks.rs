@@ -28,7 +28,7 @@ pub fn agree(message: &[u8], before: &[u8]) -> Result<(), String> {
     same(proved::to_text, second::to_text, message, before).map_err(|fault| format!("{message:02X?}: {fault}"))
 }
 
-fn agree_on_text(text: &[u8], before: &[u8]) -> Result<(), String> {
+pub fn agree_on_text(text: &[u8], before: &[u8]) -> Result<(), String> {
     same(proved::to_wire, second::to_wire, text, before)
         .map_err(|fault| format!("{} in {} octets: {fault}", String::from_utf8_lossy(text), before.len()))
 }

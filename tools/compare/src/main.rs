@@ -13,6 +13,8 @@ fn check(seed: u64, count: usize) -> Result<(), String> {
     println!("tails of small messages: {} cuts agree", worlds::every_tail()?);
     println!("pointer targets in short messages: {} agree", worlds::every_target()?);
     println!("labels of one or two octets: {} agree", worlds::every_label()?);
+    println!("RCODEs: {} agree", worlds::every_rcode()?);
+    println!("names of RCODEs and their neighbours: {} agree", worlds::every_rcode_name()?);
     println!("random texts: {} agree", checks::random_texts(seed, count)?);
     println!("texts of large messages: {} agree", checks::large_texts(seed, count / 200)?);
     println!("texts padded to the limits: {} agree", checks::padded_texts(seed, count / 20)?);

@@ -1,8 +1,9 @@
-//! Small worlds, every message of which is compared: tails over a few octets at every cut, every pointer target against
-//! short messages, and every label of one or two octets.
+//! Small worlds, every message or text of which is compared: tails over a few octets at every cut, every pointer target
+//! against short messages, every label of one or two octets, every RCODE, and every name of one with its neighbours.
 
-use crate::checks::{agree, words};
+use crate::checks::{agree, agree_on_text, words};
 use crate::proved;
+use second::generate;
 
 /// Lengths, label octets, pointers and reserved bits.
 const ALPHABET: [u8; 12] = [0, 1, 2, 12, 13, 63, 64, 128, 192, 193, 255, b'a'];
@@ -65,18 +66,75 @@ pub fn every_target() -> Result<usize, String> {
     Ok(compared)
 }
 
-/// Every label of one or two octets as a question's name: in a buffer with room to spare, in one of the text's length
-/// and in one that is an octet shorter, so that the widths of any two octets are written and measured.
+/// Every label of one or two octets as a question's name, so that the widths of any two octets are written and measured.
 pub fn every_label() -> Result<usize, String> {
     let octets: Vec<u8> = (0..=255).collect();
     let mut compared = 0;
     for label in words(&octets, 2).iter().filter(|label| !label.is_empty()) {
         let name = [&[label.len() as u8][..], label, &[0]].concat();
-        let message = [&header(1, 0)[..], &name, &[0, 1, 0, 1]].concat();
-        let text = second::text_of(&message).map_err(|refusal| format!("{message:02X?}: {refusal:?}"))?;
-        for room in [LEFTOVERS.len(), text.len(), text.len() - 1] {
-            agree(&message, &LEFTOVERS[..room])?;
-            compared += 1;
+        compared += in_three_rooms(&[&header(1, 0)[..], &name, &[0, 1, 0, 1]].concat())?;
+    }
+    Ok(compared)
+}
+
+/// An accepted message, in a buffer with room to spare, in one of the text's length and in one that is an octet shorter.
+fn in_three_rooms(message: &[u8]) -> Result<usize, String> {
+    let length = text_of(message)?.len();
+    let rooms = [LEFTOVERS.len(), length, length - 1];
+    for room in rooms {
+        agree(message, &LEFTOVERS[..room])?;
+    }
+    Ok(rooms.len())
+}
+
+fn text_of(message: &[u8]) -> Result<String, String> {
+    let text = second::text_of(message).map_err(|refusal| format!("{message:02X?}: {refusal:?}"))?;
+    String::from_utf8(text).map_err(|fault| format!("{message:02X?}: {fault}"))
+}
+
+/// A message whose only record is TYPE 41 in the additional section, with this RCODE and these flags.
+fn extended(rcode: u16, flags: u16) -> Vec<u8> {
+    let [high, low] = flags.to_be_bytes();
+    let header = [0, 0, 0, (rcode % 16) as u8, 0, 0, 0, 0, 0, 0, 0, 1];
+    let record = [0, 0, 41, 4, 208, (rcode / 16) as u8, 0, high, low, 0, 0];
+    [&header[..], &record].concat()
+}
+
+/// Every RCODE that 4 bits of the header and 8 of the TTL can say, with and without DO.
+pub fn every_rcode() -> Result<usize, String> {
+    let mut compared = 0;
+    for rcode in 0..4096 {
+        for flags in [0, 0x8000] {
+            compared += in_three_rooms(&extended(rcode, flags))?;
+        }
+    }
+    Ok(compared)
+}
+
+/// Every name of an RCODE, and BADSIG, which format 1 had for 16: with every RCODE of the header; and, with the one that
+/// belongs to it, cut short at each place, with each octet in the place of one of its own, and with each octet inserted.
+pub fn every_rcode_name() -> Result<usize, String> {
+    let text = text_of(&extended(0, 0))?;
+    let (start, end) = text.split_once("NoError").ok_or("the text of RCODE 0 has another name")?;
+    let mut compared = 0;
+    let mut compare = |rcode: u64, name: &[u8]| {
+        let start = start.replacen("\"RCODE\":0", &format!("\"RCODE\":{rcode}"), 1);
+        compared += 1;
+        agree_on_text(&[start.as_bytes(), name, end.as_bytes()].concat(), &LEFTOVERS)
+    };
+    for (name, number) in generate::RCODES.into_iter().chain([("BADSIG", 16)]) {
+        for rcode in 0..=16 {
+            compare(rcode, name.as_bytes())?;
+        }
+        for place in 0..=name.len() {
+            let (before, after) = name.as_bytes().split_at(place);
+            compare(number % 16, before)?;
+            for octet in 0..=255 {
+                compare(number % 16, &[before, &[octet], after].concat())?;
+                if let [_, after @ ..] = after {
+                    compare(number % 16, &[before, &[octet], after].concat())?;
+                }
+            }
         }
     }
     Ok(compared)
