@@ -59,8 +59,8 @@ pub const OPT: u16 = 41;
 /// The flag bits an EDNS element can show.
 pub const DO_BIT: u16 = 0x8000;
 
-/// The RCODEs with a name, rising. Change request A10 made 16 BADVERS; BADSIG
-/// is no name of an RCODE.
+/// The RCODEs with a name, rising. Change request A10 made 16 BADVERS, where
+/// it was BADSIG.
 const RCODE_NAMES: [(u16, &[u8]); 20] = [
     (0, b"NoError"),
     (1, b"FormErr"),

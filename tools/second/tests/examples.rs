@@ -391,14 +391,14 @@ fn rcode_16_is_badvers_and_not_badsig() {
     let with_header = |id: u32, rcode: u32, name: &str| {
         whole(id, rcode, [0, 0, 0, 1], ["", "", "", &edns_element(name, "")])
     };
-    // A10.1: the EDNS element's RCODE. The header's is a number.
+    // The EDNS element's RCODE. The header's is a number.
     assert!(text("00000000 00000000 00000001 00 0029 04D0 01000000 0000")
         .contains("\"RCODE\":\"BADVERS\""));
     for name in ["BADVERS", "BADSIG"] {
         let quoted = format!("\"RCODE\":\"{name}\"");
         answer_is(&asking(".").replacen("\"RCODE\":0", &quoted, 1), 20);
     }
-    // A10.1: the error field of TSIG is data, also beside an EDNS element of RCODE 16.
+    // The error field of TSIG is data, also beside an EDNS element of RCODE 16.
     let tsig = "0161 00 000000000000 012C 0000 0000 0010 0000";
     let tsig_record = format!(
         "{{\"NAME\":\"k.\",\"TYPE\":250,\"CLASS\":255,\"TTL\":0,\"RDATAHEX\":\"{}\"}}",
@@ -418,7 +418,7 @@ fn rcode_16_is_badvers_and_not_badsig() {
     // BADSIG elsewhere is an ordinary string.
     answer_is(&asking("BADSIG."), 0);
     answer_is(&edns(",\"EDE\":{\"CODE\":1,\"TEXT\":\"BADSIG\"}"), 0);
-    // A10.2: no other name is taken.
+    // No other name is taken.
     for rcode in 0..16 {
         answer_is(&with_header(0, rcode, "BADVERS"), if rcode == 0 { 0 } else { 21 });
         answer_is(&with_header(0, rcode, "BADSIG"), 20);
@@ -426,7 +426,7 @@ fn rcode_16_is_badvers_and_not_badsig() {
     for name in ["badsig", "badvers", "BadVers", "BADVER", "BADVERSS", "BAD\\u0056ERS"] {
         answer_is(&with_header(0, 0, name), 20);
     }
-    // A10.3: 20 comes before a number out of range, which is 21.
+    // 20 comes before a number out of range, which is 21.
     answer_is(&with_header(65_536, 0, "BADVERS"), 21);
     answer_is(&with_header(65_536, 0, "BADSIG"), 20);
     answer_is(&with_header(0, 0, "BADVERS").replacen("512", "65536", 1), 21);

@@ -854,7 +854,7 @@ fn edns_rcodes() -> Texts {
     texts
 }
 
-/// BADVERS, the name of RCODE 16, and BADSIG, which is no name of an RCODE.
+/// BADVERS, the name of RCODE 16, and BADSIG, which was its name in format 1.
 fn rcode_16() -> Texts {
     let with_header_rcode = |rcode: &str, additional: Vec<String>| {
         Parts { rcode: rcode.to_string(), additional, ..Parts::empty() }.text()
