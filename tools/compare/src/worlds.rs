@@ -8,7 +8,7 @@ use second::generate;
 /// Lengths, label octets, pointers and reserved bits.
 const ALPHABET: [u8; 12] = [0, 1, 2, 12, 13, 63, 64, 128, 192, 193, 255, b'a'];
 
-/// What the text buffers hold before a call.
+/// What the buffers hold before a call.
 const LEFTOVERS: [u8; 1024] = [0xA5; 1024];
 
 /// The header with these counts of questions and answers.
@@ -66,7 +66,7 @@ pub fn every_target() -> Result<usize, String> {
     Ok(compared)
 }
 
-/// Every label of one or two octets as a question's name, so that the widths of any two octets are written and measured.
+/// Every label of one or two octets as a question's name, so that the widths of any two are written and measured.
 pub fn every_label() -> Result<usize, String> {
     let octets: Vec<u8> = (0..=255).collect();
     let mut compared = 0;
@@ -77,7 +77,7 @@ pub fn every_label() -> Result<usize, String> {
     Ok(compared)
 }
 
-/// An accepted message, in a buffer with room to spare, in one of the text's length and in one that is an octet shorter.
+/// An accepted message: in a buffer with room to spare, in one of the text's length, and in one an octet shorter.
 fn in_three_rooms(message: &[u8]) -> Result<usize, String> {
     let length = text_of(message)?.len();
     let rooms = [LEFTOVERS.len(), length, length - 1];
@@ -100,19 +100,21 @@ fn extended(rcode: u16, flags: u16) -> Vec<u8> {
     [&header[..], &record].concat()
 }
 
-/// Every RCODE that 4 bits of the header and 8 of the TTL can say, with and without DO.
+/// Every RCODE that 4 bits of the header and 8 of the TTL can say, with and without DO, to text and back.
 pub fn every_rcode() -> Result<usize, String> {
     let mut compared = 0;
     for rcode in 0..4096 {
         for flags in [0, 0x8000] {
-            compared += in_three_rooms(&extended(rcode, flags))?;
+            let message = extended(rcode, flags);
+            compared += in_three_rooms(&message)? + 1;
+            agree_on_text(text_of(&message)?.as_bytes(), &LEFTOVERS)?;
         }
     }
     Ok(compared)
 }
 
-/// Every name of an RCODE, and BADSIG, which format 1 had for 16: with every RCODE of the header; and, with the one that
-/// belongs to it, cut short at each place, with each octet in the place of one of its own, and with each octet inserted.
+/// Every name of an RCODE, and BADSIG, which format 1 had for 16: with every RCODE of the header; and with the one that
+/// belongs to it, cut short at each place, with each octet in place of one of its own, and with each octet inserted.
 pub fn every_rcode_name() -> Result<usize, String> {
     let text = text_of(&extended(0, 0))?;
     let (start, end) = text.split_once("NoError").ok_or("the text of RCODE 0 has another name")?;
