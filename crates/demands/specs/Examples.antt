@@ -16,8 +16,8 @@ use Rattle.spelling.specs.Spelling.{stringText, signed}
 use Rattle.options.specs.Options.{rows, members, syntaxOf, valueText, words, shape, memberOf, memberText}
 use Rattle.edns.specs.Edns.{optionForm, divided, optionsOf, rising?, rcodes, ednsOf, flags, ednsText, ednsItem}
 use Rattle.json.specs.View.{additionalOf, viewOf}
-use Rattle.json.specs.Document.{questionText, recordText, itemText, headText, documentText}
-use Rattle.json.specs.Sample.{textWith}
+use Rattle.json.specs.Document.{questionText, recordText, itemText, adTitles, headText, documentText}
+use Rattle.json.specs.Sample.{textWith, emptyAmid}
 use Rattle.json.specs.Text.{recordItem, item, documentOf, viewText, text}
 use Rattle.json.specs.Converted.{converted, toText}
 use Rattle.octets.specs.Answer.{Output, output, refused}
@@ -39,8 +39,8 @@ examples =
     ∷ record { message = "000000000000000000000000"; gives = says "0" "0" "0" "0" "" "" "" }
     -- a 13th octet after them: 8 at 12
     ∷ record { message = "00000000000000000000000000"; gives = refused 8 12 }
-    -- Z alone set in 12 octets: 3
-    ∷ record { message = "000000400000000000000000"; gives = refused 3 0 }
+    -- Z alone set in 12 octets: accepted, `"Z":1` between RA and AD, four empty arrays
+    ∷ record { message = "000000400000000000000000"; gives = output (emptyAmid "" ",\"Z\":1" "") }
     -- TTL FFFFFFFF is -1
     ∷ record {
       message = "0000000000000001000000000000010001FFFFFFFF0000";
@@ -93,5 +93,5 @@ examples =
 -- every example, computed
 pub examples-hold : map (λ (e : Example). converted (hexed (e .message))) examples ≡ map
     (λ (e : Example). e .gives) examples
-unfolding examples lookup key? rowText decimal hexText nameForm walk nameFrom layouts layoutOf pieces rdataAt questionForm recordForm each headerForm form firstCut questionAt recordAt sectionAt sectionFrom headerOf sectionsOf messageRead decode plain? spelled labelText nameText signedText printable? stringOctet stringText rows members syntaxOf valueText words shape memberOf memberText optionForm divided optionsOf rising? rcodes ednsOf additionalOf viewOf questionText recordText flags ednsText itemText headText documentText signed recordItem ednsItem item documentOf viewText text converted toText
+unfolding examples lookup key? rowText decimal hexText nameForm walk nameFrom layouts layoutOf pieces rdataAt questionForm recordForm each headerForm form firstCut questionAt recordAt sectionAt sectionFrom headerOf sectionsOf messageRead decode plain? spelled labelText nameText signedText printable? stringOctet stringText rows members syntaxOf valueText words shape memberOf memberText optionForm divided optionsOf rising? rcodes ednsOf additionalOf viewOf questionText recordText flags ednsText itemText adTitles headText documentText signed recordItem ednsItem item documentOf viewText text converted toText
 examples-hold = refl

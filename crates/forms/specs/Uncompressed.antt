@@ -4,7 +4,7 @@ use mathlib.Core.Bool.{Bool, true, false, cond}
 use mathlib.Core.List.{List, [], _∷_, _++_, append-assoc}
 use Prim.Native.Nat.{ℕ, zero, suc, _+_, _*_, _/_, _%_, _≤_, _<_}
 use native.Mathlib.Omega.{arith}
-use borrow.Author.Tests.{le-leb, lt-leb, le-ltb, lt-ltb, ne-eqb}
+use borrow.Author.Tests.{le-leb, lt-leb, le-ltb, lt-ltb}
 use lib.Dec.{leb, ltb, eqb}
 use lib.ListN.{length, getD, take}
 use lib.Seq.{take-suc}
@@ -20,7 +20,7 @@ use Rattle.names.specs.declared.Fault.{Fault as FaultRead}
 use Rattle.records.specs.Message.{questionForm, recordForm, headerForm, form, opt?}
 use Rattle.records.specs.Read.{Entry, entry, bad, questionAt, recordAt, Reached, reached, stopped, sectionAt}
 use Rattle.records.specs.Read.{sectionFrom}
-use Rattle.records.specs.Decode.{headerOf, zOf, sectionsOf, messageRead, Decoded, accepted, refused, decode}
+use Rattle.records.specs.Decode.{headerOf, sectionsOf, messageRead, Decoded, accepted, refused, decode}
 use Rattle.records.proofs.MessageLaws.{section-step, section-stop}
 use Rattle.records.proofs.Kept.{header-same}
 use Rattle.forms.specs.Putting.{Part, mapped, questionPart, recordPart, partAt, Run, ran, halted, partThen}
@@ -166,18 +166,18 @@ faultIn d (halted at fault) = fault
 halted≢ran : {at : ℕ} {fault : Fault} {l : List ℕ} {i n : ℕ} → halted at fault ≡ ran l i n → ⊥
 halted≢ran e = subst Ran (sym e) tt
 
-module _ (s : List ℕ) (small : length s ≤ 65535) (room : 12 ≤ length s) (clear : zOf s ≡ 1 → ⊥) where
+module _ (s : List ℕ) (small : length s ≤ 65535) (room : 12 ≤ length s) where
   decode-reached : (i : ℕ) → sectionsOf s .additional .end ≡ reached i
       → decode s ≡ cond (ltb i (length s)) (refused 8 i)
       (cond (ltb 65535 (length (form (messageRead s)))) (refused 9 0) (accepted (messageRead s)))
   unfolding decode
-  decode-reached i e = rw (le-ltb 65535 (length s) small, le-ltb (length s) 12 room, ne-eqb (zOf s) 1 clear, e, decode)
+  decode-reached i e = rw (le-ltb 65535 (length s) small, le-ltb (length s) 12 room, e, decode)
 
   decode-stopped : (i : ℕ) (fault : Fault) → sectionsOf s .additional .end ≡ stopped i fault
       → decode s ≡ refused (refusalNumber (fault .kind)) i
   unfolding decode
   decode-stopped i fault e =
-      rw (le-ltb 65535 (length s) small, le-ltb (length s) 12 room, ne-eqb (zOf s) 1 clear, e, decode)
+      rw (le-ltb 65535 (length s) small, le-ltb (length s) 12 room, e, decode)
 
   -- the run where reading met a fault, and where it met none
   run-stopped : (j : ℕ) (fault : Fault) → sectionsOf s .additional .end ≡ stopped j fault
@@ -225,7 +225,7 @@ module _ (s : List ℕ) (small : length s ≤ 65535) (room : 12 ≤ length s) (c
           let run : ran l i n ≡ ran (h ++ (a ++ (b ++ (c ++ d)))) j (count opt? (sectionsOf s .additional .entries)) =
           sym e ∙ run-reached j q in
           let text : form (messageRead s) ≡ l =
-          ap (λ (x : List ℕ). x ++ a ++ b ++ c ++ d) (header-same s j o room clear q)
+          ap (λ (x : List ℕ). x ++ a ++ b ++ c ++ d) (header-same s j o room q)
           ∙ append-assoc (h ++ a ++ b) c d ∙ append-assoc (h ++ a) b (c ++ d) ∙ append-assoc h a (b ++ (c ++ d))
           ∙ sym (ap textOf run) in
           record {
@@ -254,11 +254,6 @@ module _ (s b : List ℕ) {r : Scan} where
   unfolding decode
   too-short h k p = refusing 1 0 (rw (le-ltb 65535 (length s) h, lt-ltb (length s) 12 k)) p refl
 
-  -- Z is set
-  pub z-set : length s ≤ 65535 → 12 ≤ length s → zOf s ≡ 1 → r ≡ scanOf (refused 3 0) → Uncompressed s b r b
-  unfolding decode
-  z-set h k z p = refusing 3 0 (rw (le-ltb 65535 (length s) h, le-ltb (length s) 12 k, z)) p refl
-
 -- what the answer of a run says
 told-ran : {u : Run} {b b′ : List ℕ} {to at size m : ℕ} → WritesSection 0 u b to b′ (sectionEnd.To at size m)
     → (l : List ℕ) × (n : ℕ) × (u ≡ ran l at n) × (m ≡ 0 + n) × Wrote b to l b′ size
@@ -277,18 +272,17 @@ told-again {b = b} {b′ = b′} {to = to} l at n (runs {r = r} q v) e =
     (r, subst (λ (x : List ℕ). Wrote b to x b′ r) (ap textOf e) v)
 told-again l at n halts e = absurd (halted≢ran e)
 
--- The first run: over octets within the limits of size, with Z clear, it leaves e of the empty part and answers x.
+-- The first run: over octets within the limits of size it leaves e of the empty part and answers x.
 pub record FirstRun (s e : List ℕ) (x : SectionEnd) : Type 0 where
   pub ran : WritesSection 0 (messageRun s) [] 0 e x
   pub none : length e ≡ 0
   pub octets : (j : ℕ) → Fits w8 (getD s j 0)
   pub small : length s ≤ 65535
   pub room : 12 ≤ length s
-  pub clear : zOf s ≡ 1 → ⊥
 
 module _ (s b e : List ℕ) {x : SectionEnd} (f : FirstRun s e x) where
-  decoded : (l : List ℕ) (at n : ℕ) → messageRun s ≡ ran l at n → Whole s (f .small) (f .room) (f .clear) l at n
-  decoded l at n u = decode-ran s (f .small) (f .room) (f .clear) (λ j. f .octets j .fits) l at n u
+  decoded : (l : List ℕ) (at n : ℕ) → messageRun s ≡ ran l at n → Whole s (f .small) (f .room) l at n
+  decoded l at n u = decode-ran s (f .small) (f .room) (λ j. f .octets j .fits) l at n u
 
   same-buffer : e ++ b ≡ b
   same-buffer = ap (λ (y : List ℕ). y ++ b) (empty e (f .none))
@@ -298,7 +292,7 @@ module _ (s b e : List ℕ) {x : SectionEnd} (f : FirstRun s e x) where
       → r ≡ scanOf (refused k at) → Uncompressed s b r (e ++ b)
   at-fault {at} {k} q i p =
       let (fault, u, v) = told-halted (rw q at (f .ran)) in
-      refusing (refusalNumber (fault .kind)) at (decode-halted s (f .small) (f .room) (f .clear) at fault u)
+      refusing (refusalNumber (fault .kind)) at (decode-halted s (f .small) (f .room) at fault u)
       (p ∙ ap (λ (n : ℕ). scanOf (refused n at)) (i ∙ ap faultNumber v ∙ number-same (fault .kind) (fault .octet)))
       same-buffer
 

@@ -238,9 +238,6 @@ pub fn uncompress(s: &[u8], out: &mut [u8]) -> Scan
     if s.len() < 12 {
         return refuse(1, 0);
     }
-    if s[3] / 64 % 2 == 1 {
-        return refuse(3, 0);
-    }
     match put_message(s, &mut out[..0]) {
         SectionEnd::Stopped(at, fault) => refuse(number_of(fault), at),
         SectionEnd::To(at, size, opts) => {

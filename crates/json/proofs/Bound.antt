@@ -33,10 +33,11 @@ use Rattle.options.specs.Options.{memberText}
 use Rattle.edns.specs.Edns.{rcodes, Edns, ednsItem, ednsRecord, edns?, option?, optionForm, fullRcode, rising?, flags}
 use Rattle.edns.specs.Edns.{ednsText}
 use Rattle.edns.specs.EdnsLaws.{option-long}
+use Rattle.edns.specs.Table.{text-short as row-short}
 use Rattle.json.specs.View.{Additional, View, viewOf, recordOf, messageOf, additional?, additionals?, view?}
 use Rattle.json.specs.View as view
 use Rattle.json.proofs.ViewLaws.{message-view, view-valid, view-additional, message-valid, map-long}
-use Rattle.json.specs.Document.{questionText, recordText, itemText, headText, documentText}
+use Rattle.json.specs.Document.{questionText, recordText, itemText, adTitles, headText, documentText}
 use Rattle.json.specs.Text.{recordItem, item, documentOf, viewText, text}
 
 -- ---- texts
@@ -97,16 +98,9 @@ octets-short f stop p l =
     record { short = omega (arith, k, each-one l) }
 
 -- the texts of a table
-textOf-short : (table : List (ℕ × String)) → T (all (λ row. leb (length (ascii (row .1))) 9) table) → (n : ℕ)
-    → Short (rowText n table) 9
-unfolding rowText
-textOf-short [] h n = record { short = omega arith }
-textOf-short (row ∷ table) h n =
-    go (eqb (row .0) n) (textOf-short table (and-right (leb (length (ascii (row .1))) 9) _ h) n)
-  where
-    go : (b : Bool) → Short (rowText n table) 9 → Short (cond b (ascii (row .1)) (rowText n table)) 9
-    go true k = record { short = leb→le (length (ascii (row .1))) 9 (and-left (leb (length (ascii (row .1))) 9) _ h) }
-    go false k = k
+textOf-short : (k : ℕ) (table : List (ℕ × String)) → T (all (λ row. leb (length (ascii (row .1))) k) table) → (n : ℕ)
+    → Short (rowText n table) k
+textOf-short k table h n = record { short = row-short k n table h }
 
 -- ---- numbers, hex, names and strings
 decimal-ten : (n : ℕ) → n < 10000000000 → Short (decimal n) 10
@@ -267,7 +261,7 @@ shape-short unlisted l h = tt
 -- an option's member
 members-short : (n : ℕ) → Short (rowText n members) 9
 unfolding members rows
-members-short n = textOf-short members tt n
+members-short n = textOf-short 9 members tt n
 
 chosen-short : (code : ℕ) (l : List ℕ) → code < 65536 → (x : Option (Value (syntaxOf code)))
     → Holds (syntaxOf code) x (10 * length l + 27) → Short (memberText (chosen code l x)) (10 * length l + 39)
@@ -344,11 +338,11 @@ edns-parts rcode e h =
 
 flags-short : (n : ℕ) → Short (rowText n flags) 9
 unfolding flags
-flags-short n = textOf-short flags tt n
+flags-short n = textOf-short 9 flags tt n
 
 rcodes-short : (n : ℕ) → Short (rowText n rcodes) 9
 unfolding rcodes
-rcodes-short n = textOf-short rcodes tt n
+rcodes-short n = textOf-short 9 rcodes tt n
 
 options-short : (l : List EdnsOption) → T (all option? l)
     → Short (ended (λ m. 44 ∷ memberText m) 125 (map memberOf l)) (10 * length (each optionForm l) + 1)
@@ -375,6 +369,10 @@ item-short rcode (view.ordinary r) h = record-short r h
 item-short rcode (view.edns e) h = edns-short rcode e h
 
 -- ---- the document
+titles-short : (n : ℕ) → Short (rowText n adTitles) 12
+unfolding adTitles
+titles-short n = textOf-short 12 adTitles tt n
+
 head-short : (v : View) → Bounds (v .header) → length (v .questions) < 65536 → length (v .answers) < 65536
     → length (v .authority) < 65536 → length (v .additional) < 65536
     → Short (headText (documentOf v)) 280
@@ -388,7 +386,7 @@ head-short v h q a n r =
     ⊕ quote ",\"TC\":" ⊕ decimal-five (v .header .tc) (omega (arith, h .tc))
     ⊕ quote ",\"RD\":" ⊕ decimal-five (v .header .rd) (omega (arith, h .rd))
     ⊕ quote ",\"RA\":" ⊕ decimal-five (v .header .ra) (omega (arith, h .ra))
-    ⊕ quote ",\"AD\":" ⊕ decimal-five (v .header .ad) (omega (arith, h .ad))
+    ⊕ titles-short (v .header .z) ⊕ decimal-five (v .header .ad) (omega (arith, h .ad))
     ⊕ quote ",\"CD\":" ⊕ decimal-five (v .header .cd) (omega (arith, h .cd))
     ⊕ quote ",\"RCODE\":" ⊕ decimal-five (v .header .rcode) (omega (arith, h .rcode))
     ⊕ quote ",\"QDCOUNT\":" ⊕ decimal-five (length (v .questions)) (omega (arith, q))

@@ -1,9 +1,10 @@
 -- What a text in the grammar of docs/FORMAT.md holds: numbers of any size, labels of any length, options in any order and
 -- number.
 -- Which of these documents can be spelled is said by strict/specs/Grammar.antt.
-use mathlib.Core.List.{List, _++_}
+use mathlib.Core.List.{List, [], _∷_, _++_}
 use Prim.Native.Nat.{ℕ}
-use Rattle.octets.specs.Lists.{ascii, listed}
+use Prim.Native.String.{String}
+use Rattle.octets.specs.Lists.{ascii, rowText, listed}
 use Rattle.octets.specs.Decimal.{decimal}
 use Rattle.octets.specs.Hexadecimal.{hexText}
 use Rattle.names.specs.Name.{Name}
@@ -56,6 +57,10 @@ unfoldable pub itemText : Item → List ℕ
 itemText (ordinary r) = recordText r
 itemText (edns e) = ednsText e
 
+-- AD's title by Z: Z has a member, before AD, only where it is set
+unfoldable pub adTitles : List (ℕ × String)
+adTitles = (0, ",\"AD\":") ∷ (1, ",\"Z\":1,\"AD\":") ∷ []
+
 unfoldable pub headText : Document → List ℕ
 headText d =
     ascii "{\"ID\":" ++ decimal (d .header .id)
@@ -65,7 +70,7 @@ headText d =
     ++ ascii ",\"TC\":" ++ decimal (d .header .tc)
     ++ ascii ",\"RD\":" ++ decimal (d .header .rd)
     ++ ascii ",\"RA\":" ++ decimal (d .header .ra)
-    ++ ascii ",\"AD\":" ++ decimal (d .header .ad)
+    ++ rowText (d .header .z) adTitles ++ decimal (d .header .ad)
     ++ ascii ",\"CD\":" ++ decimal (d .header .cd)
     ++ ascii ",\"RCODE\":" ++ decimal (d .header .rcode)
     ++ ascii ",\"QDCOUNT\":" ++ decimal (d .qdcount)

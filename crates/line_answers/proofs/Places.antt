@@ -6,7 +6,7 @@ use mathlib.Core.List.{List}
 use Prim.Native.Nat.{ℕ, zero, suc, _≤_}
 use native.Mathlib.Omega.{arith}
 use borrow.Author.Tests.{ltb-false}
-use lib.Dec.{leb, ltb, eqb}
+use lib.Dec.{leb, ltb}
 use lib.ListN.{length}
 use Rattle.octets.specs.Lists.{Octets}
 use Rattle.octets.specs.Fields.{be16At}
@@ -20,7 +20,7 @@ use Rattle.names.specs.Name.{refusalNumber}
 use Rattle.records.specs.Message.{Message, form}
 use Rattle.records.specs.Read.{Entry, entry, bad, Reached, reached, stopped, questionAt, recordAt, sectionAt}
 use Rattle.records.specs.Read.{sectionFrom}
-use Rattle.records.specs.Decode.{Decoded, accepted, refused, zOf, sectionsOf, messageRead, afterReading, decode}
+use Rattle.records.specs.Decode.{Decoded, accepted, refused, sectionsOf, messageRead, afterReading, decode}
 use Rattle.records.specs.RecordLaws.{question-read, record-read}
 use Rattle.json.specs.View.{View}
 use Rattle.json.specs.View as view
@@ -87,7 +87,7 @@ decode-placed : (s : List ℕ) → Octets s → Placed (length s) (decode s)
 unfolding decode
 decode-placed s o =
     let n = length s in
-    at-first n (ltb 65535 n) 2 _ λ a. at-first n (ltb n 12) 1 _ λ b. at-first n (eqb (zOf s) 1) 3 _ λ c.
+    at-first n (ltb 65535 n) 2 _ λ a. at-first n (ltb n 12) 1 _ λ b.
     ended-placed s (messageRead s) (sectionsOf s .additional .end) (sections-inside s o (ltb-false n 12 b))
 
 -- the same for an output and for a call's outcome

@@ -15,7 +15,7 @@ use Rattle.records.specs.Decode.{headerOf, sectionsOf, messageRead, decode}
 use Rattle.spelling.specs.Spelling.{plain?, spelled, labelText, nameText}
 use Rattle.edns.specs.Edns.{ednsOf}
 use Rattle.json.specs.View.{additionalOf, viewOf}
-use Rattle.json.specs.Document.{questionText, recordText, itemText, headText, documentText}
+use Rattle.json.specs.Document.{questionText, recordText, itemText, adTitles, headText, documentText}
 use Rattle.json.specs.Text.{documentOf, viewText, text}
 use Rattle.json.specs.Converted.{converted}
 use Rattle.hex_lines.specs.Hex.{hexValue, unhexed}
@@ -25,7 +25,7 @@ use Rattle.lines.specs.Lines.{linesFrom, linesOf, programOutput}
 -- the line of docs/FORMAT.md
 pub message-line : textLine (ascii "1A2B01000001000000000000016101620000010001")
     ≡ ascii "{\"ID\":6699,\"QR\":0,\"Opcode\":0,\"AA\":0,\"TC\":0,\"RD\":1,\"RA\":0,\"AD\":0,\"CD\":0,\"RCODE\":0,\"QDCOUNT\":1,\"ANCOUNT\":0,\"NSCOUNT\":0,\"ARCOUNT\":0,\"questionRRs\":[{\"NAME\":\"a.b.\",\"TYPE\":1,\"CLASS\":1}],\"answerRRs\":[],\"authorityRRs\":[],\"additionalRRs\":[]}"
-unfolding hexValue unhexed refusalLine answerText withinLine textLine lookup key? rowText decimal hexText nameForm walk nameFrom layouts layoutOf pieces rdataAt questionForm recordForm each headerForm form firstCut questionAt recordAt sectionAt sectionFrom headerOf sectionsOf messageRead decode plain? spelled labelText nameText ednsOf additionalOf viewOf questionText recordText itemText headText documentText documentOf viewText text converted
+unfolding hexValue unhexed refusalLine answerText withinLine textLine lookup key? rowText decimal hexText nameForm walk nameFrom layouts layoutOf pieces rdataAt questionForm recordForm each headerForm form firstCut questionAt recordAt sectionAt sectionFrom headerOf sectionsOf messageRead decode plain? spelled labelText nameText ednsOf additionalOf viewOf questionText recordText itemText adTitles headText documentText documentOf viewText text converted
 message-line = refl
 
 -- digits in either letter case; an odd number of them; a non-digit; the empty line

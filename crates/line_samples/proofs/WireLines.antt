@@ -6,6 +6,7 @@ use lib.ListN.{replicate}
 use Rattle.octets.specs.Decimal.{natural, positive, decimal}
 use Rattle.octets.specs.Hexadecimal.{hex, hexPairs, unhex, hexText}
 use Rattle.octets.specs.Codec.{tableParser}
+use Rattle.json.specs.Document.{adTitles}
 use Rattle.octets.specs.Lists.{ascii, lookup, rowText, key?, each}
 use Rattle.names.specs.Name.{name?, label?, nameForm}
 use Rattle.names.specs.Walk.{walk, nameFrom}
@@ -61,5 +62,5 @@ samples =
 
 -- every row, computed
 pub samples-hold : map (λ (s : Sample). wireLine (s .line)) samples ≡ map (λ (s : Sample). s .answer) samples
-unfolding samples withinLine wireLine answerText refusalLine parse document head natural positive questionCodec recordCodec name rootOrLabels label spelledOctet spelledAt escape ddd leads? coded-from? coded? plain? signedNumber hex hexPairs unhex string stringChars stringChar stringAt bare? printable? quoted itemCodec ednsElement optionMembers member knownMember otherMember value expiryNumber tableParser members rows flags rcodes syntaxOf lookup rowText decimal spelled stringOctet hexText reading meaning documentView itemRecord itemEdns itemAdditional unsigned agrees? counts? ttl? ednsItem? item? view? additionals? additional? settled? opt-entry? edns? option? header? question? record? name? label? nameForm rdataFits? walk nameFrom layouts layoutOf pieces rdataAt rising? divided optionsOf ednsOf key? shape words value? member? optionOf octetsOf within? small-rdata? small-option? small-options? messageOf recordOf ednsRecord optionForm each form headerForm questionForm recordForm
+unfolding samples withinLine wireLine answerText refusalLine parse document head natural positive questionCodec recordCodec name rootOrLabels label spelledOctet spelledAt escape ddd leads? coded-from? coded? plain? signedNumber hex hexPairs unhex string stringChars stringChar stringAt bare? printable? quoted itemCodec ednsElement optionMembers member knownMember otherMember value expiryNumber tableParser members rows flags rcodes adTitles syntaxOf lookup rowText decimal spelled stringOctet hexText reading meaning documentView itemRecord itemEdns itemAdditional unsigned agrees? counts? ttl? ednsItem? item? view? additionals? additional? settled? opt-entry? edns? option? header? question? record? name? label? nameForm rdataFits? walk nameFrom layouts layoutOf pieces rdataAt rising? divided optionsOf ednsOf key? shape words value? member? optionOf octetsOf within? small-rdata? small-option? small-options? messageOf recordOf ednsRecord optionForm each form headerForm questionForm recordForm
 samples-hold = refl

@@ -34,6 +34,19 @@ pub and-right : (a b : Bool) → T (a && b) → T b
 and-right true b t = t
 and-right false b t = absurd t
 
+-- tests joined from the left: what holds of all of them holds of each, and the other way
+abbrev pub conjoined : Bool → List Bool → Bool
+conjoined a [] = a
+conjoined a (b ∷ l) = conjoined (a && b) l
+
+pub each-holds : (a : Bool) (l : List Bool) → T (conjoined a l) → T a × All T l
+each-holds a [] t = (t, tt)
+each-holds a (b ∷ l) t = let h = each-holds (a && b) l t in (and-left a b (h .0), (and-right a b (h .0), h .1))
+
+pub all-hold : (a : Bool) (l : List Bool) → T a → All T l → T (conjoined a l)
+all-hold a [] t h = t
+all-hold a (b ∷ l) t h = all-hold (a && b) l (both a b t (h .0)) (h .1)
+
 -- two tests that answer alike
 abbrev pub same? : Bool → Bool → Bool
 same? true b = b

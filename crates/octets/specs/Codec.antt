@@ -405,6 +405,18 @@ key-apart row (u ∷ rows) n h k =
     )
     go false d k h f = f k
 
+-- what is tested of the text of every row holds of the text of a key
+pub row-holds : (p : List ℕ → Bool) (rows : List (ℕ × String)) → T (all (λ row. p (ascii (row .1))) rows) → (n : ℕ)
+    → T (key? n rows) → T (p (rowText n rows))
+unfolding key? rowText
+row-holds p [] h n k = absurd k
+row-holds p (row ∷ rows) h n k = go (eqb (row .0) n) k (row-holds p rows (and-right (p (ascii (row .1))) _ h) n)
+  where
+    go : (b : Bool) → T (cond b true (key? n rows)) → (T (key? n rows) → T (p (rowText n rows)))
+        → T (p (cond b (ascii (row .1)) (rowText n rows)))
+    go true k f = and-left (p (ascii (row .1))) _ h
+    go false k f = f k
+
 -- the parser that tries the rows in turn, and its laws
 unfoldable pub tableParser : List (ℕ × String) → List ℕ → Parsed ℕ
 tableParser [] t = failed t

@@ -8,10 +8,10 @@ use native.Mathlib.Omega.{arith}
 use borrow.Author.Tests.{ltb-false}
 use lib.Dec.{T, T-not, leb, ltb, eqb, leb→le, le→leb, lt→ltb, ltb→lt, eqb→eq}
 use lib.Arith.{le→nltb}
-use Rattle.octets.specs.Lists.{ascii, All}
+use Rattle.octets.specs.Lists.{ascii, all, All, key?, rowText}
 use Rattle.octets.specs.Bits.{is-true, is-false, unequal, both, and-left, and-right, All-append}
 use Rattle.octets.specs.Parsed.{Parsed, parsed, failed, Holds, missed, found, map-holds}
-use Rattle.octets.specs.Codec.{Avoids, Any, Codec, behind-lit}
+use Rattle.octets.specs.Codec.{Avoids, Any, Codec, joined, behind-lit, distinct, row-holds, table}
 
 -- a decimal digit; the text does not begin with one
 abbrev pub digit? : ℕ → Bool
@@ -273,12 +273,18 @@ abbrev pub ends? : List ℕ → Bool
 ends? [] = false
 ends? (c ∷ l) = not (digit? c)
 
--- a text that ends with a number, and fixed octets after it that do not begin with a digit: `till "," tt number`
+pub ends-first : (m : List ℕ) → T (ends? m) → (r : List ℕ) → NoDigit (m ++ r)
+ends-first [] h r = absurd h
+ends-first (c ∷ m) h r = h
+
+-- a text that ends with a number, and fixed octets after it that do not begin with a digit: `numberThen "," tt number`
 abbrev pub numberThen : {A : Type 0} {I : A → Type 0} {f : A → List ℕ} (l : String) → T (ends? (ascii l))
     → Codec I f NoDigit
     → Codec I (λ a. f a ++ ascii l) Any
-numberThen l h p = behind-lit l (go (ascii l) h) p
-  where
-    go : (m : List ℕ) → T (ends? m) → (r : List ℕ) → NoDigit (m ++ r)
-    go [] h r = absurd h
-    go (c ∷ m) h r = h
+numberThen l h p = behind-lit l (ends-first (ascii l) h) p
+
+-- a number, and one of a table's texts after it, none of which begins with a digit
+abbrev pub numberRow : (rows : List (ℕ × String)) → T (distinct rows) → T (all (λ row. ends? (ascii (row .1))) rows)
+    → Codec {A = ℕ × ℕ} (λ u. Unit {0} × T (key? (u .1) rows)) (λ u. decimal (u .0) ++ rowText (u .1) rows) Any
+numberRow rows d h =
+    joined number (table rows d) (λ n r k m. ends-first (rowText n rows) (row-holds ends? rows h n k) r)

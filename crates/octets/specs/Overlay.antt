@@ -2,12 +2,13 @@
 use mathlib.Core.Path.{_≡_, refl, sym, ap, _∙_}
 use mathlib.Core.List.{List, [], _∷_, _++_, append-assoc, append-nil}
 use Prim.Native.Nat.{ℕ, suc, _+_, _≤_, _<_}
+use Prim.Native.String.{String}
 use native.Mathlib.Nat.{add-zero, zero-add}
 use native.Mathlib.Numerals.{add-one}
 use native.Mathlib.Omega.{arith}
 use lib.ListN.{length, getD, take, drop, set, length-set, length-append}
 use lib.Seq.{set-comm, sets, sets-eq, set-out, take-suc, take-all}
-use Rattle.octets.specs.Lists.{ended, each}
+use Rattle.octets.specs.Lists.{rowText, ended, each}
 use Rattle.octets.specs.Answer.{overwritten}
 
 -- the buffer with a text written from a place on; what has no room is not written, so the buffer keeps its length
@@ -92,6 +93,11 @@ then {b} {b₁} {b₂} {at} {r₁} {r₂} {xs} {ys} p q =
 -- no octet is written
 pub nothing : (b : List ℕ) (at : ℕ) → Wrote b at [] b at
 nothing b at = record { place = omega (arith, add-zero at); text = sym (overlay-none b at) }
+
+-- the text of a table's row, written by its key
+pub wrote-row : (k : ℕ) (rows : List (ℕ × String)) {n : ℕ} {b b′ : List ℕ} {at r : ℕ} → n ≡ k
+    → Wrote b at (rowText k rows) b′ r → Wrote b at (rowText n rows) b′ r
+wrote-row k rows e w = rw e w
 
 -- a writer that starts past the end leaves the buffer as it is
 pub wrote-past : (b : List ℕ) (at : ℕ) (xs : List ℕ) {r : ℕ} → length b ≤ at → r ≡ at + length xs → Wrote b at xs b r

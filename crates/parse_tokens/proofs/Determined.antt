@@ -13,7 +13,6 @@ use Rattle.parse_tokens.specs.declared.Cursor.{Cursor}
 use Rattle.parse_tokens.specs.declared.Amount.{Amount}
 use Rattle.parse_tokens.specs.declared.Ttl.{Ttl}
 use Rattle.parse_tokens.specs.declared.Span.{Span}
-use Rattle.parse_tokens.specs.declared.Row.{Row}
 use Rattle.parse_tokens.specs.Cursor.{cursors, rest, left-of, Keeps, MovedTo, Passed, reads-bad, reads-got, clash}
 use Rattle.parse_tokens.specs.Step.{Found, Held, Emits, Judged}
 use Rattle.parse_tokens.specs.Place.{Byte, one-byte}
@@ -21,12 +20,11 @@ use Rattle.parse_tokens.specs.Choice.{Further}
 use Rattle.parse_tokens.specs.Number.{NumberRead, TillRead}
 use Rattle.parse_tokens.specs.Signed.{TtlKept, SignedRead}
 use Rattle.parse_tokens.specs.Hex.{HexRead}
-use Rattle.parse_tokens.specs.Rows.{RowRead}
 use Rattle.parse_tokens.specs.Fields.{FieldPut}
 
 -- ---- the parts of a result
 -- one value that two things are equal to
-both-are : {A : Type 0} {x y v : A} → x ≡ v → y ≡ v → x ≡ y
+pub both-are : {A : Type 0} {x y v : A} → x ≡ v → y ≡ v → x ≡ y
 both-are d e = d ∙ sym e
 
 -- places in a text from which on the same is left
@@ -88,11 +86,11 @@ module _ {A : Type 0} {p : List ℕ → Parsed A} {P Q : A → Type 0} {t : List
       }
 
   -- the cursor of both
-  one-cursor : Found p P t c r → Found p Q t c s → Keeps t c r → Keeps t c s → r ≡ s
+  pub one-cursor : Found p P t c r → Found p Q t c s → Keeps t c r → Keeps t c s → r ≡ s
   one-cursor x y k m = let l = alike x y in kept k m (l .grammatical) (l .at)
 
   -- what goes with it: one thing on a stop, another by what was found
-  one-value : {B : Type 0} {v w u : B} → Found p P t c r → Found p Q t c s
+  pub one-value : {B : Type 0} {v w u : B} → Found p P t c r → Found p Q t c s
       → (r .grammatical ≡ false → v ≡ u) → (s .grammatical ≡ false → w ≡ u) → ((a : A) → P a → Q a → v ≡ w) → v ≡ w
   one-value {v = v} {w = w} x y f g h = go (r .grammatical) refl
     where
@@ -162,7 +160,7 @@ emit-determined {b′ = b′} {b″ = b″} {r = r} {s = s} x y = (cursor, go (r
     go true e = both-are (x .wrote (subst T (sym e) tt) .text) (y .wrote (subst T (sym e ∙ bounded) tt) .text)
     go false e = both-are (x .stays e) (y .stays (sym bounded ∙ e))
 
--- ---- number, till; signed; hex; flags, rcode, option_name
+-- ---- number, number_then; signed; hex
 module _ {t : List ℕ} {c : Cursor} where
   pub number-determined : {r s : Amount} → NumberRead t c r → NumberRead t c s → r ≡ s
   number-determined {r} {s} x y =
@@ -200,12 +198,6 @@ module _ {t : List ℕ} {c : Cursor} where
       let b : r .from ≡ s .from = x .from ∙ o ∙ sym (y .from) in
       let d : r .end ≡ s .end = omega (arith, x .end, y .end, o, ap (λ (z : Cursor). z .at) e) in
       λ i. record { cursor = e i; from = b i; end = d i }
-
-  pub row-determined : {p : List ℕ → Parsed ℕ} {r s : Row} → RowRead p t c r → RowRead p t c s → r ≡ s
-  row-determined {p} {r} {s} x y =
-      let e = one-cursor (x .found) (y .found) (x .keeps) (y .keeps) in
-      let v : r .key ≡ s .key = one-value (x .found) (y .found) (x .stop) (y .stop) (λ n d e. both-are d e) in
-      λ i. record { cursor = e i; key = v i }
 
 -- ---- put_octet, put_word, put_long, put_ttl
 pub put-determined : {A : Type 0} {P : A → Type 0} {ok : A → Bool} {wire : A → List ℕ} {fits : Bool}

@@ -10,6 +10,4 @@ pub mod Choice
 pub mod Number
 pub mod Signed
 pub mod Hex
-pub mod Table
-pub mod Rows
 pub mod Fields

@@ -7,9 +7,6 @@ ghost use mathlib.Core.List.{[], _∷_};
 ghost use lib.ListN.{length};
 ghost use Rattle.octets.specs.Lists.{u8?, u16?, u32?};
 ghost use Rattle.octets.specs.Fields.{be16, be32};
-ghost use Rattle.octets.specs.Codec.{tableParser};
-ghost use Rattle.options.specs.Options.{members};
-ghost use Rattle.edns.specs.Edns.{flags, rcodes};
 ghost use Rattle.parse_tokens.specs.Cursor.{Safe, Passed, FailedAt, Advanced};
 ghost use Rattle.parse_tokens.specs.Step.{Held, Emits, Judged};
 ghost use Rattle.parse_tokens.specs.Place.{Byte};
@@ -18,12 +15,8 @@ ghost use Rattle.parse_tokens.specs.Choice.{Further};
 ghost use Rattle.parse_tokens.specs.Number.{capped, NumberRead, TillRead, PositiveRead, NoNumber, DigitOf};
 ghost use Rattle.parse_tokens.specs.Signed.{SignedRead, Plus, Minus};
 ghost use Rattle.parse_tokens.specs.Hex.{HexTest, HexAt, Quoted, PairsRead, HexRead};
-ghost use Rattle.parse_tokens.specs.Table.{triedIn};
-ghost use Rattle.parse_tokens.specs.Rows.{RowRead};
 ghost use Rattle.parse_tokens.specs.Fields.{NumberPut, TtlPut};
-use edns::rcode_names;
 use octets::put_all;
-use octets::wide;
 
 // Where the reader is in a text. `grammatical`: all before `at` is within the grammar; if not, nothing more is read,
 // and `at` is the first octet at which no text goes on. `meaningful`: a message can have the text so far, limits of
@@ -456,91 +449,6 @@ pub fn hex(text: &[u8], c: Cursor) -> Span
 {
     let open = literal(text, c, b"\"");
     pairs(text, open)
-}
-
-// A title of a table that was read, and its key. On a stop the key is 0.
-pub struct Row {
-    pub cursor: Cursor,
-    pub key: u32,
-}
-
-// The title of one of a table's rows, tried in order. Where none is there, the reader stops at the furthest place that
-// a row reached. A table has for each row its key, the length of its title, and its title; it ends before a row that is
-// not whole.
-fn row_of(text: &[u8], c: Cursor, table: &[u8]) -> Row
-    requires { ⌜ Safe (now text) c ⌝ }
-    ensures { λ r. ⌜ RowRead (triedIn (now (table .entry))) (now (text .entry)) c r ⌝ }
-{
-    let start = c.at;
-    let mut far = fail_at(c, start);
-    let mut from = 0;
-    loop {
-        if table.len() - from < 2 {
-            return Row {
-                cursor: far,
-                key: 0,
-            };
-        }
-        let size = wide(table[from + 1]);
-        let title = from + 2;
-        if table.len() - title < size {
-            return Row {
-                cursor: far,
-                key: 0,
-            };
-        }
-        let next = title + size;
-        let d = literal(text, c, &table[title..next]);
-        if d.grammatical {
-            return Row {
-                cursor: d,
-                key: wide(table[from]) as u32,
-            };
-        }
-        far = furthest_failure(far, d.at);
-        from = next;
-    }
-}
-
-// FLAGS by the DO bit.
-const FLAGS: [u8; 12] = *b"\x00\x02[]\
-    \x01\x06[\"DO\"]";
-
-// FLAGS.
-pub fn flags(text: &[u8], c: Cursor) -> Row
-    requires { ⌜ Safe (now text) c ⌝ }
-    ensures { λ r. ⌜ RowRead (tableParser flags) (now (text .entry)) c r ⌝ }
-{
-    row_of(text, c, &FLAGS)
-}
-
-// RCODE.
-pub fn rcode(text: &[u8], c: Cursor) -> Row
-    requires { ⌜ Safe (now text) c ⌝ }
-    ensures { λ r. ⌜ RowRead (tableParser rcodes) (now (text .entry)) c r ⌝ }
-{
-    let table = rcode_names();
-    row_of(text, c, &table)
-}
-
-// Option names by code.
-const OPTIONS: [u8; 70] = *b"\x03\x04NSID\
-    \x05\x03DAU\
-    \x06\x03DHU\
-    \x07\x03N3U\
-    \x09\x06EXPIRE\
-    \x0A\x06COOKIE\
-    \x0B\x09KEEPALIVE\
-    \x0C\x07PADDING\
-    \x0E\x06KEYTAG\
-    \x0F\x03EDE";
-
-// An option's name.
-pub fn option_name(text: &[u8], c: Cursor) -> Row
-    requires { ⌜ Safe (now text) c ⌝ }
-    ensures { λ r. ⌜ RowRead (tableParser members) (now (text .entry)) c r ⌝ }
-{
-    row_of(text, c, &OPTIONS)
 }
 
 // A number of one octet.

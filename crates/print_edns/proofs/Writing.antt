@@ -4,7 +4,6 @@ use mathlib.Core.Bool.{Bool, true, false, _&&_, _||_}
 use mathlib.Core.Option.{Option, none, some}
 use mathlib.Core.List.{List, [], _∷_, _++_, map, append-assoc}
 use Prim.Native.Nat.{ℕ, _+_, _-_, _*_, _/_, _%_, _<_, _≤_}
-use Prim.Native.String.{String}
 use native.Mathlib.Omega.{arith}
 use borrow.Author.Tests.{leb-true, leb-false}
 use lib.Dec.{T, leb, eqb}
@@ -22,12 +21,7 @@ use Rattle.edns.specs.Element.{ednsHeadText}
 use Rattle.edns.specs.Table.{tableOctets, rowAt, text-none, text-row, text-short}
 use Rattle.edns.proofs.Ways.{here, options-end, options-none, options-more}
 
--- ---- FLAGS and RCODE
--- the text of a key
-pub text-is : (k : ℕ) (rows : List (ℕ × String)) {n : ℕ} {b b′ : List ℕ} {at r : ℕ} → n ≡ k
-    → Wrote b at (rowText k rows) b′ r → Wrote b at (rowText n rows) b′ r
-text-is k rows e w = rw e w
-
+-- ---- RCODE
 -- the name of an RCODE by its row: there is none, or the octets of the table are written
 module _
     (n : ℕ) {t : List ℕ} (e : t ≡ tableOctets rcodes) {row : ℕ} (d : row ≡ rowAt n rcodes) {b : List ℕ} {at : ℕ}

@@ -2,9 +2,10 @@
 use mathlib.Core.Path.{_≡_, refl, ap}
 use mathlib.Core.List.{List, [], _∷_, _++_, append-assoc}
 use Prim.Native.Nat.{ℕ, _/_, _%_}
-use Rattle.octets.specs.Lists.{ascii}
+use Rattle.octets.specs.Lists.{ascii, rowText}
 use Rattle.octets.specs.Decimal.{decimal}
 use Rattle.octets.specs.Overlay.{Wrote, then}
+use Rattle.json.specs.Document.{adTitles}
 
 -- a member: its name with what is around it, and a number
 unfoldable pub numberText : List ℕ → ℕ → List ℕ
@@ -26,7 +27,7 @@ unfoldable pub withLow : List ℕ → ℕ → List ℕ
 withLow l x =
     l
     ++ ascii ",\"RA\":" ++ decimal (x / 128)
-    ++ ascii ",\"AD\":" ++ decimal (x / 32 % 2)
+    ++ rowText (x / 64 % 2) adTitles ++ decimal (x / 32 % 2)
     ++ ascii ",\"CD\":" ++ decimal (x / 16 % 2)
     ++ ascii ",\"RCODE\":" ++ decimal (x % 16)
 

@@ -24,7 +24,7 @@ fn put_counts(s: &[u8], out: &mut [u8], to: usize) -> usize
 pub fn put_head(s: &[u8], out: &mut [u8], to: usize) -> usize
     requires { ⌜ (to < 2 ^ 38) × (12 ≤ length (now s)) ⌝ }
     ensures { λ r. ⌜ Wrote (now (out .entry)) to (headTextAt (now (s .entry))) (now (out .exit)) r ⌝ }
-    ensures { λ r. ⌜ r ≤ to + 251 ⌝ }
+    ensures { λ r. ⌜ r ≤ to + 257 ⌝ }
 {
     let id = put_number(b"{\"ID\":", be16_at(s, 0), out, to);
     let high = put_high(s[2], out, id);

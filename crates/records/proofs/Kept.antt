@@ -15,7 +15,7 @@ use Rattle.names.specs.NameLaws.{named-name, named-next, read-sized, read-form,
 use Rattle.records.specs.Layout.{laid, rdataAt}
 use Rattle.records.specs.Message.{Message, Question, Record, questionForm, recordForm, headerForm, form}
 use Rattle.records.specs.Read.{entry, firstCut, questionAt, recordAt, reached, sectionAt, sectionFrom}
-use Rattle.records.specs.Decode.{headerOf, zOf, sectionsOf, messageRead, accepted, decode}
+use Rattle.records.specs.Decode.{headerOf, sectionsOf, messageRead, accepted, decode}
 use Rattle.records.specs.RecordLaws.{laid-octets, pieces-fill, pieces-same, pieces-whole, fields-room}
 use Rattle.records.specs.RecordLaws.{entry-value, entry-next, with-name-back, with-fields-back, filled-back}
 use Rattle.records.specs.RecordLaws.{room-back}
@@ -72,28 +72,27 @@ high-bits x =
     let r : x / 2 % 2 * 2 + x / 4 * 4 ≡ x / 2 * 2 = omega arith in
     omega arith
 
-low-bits : (x : ℕ) → x / 64 % 2 ≡ 0 → x / 128 * 128 + x / 32 % 2 * 32 + x / 16 % 2 * 16 + x % 16 ≡ x
-low-bits x z =
+low-bits : (x : ℕ) → x / 128 * 128 + x / 64 % 2 * 64 + x / 32 % 2 * 32 + x / 16 % 2 * 16 + x % 16 ≡ x
+low-bits x =
     let a : x / 32 ≡ x / 16 / 2 = omega arith in
     let b : x / 64 ≡ x / 32 / 2 = omega arith in
     let c : x / 128 ≡ x / 64 / 2 = omega arith in
-    let p : x / 128 * 128 ≡ x / 64 * 64 = omega arith in
+    let p : x / 64 % 2 * 64 + x / 128 * 128 ≡ x / 64 * 64 = omega arith in
     let q : x / 32 % 2 * 32 + x / 64 * 64 ≡ x / 32 * 32 = omega arith in
     let r : x / 16 % 2 * 16 + x / 32 * 32 ≡ x / 16 * 16 = omega arith in
     omega arith
 
--- the first 12 octets of the form are the message's: Z is clear and the counts are those of the sections
-pub header-same : (s : List ℕ) (i : ℕ) → ((j : ℕ) → getD s j 0 < 256) → 12 ≤ length s → (zOf s ≡ 1 → ⊥)
+-- the first 12 octets of the form are the message's: the counts are those of the sections
+pub header-same : (s : List ℕ) (i : ℕ) → ((j : ℕ) → getD s j 0 < 256) → 12 ≤ length s
     → sectionsOf s .additional .end ≡ reached i → headerForm (messageRead s) ≡ take 12 s
 unfolding headerForm messageRead headerOf
-header-same s i o h z e =
+header-same s i o h e =
     let c = sections-count s i e in
-    let clear : getD s 3 0 / 64 % 2 ≡ 0 = omega arith in
     ap₂ (λ (x y : List ℕ). x ++ y)
     (ap₂ (λ (x y : List ℕ). x ++ y)
     (ap₂ (λ (x y : List ℕ). x ++ y) (ap₂ (λ (x y : List ℕ). x ++ y) (ap₂ (λ (x y : List ℕ). x ++ y)
     (two-same (getD s 0 0) (getD s 1 0) (o 0) (o 1))
-    (ap₂ (λ (x y : ℕ). x ∷ y ∷ []) (high-bits (getD s 2 0)) (low-bits (getD s 3 0) clear)))
+    (ap₂ (λ (x y : ℕ). x ∷ y ∷ []) (high-bits (getD s 2 0)) (low-bits (getD s 3 0))))
     (ap be16 (c .0) ∙ two-same (getD s 4 0) (getD s 5 0) (o 4) (o 5)))
     (ap be16 (c .1) ∙ two-same (getD s 6 0) (getD s 7 0) (o 6) (o 7)))
     (ap be16 (c .2) ∙ two-same (getD s 8 0) (getD s 9 0) (o 8) (o 9)))
@@ -109,7 +108,7 @@ header-first m = refl
 pub header-kept : (s : List ℕ) (m : Message) → Octets s → decode s ≡ accepted m → take 12 (form m) ≡ take 12 s
 header-kept s m o e =
     let k = decode-back s m e in
-    let same = header-same s (k .last) (getD-octet s o) (k .room) (k .clear) (k .came) in
+    let same = header-same s (k .last) (getD-octet s o) (k .room) (k .came) in
     ap (λ m. take 12 (form m)) (sym (k .same)) ∙ header-first (messageRead s) ∙ same
 
 -- ---- fields

@@ -6,20 +6,21 @@ use mathlib.Core.List.{List, [], _∷_, _++_, append-assoc, append-nil}
 use Prim.Native.Nat.{ℕ, zero, suc, _+_, _*_, _/_, _%_, _<_, _≤_}
 use native.Mathlib.Nat.{add-zero}
 use native.Mathlib.Omega.{arith}
-use borrow.Author.Tests.{le-ltb, ltb-false, eqb-false}
-use lib.Dec.{T, ltb, eqb, ltb→lt, lt→ltb}
+use borrow.Author.Tests.{le-ltb, ltb-false}
+use lib.Dec.{T, ltb, ltb→lt, lt→ltb}
 use lib.ListN.{length, drop, length-append}
-use Rattle.octets.specs.Lists.{all, Octets, u16?, each}
-use Rattle.octets.specs.Bits.{both, and-left, and-right, All-append}
+use Rattle.octets.specs.Lists.{all, All, Octets, u16?, each}
+use Rattle.octets.specs.Bits.{both, and-left, and-right, each-holds, all-hold, All-append}
 use Rattle.octets.specs.Fields.{be16, be32, be16At, drop-past, two-back, getD-octet, twoAt-word, two-octets}
 use Rattle.octets.specs.Fields.{four-octets}
 use Rattle.names.specs.Name.{nameForm, Fault, refusalNumber}
 use Rattle.names.specs.NameLaws as N
 use Rattle.records.specs.Message.{Header, Question, Record, Message, flagsHigh, flagsLow, questionForm}
-use Rattle.records.specs.Message.{recordForm, headerForm, form, header?, question?, record?, section?, valid?}
+use Rattle.records.specs.Message.{recordForm, headerForm, form, bit?, four-bits?, header?, question?, record?}
+use Rattle.records.specs.Message.{section?, valid?}
 use Rattle.records.specs.Read.{Entry, entry, bad, questionAt, recordAt, Reached, reached, stopped, add, sectionAt}
 use Rattle.records.specs.Read.{sectionFrom}
-use Rattle.records.specs.Decode.{headerOf, zOf, sectionsOf, messageRead, Decoded, accepted, refused, afterReading}
+use Rattle.records.specs.Decode.{headerOf, sectionsOf, messageRead, Decoded, accepted, refused, afterReading}
 use Rattle.records.specs.Decode.{decode}
 use Rattle.records.specs.RecordLaws.{question-parts, record-parts, record-long, question-back, question-read}
 use Rattle.records.specs.RecordLaws.{record-back, record-read}
@@ -128,70 +129,56 @@ pub record Bounds (h : Header) : Type 0 where
   pub tc : h .tc < 2
   pub rd : h .rd < 2
   pub ra : h .ra < 2
+  pub z : h .z < 2
   pub ad : h .ad < 2
   pub cd : h .cd < 2
   pub rcode : h .rcode < 16
 
+-- the tests of a header after that of ID; those of its fourth octet
+abbrev lowTests : Header → List Bool
+lowTests h = bit? (h .ra) ∷ bit? (h .z) ∷ bit? (h .ad) ∷ bit? (h .cd) ∷ four-bits? (h .rcode) ∷ []
+
+abbrev tests : Header → List Bool
+tests h = bit? (h .qr) ∷ four-bits? (h .opcode) ∷ bit? (h .aa) ∷ bit? (h .tc) ∷ bit? (h .rd) ∷ lowTests h
+
 -- a valid header has these bounds
 pub header-parts : (h : Header) → T (header? h) → Bounds h
 unfolding header?
-header-parts h h₀ =
-    let b0 = ltb (h .id) 65536 in
-    let b1 = ltb (h .qr) 2 in
-    let b2 = ltb (h .opcode) 16 in
-    let b3 = ltb (h .aa) 2 in
-    let b4 = ltb (h .tc) 2 in
-    let b5 = ltb (h .rd) 2 in
-    let b6 = ltb (h .ra) 2 in
-    let b7 = ltb (h .ad) 2 in
-    let b8 = ltb (h .cd) 2 in
-    let b9 = ltb (h .rcode) 16 in
-    let t8 = and-left (b0 && b1 && b2 && b3 && b4 && b5 && b6 && b7 && b8) b9 h₀ in
-    let t7 = and-left (b0 && b1 && b2 && b3 && b4 && b5 && b6 && b7) b8 t8 in
-    let t6 = and-left (b0 && b1 && b2 && b3 && b4 && b5 && b6) b7 t7 in
-    let t5 = and-left (b0 && b1 && b2 && b3 && b4 && b5) b6 t6 in
-    let t4 = and-left (b0 && b1 && b2 && b3 && b4) b5 t5 in
-    let t3 = and-left (b0 && b1 && b2 && b3) b4 t4 in
-    let t2 = and-left (b0 && b1 && b2) b3 t3 in
-    let t1 = and-left (b0 && b1) b2 t2 in
+header-parts h t =
+    let (id, (qr, (opcode, (aa, (tc, (rd, (ra, (z, (ad, (cd, (rcode, none))))))))))) =
+    each-holds (u16? (h .id)) (tests h) t in
     record {
-      id = ltb→lt (h .id) 65536 (and-left b0 b1 t1);
-      qr = ltb→lt (h .qr) 2 (and-right b0 b1 t1);
-      opcode = ltb→lt (h .opcode) 16 (and-right (b0 && b1) b2 t2);
-      aa = ltb→lt (h .aa) 2 (and-right (b0 && b1 && b2) b3 t3);
-      tc = ltb→lt (h .tc) 2 (and-right (b0 && b1 && b2 && b3) b4 t4);
-      rd = ltb→lt (h .rd) 2 (and-right (b0 && b1 && b2 && b3 && b4) b5 t5);
-      ra = ltb→lt (h .ra) 2 (and-right (b0 && b1 && b2 && b3 && b4 && b5) b6 t6);
-      ad = ltb→lt (h .ad) 2 (and-right (b0 && b1 && b2 && b3 && b4 && b5 && b6) b7 t7);
-      cd = ltb→lt (h .cd) 2 (and-right (b0 && b1 && b2 && b3 && b4 && b5 && b6 && b7) b8 t8);
-      rcode = ltb→lt (h .rcode) 16 (and-right (b0 && b1 && b2 && b3 && b4 && b5 && b6 && b7 && b8) b9 h₀);
+      id = ltb→lt (h .id) 65536 id;
+      qr = ltb→lt (h .qr) 2 qr;
+      opcode = ltb→lt (h .opcode) 16 opcode;
+      aa = ltb→lt (h .aa) 2 aa;
+      tc = ltb→lt (h .tc) 2 tc;
+      rd = ltb→lt (h .rd) 2 rd;
+      ra = ltb→lt (h .ra) 2 ra;
+      z = ltb→lt (h .z) 2 z;
+      ad = ltb→lt (h .ad) 2 ad;
+      cd = ltb→lt (h .cd) 2 cd;
+      rcode = ltb→lt (h .rcode) 16 rcode;
     }
 
 -- a header with these bounds is valid
 pub header-made : (h : Header) → Bounds h → T (header? h)
 unfolding header?
 header-made h k =
-    let b0 = ltb (h .id) 65536 in
-    let b1 = ltb (h .qr) 2 in
-    let b2 = ltb (h .opcode) 16 in
-    let b3 = ltb (h .aa) 2 in
-    let b4 = ltb (h .tc) 2 in
-    let b5 = ltb (h .rd) 2 in
-    let b6 = ltb (h .ra) 2 in
-    let b7 = ltb (h .ad) 2 in
-    let b8 = ltb (h .cd) 2 in
-    let b9 = ltb (h .rcode) 16 in
-    both (b0 && b1 && b2 && b3 && b4 && b5 && b6 && b7 && b8) b9
-    (both (b0 && b1 && b2 && b3 && b4 && b5 && b6 && b7) b8
-    (both (b0 && b1 && b2 && b3 && b4 && b5 && b6) b7
-    (both (b0 && b1 && b2 && b3 && b4 && b5) b6
-    (both (b0 && b1 && b2 && b3 && b4) b5
-    (both (b0 && b1 && b2 && b3) b4
-    (both (b0 && b1 && b2) b3
-    (both (b0 && b1) b2 (both b0 b1 (lt→ltb (h .id) 65536 (k .id)) (lt→ltb (h .qr) 2 (k .qr)))
-    (lt→ltb (h .opcode) 16 (k .opcode))) (lt→ltb (h .aa) 2 (k .aa))) (lt→ltb (h .tc) 2 (k .tc)))
-    (lt→ltb (h .rd) 2 (k .rd))) (lt→ltb (h .ra) 2 (k .ra))) (lt→ltb (h .ad) 2 (k .ad))) (lt→ltb (h .cd) 2 (k .cd)))
-    (lt→ltb (h .rcode) 16 (k .rcode))
+    let low : All T (lowTests h) = (
+      lt→ltb (h .ra) 2 (k .ra),
+      (
+        lt→ltb (h .z) 2 (k .z),
+        (lt→ltb (h .ad) 2 (k .ad), (lt→ltb (h .cd) 2 (k .cd), (lt→ltb (h .rcode) 16 (k .rcode), tt))),
+      ),
+    ) in
+    all-hold (u16? (h .id)) (tests h) (lt→ltb (h .id) 65536 (k .id)) (
+      lt→ltb (h .qr) 2 (k .qr),
+      (
+        lt→ltb (h .opcode) 16 (k .opcode),
+        (lt→ltb (h .aa) 2 (k .aa), (lt→ltb (h .tc) 2 (k .tc), (lt→ltb (h .rd) 2 (k .rd), low))),
+      ),
+    )
 
 -- the header of octets has those bounds
 header-octets : (s : List ℕ) → Octets s → Bounds (headerOf s)
@@ -208,6 +195,7 @@ header-octets s o =
       tc = omega arith;
       rd = omega arith;
       ra = omega arith;
+      z = omega arith;
       ad = omega arith;
       cd = omega arith;
       rcode = omega arith;
@@ -225,9 +213,10 @@ header-back m k =
     let e₄ : flagsHigh h / 2 % 2 ≡ h .tc = omega arith in
     let e₅ : flagsHigh h % 2 ≡ h .rd = omega arith in
     let e₆ : flagsLow h / 128 ≡ h .ra = omega arith in
-    let e₇ : flagsLow h / 32 % 2 ≡ h .ad = omega arith in
-    let e₈ : flagsLow h / 16 % 2 ≡ h .cd = omega arith in
-    let e₉ : flagsLow h % 16 ≡ h .rcode = omega arith in
+    let e₇ : flagsLow h / 64 % 2 ≡ h .z = omega arith in
+    let e₈ : flagsLow h / 32 % 2 ≡ h .ad = omega arith in
+    let e₉ : flagsLow h / 16 % 2 ≡ h .cd = omega arith in
+    let e₁₀ : flagsLow h % 16 ≡ h .rcode = omega arith in
     λ i. record {
       id = e₀ i;
       qr = e₁ i;
@@ -236,15 +225,11 @@ header-back m k =
       tc = e₄ i;
       rd = e₅ i;
       ra = e₆ i;
-      ad = e₇ i;
-      cd = e₈ i;
-      rcode = e₉ i;
+      z = e₇ i;
+      ad = e₈ i;
+      cd = e₉ i;
+      rcode = e₁₀ i;
     }
-
--- Z is clear in a form
-z-clear : (m : Message) → Bounds (m .header) → zOf (form m) ≡ 0
-unfolding form headerForm
-z-clear m k = let h = m .header in let e : flagsLow h / 64 % 2 ≡ 0 = omega arith in e
 
 -- ---- the parts of a valid message
 -- the count of a valid section is a number of 16 bits, and its entries are valid
@@ -398,7 +383,6 @@ decode-form m v h =
       decode,
       le-ltb 65535 (length (form m)) h,
       le-ltb (length (form m)) 12 (omega arith),
-      z-clear m (w .header),
       le-ltb (length (form m)) (length (form m)) (omega arith),
     )
 
@@ -440,7 +424,6 @@ ended-back s n (stopped at fault) m e = absurd (refused≢accepted e)
 pub record Taken (s : List ℕ) (m : Message) : Type 0 where
   pub small : length s ≤ 65535
   pub room : 12 ≤ length s
-  pub clear : zOf s ≡ 1 → ⊥
   pub last : ℕ
   pub came : sectionsOf s .additional .end ≡ reached last
   pub whole : length s ≤ last
@@ -453,12 +436,10 @@ unfolding decode
 decode-back s m e =
     let (a, e₁) = cond-back (ltb 65535 (length s)) 2 0 _ m e in
     let (b, e₂) = cond-back (ltb (length s) 12) 1 0 _ m e₁ in
-    let (c, e₃) = cond-back (eqb (zOf s) 1) 3 0 _ m e₂ in
-    let (at, p, q, d, same) = ended-back s (messageRead s) (sectionsOf s .additional .end) m e₃ in
+    let (at, p, q, d, same) = ended-back s (messageRead s) (sectionsOf s .additional .end) m e₂ in
     record {
       small = ltb-false 65535 (length s) a;
       room = ltb-false (length s) 12 b;
-      clear = eqb-false (zOf s) 1 c;
       last = at;
       came = p;
       whole = q;

@@ -2,7 +2,7 @@
 use mathlib.Core.Bool.{cond}
 use mathlib.Core.List.{List}
 use Prim.Native.Nat.{ℕ, _/_, _%_}
-use lib.Dec.{ltb, eqb}
+use lib.Dec.{ltb}
 use lib.ListN.{length, getD}
 use Rattle.octets.specs.Fields.{be16At}
 use Rattle.names.specs.Name.{refusalNumber}
@@ -22,13 +22,11 @@ headerOf s =
       tc = high / 2 % 2;
       rd = high % 2;
       ra = low / 128;
+      z = low / 64 % 2;
       ad = low / 32 % 2;
       cd = low / 16 % 2;
       rcode = low % 16;
     }
-
-abbrev pub zOf : List ℕ → ℕ
-zOf s = getD s 3 0 / 64 % 2
 
 -- the four sections by the header's counts, each with the entries before the first fault
 pub record Sections : Type 0 where
@@ -70,10 +68,9 @@ afterReading s m (reached at) =
     cond (ltb at (length s)) (refused 8 at)
     (cond (ltb 65535 (length (form m))) (refused 9 0) (accepted m))
 
--- the refusals but 10, in order: 2 over 65,535 octets; 1 under 12 octets; 3 Z is set; then those of reading
+-- the refusals but 10, in order: 2 over 65,535 octets; 1 under 12 octets; then those of reading
 unfoldable pub decode : List ℕ → Decoded
 decode s =
     cond (ltb 65535 (length s)) (refused 2 0)
     (cond (ltb (length s) 12) (refused 1 0)
-    (cond (eqb (zOf s) 1) (refused 3 0)
-    (afterReading s (messageRead s) (sectionsOf s .additional .end))))
+    (afterReading s (messageRead s) (sectionsOf s .additional .end)))

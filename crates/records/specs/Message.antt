@@ -9,7 +9,7 @@ use Rattle.octets.specs.Fields.{be16, be32}
 use Rattle.names.specs.Name.{Name, nameForm, name?}
 use Rattle.records.specs.Layout.{rdataFits?}
 
--- the header but for its counts, which are those of the sections, and for Z, which is never set
+-- the header but for its counts, which are those of the sections
 pub record Header : Type 0 where
   pub id : ℕ
   pub qr : ℕ
@@ -18,6 +18,7 @@ pub record Header : Type 0 where
   pub tc : ℕ
   pub rd : ℕ
   pub ra : ℕ
+  pub z : ℕ
   pub ad : ℕ
   pub cd : ℕ
   pub rcode : ℕ
@@ -47,12 +48,12 @@ pub record Message : Type 0 where
   pub additional : List Record
 
 -- ---- the uncompressed form
--- the octet of QR, Opcode, AA, TC, RD, and the octet of RA, Z (clear), AD, CD, RCODE
+-- the octet of QR, Opcode, AA, TC, RD, and the octet of RA, Z, AD, CD, RCODE
 abbrev pub flagsHigh : Header → ℕ
 flagsHigh h = h .qr * 128 + h .opcode * 8 + h .aa * 4 + h .tc * 2 + h .rd
 
 abbrev pub flagsLow : Header → ℕ
-flagsLow h = h .ra * 128 + h .ad * 32 + h .cd * 16 + h .rcode
+flagsLow h = h .ra * 128 + h .z * 64 + h .ad * 32 + h .cd * 16 + h .rcode
 
 unfoldable pub questionForm : Question → List ℕ
 questionForm q = nameForm (q .name) ++ be16 (q .type) ++ be16 (q .class)
@@ -94,6 +95,7 @@ header? h =
     && bit? (h .tc)
     && bit? (h .rd)
     && bit? (h .ra)
+    && bit? (h .z)
     && bit? (h .ad)
     && bit? (h .cd)
     && four-bits? (h .rcode)

@@ -14,7 +14,8 @@ use Rattle.records.specs.Layout.{rdataFits?, layouts, layoutOf, pieces, rdataAt
 use Rattle.records.proofs.Boundaries.{Verdict, taken, refuses}
 use Rattle.edns.specs.Edns.{rcodes, edns?, option?, rising?, divided, optionsOf, ednsOf, ednsRecord, optionForm}
 use Rattle.edns.specs.Edns.{small-option?, flags}
-use Rattle.json.specs.Sample.{textWith}
+use Rattle.json.specs.Sample.{textAmid, textWith, emptyAmid}
+use Rattle.json.specs.Document.{adTitles}
 use Rattle.spelling.specs.Spelling.{plain?, printable?, spelled, stringOctet}
 use Rattle.options.specs.Options.{members, rows, syntaxOf, shape, words}
 use Rattle.json.specs.View.{view?, additionals?, additional?, settled?, opt-entry?, messageOf, recordOf}
@@ -334,7 +335,7 @@ readings =
     -- numbers of the header, of questions, a count: the last in range and the first out of it
     ∷ record {
       text = ascii
-          "{\"ID\":65535,\"QR\":1,\"Opcode\":15,\"AA\":1,\"TC\":1,\"RD\":1,\"RA\":1,\"AD\":1,\"CD\":1,\"RCODE\":0,\"QDCOUNT\":0,\"ANCOUNT\":0,\"NSCOUNT\":0,\"ARCOUNT\":0,\"questionRRs\":[],\"answerRRs\":[],\"authorityRRs\":[],\"additionalRRs\":[]}";
+          "{\"ID\":65535,\"QR\":1,\"Opcode\":15,\"AA\":1,\"TC\":1,\"RD\":1,\"RA\":1,\"Z\":1,\"AD\":1,\"CD\":1,\"RCODE\":0,\"QDCOUNT\":0,\"ANCOUNT\":0,\"NSCOUNT\":0,\"ARCOUNT\":0,\"questionRRs\":[],\"answerRRs\":[],\"authorityRRs\":[],\"additionalRRs\":[]}";
       gives = taken;
     }
     ∷ record {
@@ -376,6 +377,20 @@ readings =
       text = textWith "0" "1" "0" "0" "{\"NAME\":\".\",\"TYPE\":1,\"CLASS\":65536}" "" "";
       gives = refuses 21 0;
     }
+    -- Z: set, between RA and AD; another value there; twice; elsewhere; beside a number out of range
+    ∷ record { text = emptyAmid "" ",\"Z\":1" ""; gives = taken }
+    ∷ record { text = emptyAmid "" ",\"Z\":0" ""; gives = refuses 20 0 }
+    ∷ record { text = emptyAmid "" ",\"Z\":2" ""; gives = refuses 20 0 }
+    ∷ record { text = emptyAmid "" ",\"Z\":10" ""; gives = refuses 20 0 }
+    ∷ record { text = emptyAmid "" ",\"Z\":01" ""; gives = refuses 20 0 }
+    ∷ record { text = emptyAmid "" ",\"Z\":-1" ""; gives = refuses 20 0 }
+    ∷ record { text = emptyAmid "" ",\"Z\":\"1\"" ""; gives = refuses 20 0 }
+    ∷ record { text = emptyAmid "" ",\"Z\":" ""; gives = refuses 20 0 }
+    ∷ record { text = emptyAmid "" ",\"Z\":1,\"Z\":1" ""; gives = refuses 20 0 }
+    ∷ record { text = emptyAmid ",\"Z\":1" "" ""; gives = refuses 20 0 }
+    ∷ record { text = emptyAmid "" "" ",\"Z\":1"; gives = refuses 20 0 }
+    ∷ record { text = textAmid "" ",\"Z\":1" "" "16" "0" "0" "0" "" "" ""; gives = refuses 21 0 }
+    ∷ record { text = textAmid "" ",\"Z\":0" "" "16" "0" "0" "0" "" "" ""; gives = refuses 20 0 }
     -- names of 255 and 256 octets; a dot, a backslash, 0x7F and 0x7E as digits, a number past 255
     ∷ record {
       text = textWith "0" "1" "0" "0"
@@ -624,5 +639,5 @@ readings =
 -- every row, computed
 pub readings-hold : map (λ (r : Reading). outcome (reading (r .text))) readings ≡ map
     (λ (r : Reading). r .gives) readings
-unfolding readings parse document head natural positive questionCodec recordCodec name rootOrLabels label spelledOctet spelledAt escape ddd leads? coded-from? coded? plain? signedNumber hex hexPairs unhex string stringChars stringChar stringAt bare? printable? quoted itemCodec ednsElement optionMembers member knownMember otherMember value expiryNumber tableParser members rows flags rcodes syntaxOf lookup rowText decimal spelled stringOctet hexText reading meaning documentView itemRecord itemEdns itemAdditional unsigned agrees? counts? ttl? ednsItem? item? view? additionals? additional? settled? opt-entry? edns? option? header? question? record? name? label? nameForm rdataFits? walk nameFrom layouts layoutOf pieces rdataAt rising? divided optionsOf ednsOf key? shape words value? member? optionOf octetsOf within? small-rdata? small-option? small-options? messageOf recordOf ednsRecord optionForm each form headerForm questionForm recordForm
+unfolding readings parse document head natural positive questionCodec recordCodec name rootOrLabels label spelledOctet spelledAt escape ddd leads? coded-from? coded? plain? signedNumber hex hexPairs unhex string stringChars stringChar stringAt bare? printable? quoted itemCodec ednsElement optionMembers member knownMember otherMember value expiryNumber tableParser members rows flags rcodes adTitles syntaxOf lookup rowText decimal spelled stringOctet hexText reading meaning documentView itemRecord itemEdns itemAdditional unsigned agrees? counts? ttl? ednsItem? item? view? additionals? additional? settled? opt-entry? edns? option? header? question? record? name? label? nameForm rdataFits? walk nameFrom layouts layoutOf pieces rdataAt rising? divided optionsOf ednsOf key? shape words value? member? optionOf octetsOf within? small-rdata? small-option? small-options? messageOf recordOf ednsRecord optionForm each form headerForm questionForm recordForm
 readings-hold = refl

@@ -14,12 +14,13 @@ use Rattle.octets.specs.Bits.{is-true, both, and-left, and-right, all→All, Al
 use Rattle.names.specs.Name.{Name, label?, name?}
 use Rattle.names.specs.NameLaws.{name-labels, label-octets}
 use Rattle.records.specs.Layout.{rdataFits?}
-use Rattle.records.specs.Message.{Header, Question, Record, bit?, four-bits?, header?, question?, record?, section?}
+use Rattle.records.specs.Message.{Question, Record, bit?, header?, question?, record?, section?}
+use Rattle.records.proofs.MessageLaws.{Bounds, header-parts}
 use Rattle.spelling.specs.Spelling.{Signed, plus, minus, signed}
 use Rattle.options.specs.Options.{EdnsOption, memberOf}
 use Rattle.edns.specs.Edns.{flags, Edns, fullRcode, rcodes, rising?, option?, edns?, EdnsItem, ednsItem}
 use Rattle.json.specs.View.{Additional, View, additional?, settled?, opt-entry?, additionals?, view?}
-use Rattle.json.specs.Document.{RecordItem, Item, Document}
+use Rattle.json.specs.Document.{RecordItem, Item, Document, adTitles}
 use Rattle.json.specs.Text.{recordItem, item, documentOf}
 use Rattle.json.specs.View as view
 use Rattle.json.specs.Document as doc
@@ -202,17 +203,16 @@ item-back rcode (doc.ordinary r) i h = ap doc.ordinary (record-back r i h)
 item-back rcode (doc.edns e) i h = ap doc.edns (edns-back rcode e i h)
 
 -- ---- the whole document
--- a valid header's RCODE has four bits
-header-rcode : (h : Header) → T (header? h) → h .rcode < 16
-unfolding header?
-header-rcode h t =
-    let bits = u16? (h .id) && bit? (h .qr) && four-bits? (h .opcode) && bit? (h .aa) && bit? (h .tc) && bit? (h .rd)
-    && bit? (h .ra) && bit? (h .ad) && bit? (h .cd) in
-    ltb→lt (h .rcode) 16 (and-right bits (four-bits? (h .rcode)) t)
+-- a bit chooses one of AD's titles
+bit-titled : (n : ℕ) → n < 2 → T (key? n adTitles)
+unfolding adTitles key?
+bit-titled zero h = tt
+bit-titled (suc zero) h = tt
+bit-titled (suc (suc n)) h = absurd (omega arith)
 
--- the parts of a valid view: the header's RCODE, and the entries of the sections
+-- the parts of a valid view: the header's fields, and the entries of the sections
 view-parts : (v : View) → T (view? v)
-    → (v .header .rcode < 16) × T (all question? (v .questions)) × T (all record? (v .answers))
+    → Bounds (v .header) × T (all question? (v .questions)) × T (all record? (v .answers))
     × T (all record? (v .authority)) × T (all (additional? (v .header .rcode)) (v .additional))
 unfolding view? additionals?
 view-parts v h =
@@ -225,7 +225,7 @@ view-parts v h =
     let i = and-left d (additionals? rcode (v .additional)) h in
     let j = and-left c (section? record? (v .authority)) i in
     let k = and-left b (section? record? (v .answers)) j in (
-      header-rcode (v .header) (and-left a (section? question? (v .questions)) k),
+      header-parts (v .header) (and-left a (section? question? (v .questions)) k),
       and-right (u16? (length (v .questions))) (all question? (v .questions))
           (and-right a (section? question? (v .questions)) k),
       and-right (u16? (length (v .answers))) (all record? (v .answers))
@@ -254,12 +254,15 @@ pub view-in : (v : View) → T (view? v) → DocumentIn (documentOf v)
 unfolding documentOf
 view-in v h =
     let parts = view-parts v h in (
-      All-map question-in (v .questions) (all→All question? (v .questions) (parts .1)),
+      bit-titled (v .header .z) (parts .0 .z),
       (
-        records-forth (v .answers) (parts .2) .0,
+        All-map question-in (v .questions) (all→All question? (v .questions) (parts .1)),
         (
-          records-forth (v .authority) (parts .3) .0,
-          items-forth (v .header .rcode) (parts .0) (v .additional) (parts .4) .0,
+          records-forth (v .answers) (parts .2) .0,
+          (
+            records-forth (v .authority) (parts .3) .0,
+            items-forth (v .header .rcode) (parts .0 .rcode) (v .additional) (parts .4) .0,
+          ),
         ),
       ),
     )
@@ -292,7 +295,7 @@ view-agrees v h =
     (both tests (all recordItem? (d .authority))
     (both (counts? d) (all recordItem? (d .answers)) (view-counts v) (records-forth (v .answers) (parts .2) .1))
     (records-forth (v .authority) (parts .3) .1))
-    (items-forth (v .header .rcode) (parts .0) (v .additional) (parts .4) .1)
+    (items-forth (v .header .rcode) (parts .0 .rcode) (v .additional) (parts .4) .1)
 
 -- the view is read back
 view-back : (v : View) → T (view? v) → documentView (documentOf v) ≡ v
@@ -301,7 +304,7 @@ view-back v h =
     let parts = view-parts v h in
     let answers = records-forth (v .answers) (parts .2) .2 in
     let authority = records-forth (v .authority) (parts .3) .2 in
-    let additional = items-forth (v .header .rcode) (parts .0) (v .additional) (parts .4) .2 in
+    let additional = items-forth (v .header .rcode) (parts .0 .rcode) (v .additional) (parts .4) .2 in
     λ i. record {
       header = v .header;
       questions = v .questions;
@@ -342,10 +345,10 @@ document-back d i h =
     let ar = length-map (d .additional) itemAdditional
     ∙ sym (eqb→eq (d .arcount) (length (d .additional)) (and-right (q && a && n) r c)) in
     let records = all-back recordItem itemRecord RecordIn record? recordItem? record-back in
-    let answers = records (d .answers) (i .1 .0) (and-right (counts? d) (all recordItem? (d .answers)) u) in
-    let authority = records (d .authority) (i .1 .1 .0) (and-right tests (all recordItem? (d .authority)) t) in
+    let answers = records (d .answers) (i .1 .1 .0) (and-right (counts? d) (all recordItem? (d .answers)) u) in
+    let authority = records (d .authority) (i .1 .1 .1 .0) (and-right tests (all recordItem? (d .authority)) t) in
     let additional = all-back (item rcode) itemAdditional ItemIn (additional? rcode) (item? rcode) (item-back rcode)
-    (d .additional) (i .1 .1 .1)
+    (d .additional) (i .1 .1 .1 .1)
     (and-right (tests && all recordItem? (d .authority)) (all (item? rcode) (d .additional)) h) in
     λ i. record {
       header = d .header;

@@ -21,7 +21,7 @@ use Rattle.options.specs.Options.{paddingTail, errorTail, expiryText, valueText
 use Rattle.options.specs.Options.{memberText}
 use Rattle.edns.specs.Edns.{rcodes, EdnsItem, flags, ednsText}
 use Rattle.json.specs.Document.{RecordItem, Item, ordinary, edns, Document, questionText, recordText, itemText}
-use Rattle.json.specs.Document.{headText, documentText}
+use Rattle.json.specs.Document.{adTitles, headText, documentText}
 use Rattle.strict.specs.Grammar.{Label, Labels, QuestionIn, RecordIn, Maybe, StringIn, ValueIn, MemberIn, EdnsIn}
 use Rattle.strict.specs.Grammar.{ItemIn, DocumentIn}
 use Rattle.strict.specs.Spelt.{plain-in}
@@ -198,7 +198,7 @@ item-seen (ordinary r) h = record-seen r h
 item-seen (edns e) h = edns-seen e h
 
 head-seen : (d : Document) → Seen (headText d)
-unfolding headText
+unfolding headText adTitles
 head-seen d =
     quote "{\"ID\":" tt ⊕ decimal-seen (d .header .id)
     ⊕ quote ",\"QR\":" tt ⊕ decimal-seen (d .header .qr)
@@ -207,7 +207,7 @@ head-seen d =
     ⊕ quote ",\"TC\":" tt ⊕ decimal-seen (d .header .tc)
     ⊕ quote ",\"RD\":" tt ⊕ decimal-seen (d .header .rd)
     ⊕ quote ",\"RA\":" tt ⊕ decimal-seen (d .header .ra)
-    ⊕ quote ",\"AD\":" tt ⊕ decimal-seen (d .header .ad)
+    ⊕ textOf-seen adTitles tt (d .header .z) ⊕ decimal-seen (d .header .ad)
     ⊕ quote ",\"CD\":" tt ⊕ decimal-seen (d .header .cd)
     ⊕ quote ",\"RCODE\":" tt ⊕ decimal-seen (d .header .rcode)
     ⊕ quote ",\"QDCOUNT\":" tt ⊕ decimal-seen (d .qdcount)
@@ -219,10 +219,10 @@ document-seen : (d : Document) → DocumentIn d → Seen (documentText d)
 unfolding documentText
 document-seen d h =
     head-seen d
-    ⊕ quote ",\"questionRRs\":" tt ⊕ listed-seen questionText question-seen (d .questions) (h .0)
-    ⊕ quote ",\"answerRRs\":" tt ⊕ listed-seen recordText record-seen (d .answers) (h .1 .0)
-    ⊕ quote ",\"authorityRRs\":" tt ⊕ listed-seen recordText record-seen (d .authority) (h .1 .1 .0)
-    ⊕ quote ",\"additionalRRs\":" tt ⊕ listed-seen itemText item-seen (d .additional) (h .1 .1 .1)
+    ⊕ quote ",\"questionRRs\":" tt ⊕ listed-seen questionText question-seen (d .questions) (h .1 .0)
+    ⊕ quote ",\"answerRRs\":" tt ⊕ listed-seen recordText record-seen (d .answers) (h .1 .1 .0)
+    ⊕ quote ",\"authorityRRs\":" tt ⊕ listed-seen recordText record-seen (d .authority) (h .1 .1 .1 .0)
+    ⊕ quote ",\"additionalRRs\":" tt ⊕ listed-seen itemText item-seen (d .additional) (h .1 .1 .1 .1)
     ⊕ quote "}" tt
 
 pub visible : (d : Document) → DocumentIn d → All (λ c. (32 ≤ c) × (c ≤ 126)) (documentText d)

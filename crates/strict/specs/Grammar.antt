@@ -11,7 +11,7 @@ use Rattle.spelling.specs.Spelling.{Signed, plus, minus, printable?}
 use Rattle.options.specs.Options.{Syntax, hexObject, octetList, expiry, hexList, word, padding, wordList, extendedError}
 use Rattle.options.specs.Options.{unlisted, Value, syntaxOf, members, Member, known, other}
 use Rattle.edns.specs.Edns.{rcodes, EdnsItem, flags}
-use Rattle.json.specs.Document.{RecordItem, Item, ordinary, edns, Document}
+use Rattle.json.specs.Document.{RecordItem, Item, ordinary, edns, Document, adTitles}
 
 -- a number is as long as it likes
 abbrev pub Number : ℕ → Type 0
@@ -67,7 +67,8 @@ abbrev pub ItemIn : Item → Type 0
 ItemIn (ordinary r) = RecordIn r
 ItemIn (edns e) = EdnsIn e
 
--- numbers of the header and counts are of any size
+-- Z is clear or set, as it is spelled; the header's numbers and the counts are of any size
 abbrev pub DocumentIn : Document → Type 0
-DocumentIn d = All QuestionIn (d .questions)
-    × (All RecordIn (d .answers) × (All RecordIn (d .authority) × All ItemIn (d .additional)))
+DocumentIn d = T (key? (d .header .z) adTitles)
+    × (All QuestionIn (d .questions)
+    × (All RecordIn (d .answers) × (All RecordIn (d .authority) × All ItemIn (d .additional))))

@@ -12,8 +12,9 @@ use Rattle.octets.specs.Bits.{and-left, and-right}
 use Rattle.octets.specs.Parsed.{Parsed, parsed, failed, missed}
 use Rattle.octets.specs.Codec.{Avoids, Any, Codec, fronts, unique, whole, whole-exact, whole-ends, joined, iso, retext}
 use Rattle.octets.specs.Codec.{weaken, reindex, literalAs, many, array, pair-by}
-use Rattle.octets.specs.Codec.{tableParser, apart?, apart-texts, distinct, table, _▷_, _◁_, _⊗_}
-use Rattle.octets.specs.Decimal.{decimal, NoDigit, natural, number, number-avoids, decimal-avoids, numberThen}
+use Rattle.octets.specs.Codec.{tableParser, apart?, apart-texts, distinct, row-holds, table, _▷_, _◁_, _⊗_}
+use Rattle.octets.specs.Decimal.{decimal, NoDigit, natural, number, number-avoids, decimal-avoids, ends?, numberThen}
+use Rattle.octets.specs.Decimal.{numberRow}
 use Rattle.octets.specs.Hexadecimal.{hexText, unhex, hexPairs, hex, hexText-avoids}
 use Rattle.records.specs.Message.{Header}
 use Rattle.spelling.specs.Spelling.{plain?, stringText}
@@ -22,7 +23,7 @@ use Rattle.options.specs.Options.{extendedError, unlisted, syntaxOf, Value}
 use Rattle.options.specs.Options.{paddingTail, errorTail, expiryText, valueText, Member, known, other, memberText}
 use Rattle.edns.specs.Edns.{rcodes, EdnsItem, flags, ednsText}
 use Rattle.json.specs.Document.{RecordItem, Item, ordinary, edns, Document, questionText, recordText, itemText}
-use Rattle.json.specs.Document.{headText, documentText}
+use Rattle.json.specs.Document.{adTitles, headText, documentText}
 use Rattle.strict.specs.Grammar.{Number, QuestionIn, RecordIn, Maybe, ValueIn, MemberIn, EdnsIn, ItemIn}
 use Rattle.strict.specs.Grammar.{DocumentIn}
 use Rattle.strict.specs.Spelt.{fromSum, sum, coded?, coded-from?, leads?, ddd, escape, spelledAt, spelledOctet}
@@ -103,24 +104,11 @@ pub members-distinct : T (distinct members)
 unfolding members rows
 members-distinct = tt
 
--- a text apart from that of every row is apart from that of every key
-row-apart : (l : List ℕ) (table : List (ℕ × String)) (n : ℕ) → T (all (λ row. apart? (ascii (row .1)) l) table)
-    → T (key? n table) → T (apart? (rowText n table) l)
-unfolding key? rowText
-row-apart l [] n h k = absurd k
-row-apart l (row ∷ table) n h k =
-    go (eqb (row .0) n) k (row-apart l table n (and-right (apart? (ascii (row .1)) l) _ h))
-  where
-    go : (b : Bool) → T (cond b true (key? n table)) → (T (key? n table) → T (apart? (rowText n table) l))
-        → T (apart? (cond b (ascii (row .1)) (rowText n table)) l)
-    go true k f = and-left (apart? (ascii (row .1)) l) _ h
-    go false k f = f k
-
 -- no member of the table begins as `OPT`
 pub member-apart : (code : ℕ) (r s : List ℕ) → T (key? code members) → rowText code members ++ r ≡ ascii "OPT" ++ s → ⊥
 unfolding members rows
 member-apart code r s h =
-    apart-texts (rowText code members) (ascii "OPT") r s (row-apart (ascii "OPT") members code tt h)
+    apart-texts (rowText code members) (ascii "OPT") r s (row-holds (λ t. apart? t (ascii "OPT")) members tt code h)
 
 -- a member of the table, whose code decides the syntax of its value
 unfoldable pub knownMember : Codec {A = (code : ℕ) × Value (syntaxOf code)} (λ u. MemberIn (known (u .0) (u .1)))
@@ -260,12 +248,21 @@ bareDocument (h, (qn, (an, (nn, rn)))) =
 abbrev pub headOf : Document → Head
 headOf d = (d .header, (d .qdcount, (d .ancount, (d .nscount, d .arcount))))
 
--- the 14 numbers, up to the last digit: ID; the flags of the header's third octet and of its fourth; the counts
-unfoldable pub head : Codec {A = Head} (λ h. Unit {0}) (λ h. headText (bareDocument h)) NoDigit
+-- the titles of AD tell Z, and none begins with a digit
+pub titles-distinct : T (distinct adTitles)
+unfolding adTitles
+titles-distinct = tt
+
+pub titles-end : T (all (λ row. ends? (ascii (row .1))) adTitles)
+unfolding adTitles
+titles-end = tt
+
+-- the 14 numbers and Z, up to the last digit: ID; the flags of the header's third octet and of its fourth; the counts
+unfoldable pub head : Codec {A = Head} (λ h. T (key? (h .0 .z) adTitles)) (λ h. headText (bareDocument h)) NoDigit
 unfolding headText
 head = retext (λ h. simp append-assoc) (iso
-    (λ (h, n). (h .id, ((h .qr, (h .opcode, (h .aa, (h .tc, h .rd)))), ((h .ra, (h .ad, (h .cd, h .rcode))), n))))
-    (λ (id, ((qr, (opcode, (aa, (tc, rd)))), ((ra, (ad, (cd, rcode))), n))). (
+    (λ (h, n). (h .id, ((h .qr, (h .opcode, (h .aa, (h .tc, h .rd)))), (((h .ra, h .z), (h .ad, (h .cd, h .rcode))), n))))
+    (λ (id, ((qr, (opcode, (aa, (tc, rd)))), (((ra, z), (ad, (cd, rcode))), n))). (
       record {
         id = id;
         qr = qr;
@@ -274,19 +271,20 @@ head = retext (λ h. simp append-assoc) (iso
         tc = tc;
         rd = rd;
         ra = ra;
+        z = z;
         ad = ad;
         cd = cd;
         rcode = rcode;
       },
       n,
     ))
-    (λ h i. ((tt, ((tt, (tt, (tt, (tt, tt)))), ((tt, (tt, (tt, tt))), (tt, (tt, (tt, tt)))))), refl))
-    (λ u i. (tt, refl))
+    (λ h i. ((tt, ((tt, (tt, (tt, (tt, tt)))), (((tt, i), (tt, (tt, tt))), (tt, (tt, (tt, tt)))))), refl))
+    (λ u i. (i .1 .1 .0 .0 .1, refl))
     ("{\"ID\":" ▷ numberThen ",\"QR\":" tt number
     ⊗ (numberThen ",\"Opcode\":" tt number ⊗ numberThen ",\"AA\":" tt number ⊗ numberThen ",\"TC\":" tt number ⊗
     numberThen ",\"RD\":" tt number
     ⊗ numberThen ",\"RA\":" tt number)
-    ⊗ (numberThen ",\"AD\":" tt number ⊗ numberThen ",\"CD\":" tt number ⊗ numberThen ",\"RCODE\":" tt number ⊗
+    ⊗ (numberRow adTitles titles-distinct titles-end ⊗ numberThen ",\"CD\":" tt number ⊗ numberThen ",\"RCODE\":" tt number ⊗
     numberThen ",\"QDCOUNT\":" tt
     number)
     ⊗ numberThen ",\"ANCOUNT\":" tt number ⊗ numberThen ",\"NSCOUNT\":" tt number ⊗ numberThen ",\"ARCOUNT\":" tt number
@@ -314,7 +312,7 @@ document = retext (λ d. rw (head-same d) (simp append-assoc)) (iso
       authority = auth;
       additional = add;
     })
-    (λ d h. ((tt, h), refl)) (λ u h. (h .1, refl))
+    (λ d h. (h, refl)) (λ u h. (h, refl))
     (joined head
     (",\"questionRRs\":" ▷ array question-avoids (λ r. tt) (λ r. tt) questionCodec
     ⊗ ",\"answerRRs\":" ▷ array entry-avoids (λ r. tt) (λ r. tt) recordCodec

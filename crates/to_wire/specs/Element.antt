@@ -29,9 +29,9 @@ use Rattle.parse_tokens.specs.Cursor.{Keeps, keeps-then, Passed}
 use Rattle.parse_tokens.specs.Step.{Found, Put, Step, Held, Judged, found-at, found-from, found-sound, found-map}
 use Rattle.parse_tokens.specs.Step.{found-lit}
 use Rattle.parse_tokens.specs.Step.{found-behind, found-pair, put-from, put-as, put-before, put-judged}
-use Rattle.parse_tokens.specs.declared.Row.{Row}
+use Rattle.parse_tables.specs.declared.Row.{Row}
 use Rattle.parse_tokens.specs.Number.{capped, capped-below, capped-is, NumberRead, TillRead}
-use Rattle.parse_tokens.specs.Rows.{RowRead}
+use Rattle.parse_tables.specs.Rows.{RowRead}
 use Rattle.to_wire.specs.Options.{options?, OptionsStep}
 use Rattle.to_wire.specs.declared.members.EdnsHead.{EdnsHead}
 

@@ -2,15 +2,16 @@
 use mathlib.Core.Path.{_≡_, refl, sym, _∙_, subst}
 use mathlib.Core.Bool.{Bool, true, false, _&&_}
 use mathlib.Core.List.{List, [], _∷_, _++_}
-use Prim.Native.Nat.{ℕ, _+_, _*_, _%_}
+use Prim.Native.Nat.{ℕ, _+_, _*_, _%_, _<_}
 use native.Mathlib.Omega.{arith}
+use borrow.Author.Tests.{lt-ltb}
 use lib.Dec.{T, ltb→lt}
 use Rattle.octets.specs.Lists.{ascii, u16?}
 use Rattle.octets.specs.Fields.{be16}
 use Rattle.octets.specs.Bits.{and-left, and-right}
 use Rattle.octets.specs.Parsed.{Parsed, parsed, and-then, strip}
-use Rattle.octets.specs.Codec.{_⊗_}
-use Rattle.octets.specs.Decimal.{number, numberThen}
+use Rattle.octets.specs.Codec.{tableParser, _⊗_}
+use Rattle.octets.specs.Decimal.{number, numberThen, numberRow}
 use Rattle.records.specs.Message.{bit?, four-bits?}
 use Rattle.parse_tokens.specs.declared.Cursor.{Cursor}
 use Rattle.parse_tokens.specs.declared.Amount.{Amount}
@@ -19,7 +20,10 @@ use Rattle.parse_tokens.specs.Step.{Found, found-as, found-lit, found-map, foun
 use Rattle.parse_tokens.specs.Step.{Judged, Emits}
 use Rattle.parse_tokens.specs.Number.{capped, capped-below, NumberRead, tillParse, TillRead}
 use Rattle.parse_tokens.specs.Fields.{Done, done-then, NumberPut}
-use Rattle.strict.specs.Parser.{Head, head}
+use Rattle.parse_tables.specs.declared.Row.{Row}
+use Rattle.parse_tables.specs.Rows.{RowRead}
+use Rattle.json.specs.Document.{adTitles}
+use Rattle.strict.specs.Parser.{Head, titles-distinct, titles-end, head}
 use Rattle.to_wire.specs.Meant.{highMeant?, highOctet, lowMeant?, lowOctet, headMeant?, headOctets}
 use Rattle.to_wire.specs.declared.head.Flags.{Flags}
 use Rattle.to_wire.specs.declared.head.Counts.{Counts}
@@ -29,6 +33,10 @@ use Rattle.to_wire.specs.declared.head.Header.{Header}
 -- ---- the flags
 abbrev pub Five : Type 0
 Five = ℕ × (ℕ × (ℕ × (ℕ × ℕ)))
+
+-- with Z beside RA
+abbrev pub Low : Type 0
+Low = (ℕ × ℕ) × (ℕ × (ℕ × ℕ))
 
 abbrev pub Four : Type 0
 Four = ℕ × (ℕ × (ℕ × ℕ))
@@ -40,9 +48,9 @@ pub record HighBits (c : Cursor) (u : Five) (r : Flags) : Type 0 where
       % 2
   pub fits : r .fits ≡ highMeant? u
 
-pub record LowBits (c : Cursor) (u : Four) (r : Flags) : Type 0 where
+pub record LowBits (c : Cursor) (u : Low) (r : Flags) : Type 0 where
   pub same : r .cursor ≡ c
-  pub octet : r .octet ≡ u .0 % 2 * 128 + u .1 .0 % 2 * 32 + u .1 .1 .0 % 2 * 16 + u .1 .1 .1 % 16
+  pub octet : r .octet ≡ u .0 .0 % 2 * 128 + u .0 .1 * 64 + u .1 .0 % 2 * 32 + u .1 .1 .0 % 2 * 16 + u .1 .1 .1 % 16
   pub fits : r .fits ≡ lowMeant? u
 
 pub high-bits : {c : Cursor} {u : Five} {o : ℕ} {w x y z : Bool}
@@ -52,11 +60,11 @@ pub high-bits : {c : Cursor} {u : Five} {o : ℕ} {w x y z : Bool}
     → HighBits c u (record { cursor = c; octet = o; fits = z })
 high-bits o d e f g = record { same = refl; octet = o; fits = g ∙ rw (f, e, d) }
 
-pub low-bits : {c : Cursor} {u : Four} {o : ℕ} {x y z : Bool}
-    → o ≡ u .0 % 2 * 128 + u .1 .0 % 2 * 32 + u .1 .1 .0 % 2 * 16 + u .1 .1 .1 % 16
-    → x ≡ (bit? (u .1 .1 .0) && four-bits? (u .1 .1 .1)) → y ≡ (bit? (u .1 .0) && x) → z ≡ (bit? (u .0) && y)
-    → LowBits c u (record { cursor = c; octet = o; fits = z })
-low-bits o e f g = record { same = refl; octet = o; fits = g ∙ rw (f, e) }
+pub low-bits : {c : Cursor} {u : Low} {o : ℕ} {x y w : Bool} → u .0 .1 < 2
+    → o ≡ u .0 .0 % 2 * 128 + u .0 .1 * 64 + u .1 .0 % 2 * 32 + u .1 .1 .0 % 2 * 16 + u .1 .1 .1 % 16
+    → x ≡ (bit? (u .1 .1 .0) && four-bits? (u .1 .1 .1)) → y ≡ (bit? (u .1 .0) && x) → w ≡ (bit? (u .0 .0) && y)
+    → LowBits c u (record { cursor = c; octet = o; fits = w })
+low-bits {u = u} h o e f g = record { same = refl; octet = o; fits = g ∙ rw (f, e, lt-ltb (u .0 .1) 2 h) }
 
 -- what is known of the flags that were read
 abbrev pub FlagsKept : {A : Type 0} → (A → Bool) → (A → ℕ) → Flags → A → Type 0
@@ -67,10 +75,9 @@ highParse = (numberThen ",\"Opcode\":" tt number ⊗ numberThen ",\"AA\":" tt nu
     numberThen ",\"RD\":" tt
     number ⊗ numberThen ",\"RA\":" tt number) .parse
 
-abbrev pub lowParse : List ℕ → Parsed Four
-lowParse = (numberThen ",\"AD\":" tt number ⊗ numberThen ",\"CD\":" tt number ⊗ numberThen ",\"RCODE\":" tt number ⊗
-    numberThen ",\"QDCOUNT\":"
-    tt number) .parse
+abbrev pub lowParse : List ℕ → Parsed Low
+lowParse = (numberRow adTitles titles-distinct titles-end ⊗ numberThen ",\"CD\":" tt number ⊗ numberThen ",\"RCODE\":"
+    tt number ⊗ numberThen ",\"QDCOUNT\":" tt number) .parse
 
 abbrev pub countsParse : List ℕ → Parsed Four
 countsParse = (numberThen ",\"ANCOUNT\":" tt number ⊗ numberThen ",\"NSCOUNT\":" tt number ⊗ numberThen ",\"ARCOUNT\":"
@@ -124,17 +131,19 @@ high-kept a b d e f x = (x .fits ∙ same, λ t. let h = subst T (x .fits ∙ sa
           bit-in f (and-right (bit? e) _ h4),
         )
 
-low-kept : {c : Cursor} {r : Flags} (a b d e : ℕ) → LowBits c (capped a, (capped b, (capped d, capped e))) r
-    → FlagsKept lowMeant? lowOctet r (a, (b, (d, e)))
-low-kept a b d e x = (x .fits ∙ same, λ t. let h = subst T (x .fits ∙ same) t in x .octet ∙ octet h)
+low-kept : {c : Cursor} {r : Flags} (a z b d e : ℕ)
+    → LowBits c ((capped a, z), (capped b, (capped d, capped e))) r
+    → FlagsKept lowMeant? lowOctet r ((a, z), (b, (d, e)))
+low-kept a z b d e x = (x .fits ∙ same, λ t. let h = subst T (x .fits ∙ same) t in x .octet ∙ octet h)
   where
-    same : lowMeant? (capped a, (capped b, (capped d, capped e))) ≡ lowMeant? (a, (b, (d, e)))
+    same : lowMeant? ((capped a, z), (capped b, (capped d, capped e))) ≡ lowMeant? ((a, z), (b, (d, e)))
     same = rw (bit-kept a, bit-kept b, bit-kept d, four-bits-kept e)
 
-    octet : T (lowMeant? (a, (b, (d, e))))
-        → capped a % 2 * 128 + capped b % 2 * 32 + capped d % 2 * 16 + capped e % 16 ≡ a * 128 + b * 32 + d * 16 + e
+    octet : T (lowMeant? ((a, z), (b, (d, e))))
+        → capped a % 2 * 128 + z * 64 + capped b % 2 * 32 + capped d % 2 * 16 + capped e % 16
+        ≡ a * 128 + z * 64 + b * 32 + d * 16 + e
     octet h =
-        let h2 = and-right (bit? a) _ h in
+        let h2 = and-right (bit? z) _ (and-right (bit? a) _ h) in
         let h3 = and-right (bit? b) _ h2 in
         rw (
           bit-in a (and-left (bit? a) _ h),
@@ -164,21 +173,23 @@ high-read {t} {c} {a} {b} {d} {e} {f} {r} v w x y z k = record {
     kept u h = high-kept (u .0) (u .1 .0) (u .1 .1 .0) (u .1 .1 .1 .0) (u .1 .1 .1 .1)
         (rw (h .0, h .1 .0, h .1 .1 .0, h .1 .1 .1 .0, h .1 .1 .1 .1) at k)
 
-pub low-read : {t : List ℕ} {c : Cursor} {a b d e : Amount} {r : Flags}
-    → TillRead (ascii ",\"AD\":") t c a → TillRead (ascii ",\"CD\":") t (a .cursor) b
-    → TillRead (ascii ",\"RCODE\":") t (b .cursor) d
+pub low-read : {t : List ℕ} {c : Cursor} {a b d e : Amount} {z : Row} {r : Flags}
+    → NumberRead t c a → RowRead (tableParser adTitles) t (a .cursor) z
+    → TillRead (ascii ",\"CD\":") t (z .cursor) b → TillRead (ascii ",\"RCODE\":") t (b .cursor) d
     → TillRead (ascii ",\"QDCOUNT\":") t (d .cursor) e
-    → LowBits (e .cursor) (a .value, (b .value, (d .value, e .value))) r → LowRead t c r
-low-read {t} {c} {a} {b} {d} {e} {r} v w x y k = record {
-  found = rw (k .same) (found-as (found-pair (v .found) (found-pair (w .found) (found-pair (x .found) (y .found))))
-      kept);
-  keeps = rw (k .same) (keeps-then (v .keeps) (keeps-then (w .keeps) (keeps-then (x .keeps) (y .keeps))));
+    → LowBits (e .cursor) ((a .value, z .key), (b .value, (d .value, e .value))) r → LowRead t c r
+low-read {t} {c} {a} {b} {d} {e} {z} {r} v f w x y k = record {
+  found = rw (k .same) (found-as
+      (found-pair (found-pair (v .found) (f .found)) (found-pair (w .found) (found-pair (x .found) (y .found)))) kept);
+  keeps = rw (k .same) (keeps-then (v .keeps)
+      (keeps-then (f .keeps) (keeps-then (w .keeps) (keeps-then (x .keeps) (y .keeps)))));
 }
   where
-    kept : (u : Four) → (a .value ≡ capped (u .0))
+    kept : (u : Low) → ((a .value ≡ capped (u .0 .0)) × (z .key ≡ u .0 .1))
         × ((b .value ≡ capped (u .1 .0)) × ((d .value ≡ capped (u .1 .1 .0)) × (e .value ≡ capped (u .1 .1 .1))))
         → FlagsKept lowMeant? lowOctet r u
-    kept u h = low-kept (u .0) (u .1 .0) (u .1 .1 .0) (u .1 .1 .1) (rw (h .0, h .1 .0, h .1 .1 .0, h .1 .1 .1) at k)
+    kept u h = low-kept (u .0 .0) (u .0 .1) (u .1 .0) (u .1 .1 .0) (u .1 .1 .1)
+        (rw (h .0 .0, h .0 .1, h .1 .0, h .1 .1 .0, h .1 .1 .1) at k)
 
 -- ---- the counts
 abbrev pub Counted : Counts → Four → Type 0
@@ -206,7 +217,7 @@ counts-read v w x y = record {
 
 -- ---- what is written
 abbrev pub PutFlags : Flags → Flags → Cursor → List ℕ → Cursor → List ℕ → Type 0
-PutFlags high low = Done {A = Five × Four} (λ u. FlagsKept highMeant? highOctet high (u .0)
+PutFlags high low = Done {A = Five × Low} (λ u. FlagsKept highMeant? highOctet high (u .0)
     × FlagsKept lowMeant? lowOctet low (u .1)) (λ u. highMeant? (u .0) && lowMeant? (u .1))
     (λ u. highOctet (u .0) ∷ lowOctet (u .1) ∷ [])
 
@@ -254,11 +265,23 @@ HeadRead t c b r b′ =
     Found (head .parse) (λ h. Put headMeant? headOctets c b (r .cursor) b′ h × Told r h) t c (r .cursor)
 
 abbrev pub Numbers : Type 0
-Numbers = ℕ × (Five × (Four × Four))
+Numbers = ℕ × (Five × (Low × Four))
 
 abbrev pub headFrom : Numbers → Head
-headFrom (id, ((qr, (opcode, (aa, (tc, rd)))), ((ra, (ad, (cd, rcode))), n))) = (
-  record { id = id; qr = qr; opcode = opcode; aa = aa; tc = tc; rd = rd; ra = ra; ad = ad; cd = cd; rcode = rcode },
+headFrom (id, ((qr, (opcode, (aa, (tc, rd)))), (((ra, z), (ad, (cd, rcode))), n))) = (
+  record {
+    id = id;
+    qr = qr;
+    opcode = opcode;
+    aa = aa;
+    tc = tc;
+    rd = rd;
+    ra = ra;
+    z = z;
+    ad = ad;
+    cd = cd;
+    rcode = rcode;
+  },
   n,
 )
 
@@ -329,6 +352,6 @@ head-read {c = c} {r = r} {m = m} {rcode = rcode} x w z =
         let t1 = and-right (highMeant? (u .1 .0)) _ (and-right (u16? (u .0)) _ t0) in
         let t2 = and-left (lowMeant? (u .1 .1 .0)) _ t1 in
         let o = k .1 .1 .0 .1 (subst T (sym (k .1 .1 .0 .0)) t2) in
-        let t3 = and-right (bit? (u .1 .1 .0 .1 .1 .0)) _
-        (and-right (bit? (u .1 .1 .0 .1 .0)) _ (and-right (bit? (u .1 .1 .0 .0)) _ t2)) in
-        omega (arith, z, o, ltb→lt (u .1 .1 .0 .1 .1 .1) 16 t3)
+        let t3 = and-right (bit? (u .1 .1 .0 .0 .1)) _ (and-right (bit? (u .1 .1 .0 .0 .0)) _ t2) in
+        let t4 = and-right (bit? (u .1 .1 .0 .1 .1 .0)) _ (and-right (bit? (u .1 .1 .0 .1 .0)) _ t3) in
+        omega (arith, z, o, ltb→lt (u .1 .1 .0 .1 .1 .1) 16 t4)

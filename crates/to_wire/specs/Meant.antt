@@ -7,7 +7,7 @@ use Prim.Native.Nat.{ℕ, _+_, _*_}
 use lib.Dec.{T, eqb, eqb→eq}
 use lib.ListN.{length, length-map}
 use Rattle.octets.specs.Lists.{all, All, count, each, u16?, present?}
-use Rattle.octets.specs.Bits.{both, and-left, and-right}
+use Rattle.octets.specs.Bits.{both, and-left, and-right, each-holds, all-hold}
 use Rattle.octets.specs.Fields.{be16}
 use Rattle.records.specs.Message.{Header, bit?, four-bits?, header?, question?, record?, section?, questionForm}
 use Rattle.records.specs.Message.{recordForm, headerForm, form, opt?}
@@ -64,17 +64,17 @@ highMeant? (qr, (opcode, (aa, (tc, rd)))) = bit? qr && (four-bits? opcode && (bi
 abbrev pub highOctet : ℕ × (ℕ × (ℕ × (ℕ × ℕ))) → ℕ
 highOctet (qr, (opcode, (aa, (tc, rd)))) = qr * 128 + opcode * 8 + aa * 4 + tc * 2 + rd
 
-abbrev pub lowMeant? : ℕ × (ℕ × (ℕ × ℕ)) → Bool
-lowMeant? (ra, (ad, (cd, rcode))) = bit? ra && (bit? ad && (bit? cd && four-bits? rcode))
+abbrev pub lowMeant? : (ℕ × ℕ) × (ℕ × (ℕ × ℕ)) → Bool
+lowMeant? ((ra, z), (ad, (cd, rcode))) = bit? ra && (bit? z && (bit? ad && (bit? cd && four-bits? rcode)))
 
-abbrev pub lowOctet : ℕ × (ℕ × (ℕ × ℕ)) → ℕ
-lowOctet (ra, (ad, (cd, rcode))) = ra * 128 + ad * 32 + cd * 16 + rcode
+abbrev pub lowOctet : (ℕ × ℕ) × (ℕ × (ℕ × ℕ)) → ℕ
+lowOctet ((ra, z), (ad, (cd, rcode))) = ra * 128 + z * 64 + ad * 32 + cd * 16 + rcode
 
 abbrev pub highOf : Header → ℕ × (ℕ × (ℕ × (ℕ × ℕ)))
 highOf h = (h .qr, (h .opcode, (h .aa, (h .tc, h .rd))))
 
-abbrev pub lowOf : Header → ℕ × (ℕ × (ℕ × ℕ))
-lowOf h = (h .ra, (h .ad, (h .cd, h .rcode)))
+abbrev pub lowOf : Header → (ℕ × ℕ) × (ℕ × (ℕ × ℕ))
+lowOf h = ((h .ra, h .z), (h .ad, (h .cd, h .rcode)))
 
 -- the numbers of the head are in range; its octets, with the counts that it says
 unfoldable pub headMeant? : Head → Bool
@@ -167,41 +167,29 @@ settled-once rcode n (edns e ∷ l) =
     go true false h = refl
     go false s h = refl
 
--- tests joined from the left: what holds of all of them holds of each, and the other way
-abbrev joined : Bool → List Bool → Bool
-joined a [] = a
-joined a (b ∷ l) = joined (a && b) l
-
-each-holds : (a : Bool) (l : List Bool) → T (joined a l) → T a × All T l
-each-holds a [] t = (t, tt)
-each-holds a (b ∷ l) t = let h = each-holds (a && b) l t in (and-left a b (h .0), (and-right a b (h .0), h .1))
-
-all-hold : (a : Bool) (l : List Bool) → T a → All T l → T (joined a l)
-all-hold a [] t h = t
-all-hold a (b ∷ l) t h = all-hold (a && b) l (both a b t (h .0)) (h .1)
-
 -- the numbers of the head: those of the header, and the counts
 pub head-numbers : (h : Header) (q a n r : ℕ)
     → headMeant? (h, (q, (a, (n, r)))) ≡ (header? h && (u16? q && (u16? a && (u16? n && u16? r))))
 unfolding headMeant? header?
 head-numbers h q a n r =
     go (u16? (h .id)) (bit? (h .qr)) (four-bits? (h .opcode)) (bit? (h .aa)) (bit? (h .tc)) (bit? (h .rd))
-    (bit? (h .ra)) (bit? (h .ad)) (bit? (h .cd)) (four-bits? (h .rcode)) _
+    (bit? (h .ra)) (bit? (h .z)) (bit? (h .ad)) (bit? (h .cd)) (four-bits? (h .rcode)) _
   where
-    go : (a b c d e f g h i j w : Bool)
-        → a && ((b && (c && (d && (e && f)))) && ((g && (h && (i && j))) && w)) ≡ (a && b && c && d && e && f && g && h
-        && i && j) && w
-    go false b c d e f g h i j w = refl
-    go true false c d e f g h i j w = refl
-    go true true false d e f g h i j w = refl
-    go true true true false e f g h i j w = refl
-    go true true true true false f g h i j w = refl
-    go true true true true true false g h i j w = refl
-    go true true true true true true false h i j w = refl
-    go true true true true true true true false i j w = refl
-    go true true true true true true true true false j w = refl
-    go true true true true true true true true true false w = refl
-    go true true true true true true true true true true w = refl
+    go : (a b c d e f g z h i j w : Bool)
+        → a && ((b && (c && (d && (e && f)))) && ((g && (z && (h && (i && j)))) && w)) ≡ (a && b && c && d && e && f
+        && g && z && h && i && j) && w
+    go false b c d e f g z h i j w = refl
+    go true false c d e f g z h i j w = refl
+    go true true false d e f g z h i j w = refl
+    go true true true false e f g z h i j w = refl
+    go true true true true false f g z h i j w = refl
+    go true true true true true false g z h i j w = refl
+    go true true true true true true false z h i j w = refl
+    go true true true true true true true false h i j w = refl
+    go true true true true true true true true false i j w = refl
+    go true true true true true true true true true false j w = refl
+    go true true true true true true true true true true false w = refl
+    go true true true true true true true true true true true w = refl
 
 -- what is judged part by part is what the definitions judge of the whole
 pub document-meant : (d : Document) → documentMeant? d ≡ (agrees? d && view? (documentView d))

@@ -34,11 +34,11 @@ use Rattle.parse_tokens.specs.Many.{le-or-lt}
 use Rattle.parse_tokens.specs.Leaf.{passed-took}
 use Rattle.parse_tokens.specs.declared.Amount.{Amount}
 use Rattle.parse_tokens.specs.declared.Span.{Span}
-use Rattle.parse_tokens.specs.declared.Row.{Row}
+use Rattle.parse_tables.specs.declared.Row.{Row}
 use Rattle.to_wire.specs.declared.members.Coded.{Coded}
 use Rattle.parse_tokens.specs.Number.{capped, NumberRead}
 use Rattle.parse_tokens.specs.Hex.{HexRun, HexRead}
-use Rattle.parse_tokens.specs.Rows.{RowRead}
+use Rattle.parse_tables.specs.Rows.{RowRead}
 use Rattle.parse_tokens.specs.Fields.{Done}
 use Rattle.parse_tokens.specs.Place.{Byte}
 use Rattle.parse_tokens.specs.Items.{part-of, item-of, Items, items-start, items-end, items-stop, items-less}

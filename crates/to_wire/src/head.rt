@@ -1,8 +1,9 @@
-// The head of a text: the header's numbers and the counts.
+// The head of a text: the header's numbers, Z and the counts.
 ghost use Prim.Native.Nat.{_≤_, _<_};
 ghost use Rattle.parse_tokens.specs.Cursor.{Safe};
 ghost use Rattle.to_wire.specs.Head.{HighBits, LowBits, HighRead, LowRead, CountsRead, PutFlags, PutCounts};
 ghost use Rattle.to_wire.specs.Head.{NumbersRead, PutHeader, HeadRead};
+use parse_tables::ad_title;
 use parse_tokens::Cursor;
 use parse_tokens::both;
 use parse_tokens::demand;
@@ -56,10 +57,11 @@ fn high_bits(c: Cursor, qr: u64, opcode: u64, aa: u64, tc: u64, rd: u64) -> Flag
     }
 }
 
-fn low_bits(c: Cursor, ra: u64, ad: u64, cd: u64, rcode: u64) -> Flags
-    ensures { λ r. ⌜ LowBits c (ra, (ad, (cd, rcode))) r ⌝ }
+fn low_bits(c: Cursor, ra: u64, z: u32, ad: u64, cd: u64, rcode: u64) -> Flags
+    requires { ⌜ z < 2 ⌝ }
+    ensures { λ r. ⌜ LowBits c ((ra, z), (ad, (cd, rcode))) r ⌝ }
 {
-    let octet = ra % 2 * 128 + ad % 2 * 32 + cd % 2 * 16 + rcode % 16;
+    let octet = ra % 2 * 128 + z as u64 * 64 + ad % 2 * 32 + cd % 2 * 16 + rcode % 16;
     Flags {
         cursor: c,
         octet: octet as u8,
@@ -87,16 +89,24 @@ fn high_flags(text: &[u8], c: Cursor) -> Flags
     )
 }
 
-// RA, AD, CD, RCODE.
+// RA, Z, AD, CD, RCODE.
 fn low_flags(text: &[u8], c: Cursor) -> Flags
     requires { ⌜ Safe (now text) c ⌝ }
     ensures { λ r. ⌜ LowRead (now (text .entry)) c r ⌝ }
 {
-    let ra = number_then(text, c, b",\"AD\":");
-    let ad = number_then(text, ra.cursor, b",\"CD\":");
+    let ra = number(text, c);
+    let z = ad_title(text, ra.cursor);
+    let ad = number_then(text, z.cursor, b",\"CD\":");
     let cd = number_then(text, ad.cursor, b",\"RCODE\":");
     let rcode = number_then(text, cd.cursor, b",\"QDCOUNT\":");
-    low_bits(rcode.cursor, ra.value, ad.value, cd.value, rcode.value)
+    low_bits(
+        rcode.cursor,
+        ra.value,
+        z.key,
+        ad.value,
+        cd.value,
+        rcode.value,
+    )
 }
 
 // QDCOUNT, ANCOUNT, NSCOUNT, ARCOUNT.

@@ -5,7 +5,7 @@ use mathlib.Core.Option.{Option, none, some}
 use mathlib.Core.List.{List}
 use Prim.Native.Nat.{ℕ, zero, suc, _<_}
 use native.Mathlib.Omega.{arith}
-use lib.Dec.{leb, ltb, eqb}
+use lib.Dec.{leb, ltb}
 use lib.ListN.{length}
 use Rattle.octets.specs.Answer.{Output, output, Answer, success, refusal, Result, overwritten, delivered}
 use Rattle.octets.specs.Answer as answer
@@ -16,7 +16,7 @@ use Rattle.octets.specs.declared.Outcome.the-variants.{Length, Refused}
 use Rattle.names.specs.Name.{Kind, cut, reserved, target, long, short, surplus, refusalNumber}
 use Rattle.records.specs.Message.{Message, form}
 use Rattle.records.specs.Read.{Reached, reached, stopped}
-use Rattle.records.specs.Decode.{Decoded, accepted, refused, zOf, sectionsOf, messageRead, afterReading, decode}
+use Rattle.records.specs.Decode.{Decoded, accepted, refused, sectionsOf, messageRead, afterReading, decode}
 use Rattle.json.specs.View.{View}
 use Rattle.json.specs.View as view
 use Rattle.json.specs.Limits.{within?}
@@ -76,8 +76,7 @@ unfolding decode
 decode-numbered s =
     either (ltb 65535 (length s)) (refused 2 0) _ (omega arith)
     (either (ltb (length s) 12) (refused 1 0) _ (omega arith)
-    (either (eqb (zOf s) 1) (refused 3 0) _ (omega arith)
-    (ended s (messageRead s) (sectionsOf s .additional .end))))
+    (ended s (messageRead s) (sectionsOf s .additional .end)))
 
 converted-numbered : (s : List ℕ) → NumberedOut (converted s)
 unfolding converted

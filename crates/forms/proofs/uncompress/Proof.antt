@@ -1,7 +1,6 @@
 -- `forms::uncompress` meets its contract: the first run finds the refusals, the second one writes.
 use borrow.Author.Needs.{needs}
-use Rattle.forms.specs.Uncompressed.{too-long, too-short, z-set, at-fault, left-over, form-long, no-room}
-use Rattle.forms.specs.Uncompressed.{with-room}
+use Rattle.forms.specs.Uncompressed.{too-long, too-short, at-fault, left-over, form-long, no-room, with-room}
 use Rattle.forms.proofs.uncompress.Statement.{statement}
 use Rattle.forms.proofs.uncompress.Tie as tie
 
@@ -16,15 +15,6 @@ refuse-requires-2 c κs = search needs
 
 returns-2 : tie.Need-returns-2
 returns-2 c = search (too-short, needs)
-
-shared-slice-read-if3 : tie.Need-shared-slice-read-if3
-shared-slice-read-if3 c = search needs
-
-refuse-requires-3 : tie.Need-refuse-requires-3
-refuse-requires-3 c κs = search needs
-
-returns-3 : tie.Need-returns-3
-returns-3 c = search (z-set, needs)
 
 slice-relend-prefix-put-message : tie.Need-slice-relend-prefix-put-message
 slice-relend-prefix-put-message c = search needs
@@ -41,29 +31,29 @@ enum-known-at c = search needs
 number-of-requires : tie.Need-number-of-requires
 number-of-requires c κs = search needs
 
-refuse-requires-4 : tie.Need-refuse-requires-4
-refuse-requires-4 c κs = search needs
+refuse-requires-3 : tie.Need-refuse-requires-3
+refuse-requires-3 c κs = search needs
 
 enum-known-at-2 : tie.Need-enum-known-at-2
 enum-known-at-2 c = search needs
 
-refuse-requires-5 : tie.Need-refuse-requires-5
-refuse-requires-5 c κs = search needs
+refuse-requires-4 : tie.Need-refuse-requires-4
+refuse-requires-4 c κs = search needs
 
 same-length : tie.Need-same-length
 same-length c = search needs
 
-returns-4 : tie.Need-returns-4
-returns-4 c = search (left-over, needs)
+returns-3 : tie.Need-returns-3
+returns-3 c = search (left-over, needs)
 
-refuse-requires-6 : tie.Need-refuse-requires-6
-refuse-requires-6 c κs = search needs
+refuse-requires-5 : tie.Need-refuse-requires-5
+refuse-requires-5 c κs = search needs
 
 same-length-2 : tie.Need-same-length-2
 same-length-2 c = search needs
 
-returns-5 : tie.Need-returns-5
-returns-5 c = search (form-long, needs)
+returns-4 : tie.Need-returns-4
+returns-4 c = search (form-long, needs)
 
 put-message-requires-2 : tie.Need-put-message-requires-2
 put-message-requires-2 c κs = search needs
@@ -71,20 +61,20 @@ put-message-requires-2 c κs = search needs
 same-length-3 : tie.Need-same-length-3
 same-length-3 c = search needs
 
-returns-6 : tie.Need-returns-6
-returns-6 c = search (at-fault, needs)
+returns-5 : tie.Need-returns-5
+returns-5 c = search (at-fault, needs)
 
 same-length-4 : tie.Need-same-length-4
 same-length-4 c = search needs
 
-returns-7 : tie.Need-returns-7
-returns-7 c = search (with-room, needs)
+returns-6 : tie.Need-returns-6
+returns-6 c = search (with-room, needs)
 
 same-length-5 : tie.Need-same-length-5
 same-length-5 c = search needs
 
-returns-8 : tie.Need-returns-8
-returns-8 c = search (no-room, needs)
+returns-7 : tie.Need-returns-7
+returns-7 c = search (no-room, needs)
 
 pub uncompress-spec : {M : Type 1} → statement M
 uncompress-spec =
@@ -94,26 +84,23 @@ uncompress-spec =
     returns
     refuse-requires-2
     returns-2
-    shared-slice-read-if3
-    refuse-requires-3
-    returns-3
     slice-relend-prefix-put-message
     slice-aggregate-put-message
     put-message-requires
     enum-known-at
     number-of-requires
-    refuse-requires-4
+    refuse-requires-3
     enum-known-at-2
-    refuse-requires-5
+    refuse-requires-4
     same-length
-    returns-4
-    refuse-requires-6
+    returns-3
+    refuse-requires-5
     same-length-2
-    returns-5
+    returns-4
     put-message-requires-2
     same-length-3
-    returns-6
+    returns-5
     same-length-4
-    returns-7
+    returns-6
     same-length-5
-    returns-8)
+    returns-7)

@@ -1,8 +1,8 @@
 -- `print_edns::put_flags` meets its contract: a text for each bit.
 use native.Mathlib.Omega.{arith}
 use Rattle.octets.specs.Lists.{rowText}
+use Rattle.octets.specs.Overlay.{wrote-row}
 use Rattle.edns.specs.Edns.{flags}
-use Rattle.print_edns.proofs.Writing.{text-is}
 use borrow.Author.Needs.{needs}
 use Rattle.print_edns.proofs.put_flags.Statement.{statement}
 use Rattle.print_edns.proofs.put_flags.Tie as tie
@@ -20,7 +20,7 @@ returns : tie.Need-returns
 unfolding rowText flags
 returns c =
     let all = c .before .before in
-    (text-is 0 flags (all .before .before .before .if1 .taken) (all .put-all .ensures), search needs)
+    (wrote-row 0 flags (all .before .before .before .if1 .taken) (all .put-all .ensures), search needs)
 
 slice-aggregate-put-all-2 : tie.Need-slice-aggregate-put-all-2
 slice-aggregate-put-all-2 c = search needs
@@ -36,7 +36,7 @@ unfolding rowText flags
 returns-2 c =
     let all = c .before .before in
     let start = all .before .before .before .before in
-    (text-is 1 flags {n = start .before .args .bit} (omega arith) (all .put-all2 .ensures), search needs)
+    (wrote-row 1 flags {n = start .before .args .bit} (omega arith) (all .put-all2 .ensures), search needs)
 
 pub put-flags-spec : {M : Type 1} → statement M
 put-flags-spec =

@@ -18,11 +18,17 @@ mul-octet-3 c = search needs
 add-octet-2 : tie.Need-add-octet-2
 add-octet-2 c = search needs
 
+mul-octet-4 : tie.Need-mul-octet-4
+mul-octet-4 c = search needs
+
 add-octet-3 : tie.Need-add-octet-3
 add-octet-3 c = search needs
 
-cast-t16 : tie.Need-cast-t16
-cast-t16 c = search needs
+add-octet-4 : tie.Need-add-octet-4
+add-octet-4 c = search needs
+
+cast-t20 : tie.Need-cast-t20
+cast-t20 c = search needs
 
 both-requires : tie.Need-both-requires
 both-requires c κs = search needs
@@ -45,8 +51,10 @@ low-bits-spec =
     add-octet
     mul-octet-3
     add-octet-2
+    mul-octet-4
     add-octet-3
-    cast-t16
+    add-octet-4
+    cast-t20
     both-requires
     both-requires-2
     both-requires-3

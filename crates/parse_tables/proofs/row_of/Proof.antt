@@ -1,10 +1,10 @@
--- `parse_tokens::row_of` meets its contract: a loop over the rows of a table.
+-- `parse_tables::row_of` meets its contract: a loop over the rows of a table.
 use Prim.Native.Nat.{_-_}
 use lib.ListN.{length}
 use borrow.Author.Needs.{needs}
-use Rattle.parse_tokens.specs.Rows.{Trying, trying-start, trying-end, trying-cut, trying-here, trying-more}
-use Rattle.parse_tokens.proofs.row_of.Statement.{statement}
-use Rattle.parse_tokens.proofs.row_of.Tie as tie
+use Rattle.parse_tables.specs.Rows.{Trying, trying-start, trying-end, trying-cut, trying-here, trying-more}
+use Rattle.parse_tables.proofs.row_of.Statement.{statement}
+use Rattle.parse_tables.proofs.row_of.Tie as tie
 
 abbrev Inv-loop : tie.InvT-loop
 Inv-loop text c table start far₀ from₀ far from = Trying table text c from far

@@ -1,12 +1,12 @@
--- `parse_tokens::option_name` meets its contract: the octets of the code are computed to be those of the table of
+-- `parse_tables::option_name` meets its contract: the octets of the code are computed to be those of the table of
 -- options.
 use mathlib.Core.Path.{refl}
 use borrow.Author.Needs.{needs}
 use Rattle.octets.specs.Lists.{each}
 use Rattle.options.specs.Options.{members, rows}
-use Rattle.parse_tokens.specs.Rows.{row-of}
-use Rattle.parse_tokens.proofs.option_name.Statement.{statement}
-use Rattle.parse_tokens.proofs.option_name.Tie as tie
+use Rattle.parse_tables.specs.Rows.{row-of}
+use Rattle.parse_tables.proofs.option_name.Statement.{statement}
+use Rattle.parse_tables.proofs.option_name.Tie as tie
 
 slice-aggregate-row-of : tie.Need-slice-aggregate-row-of
 slice-aggregate-row-of c = search needs

@@ -1,11 +1,11 @@
--- `parse_tokens::flags` meets its contract: the octets of the code are computed to be those of the table of FLAGS.
+-- `parse_tables::flags` meets its contract: the octets of the code are computed to be those of the table of FLAGS.
 use mathlib.Core.Path.{refl}
 use borrow.Author.Needs.{needs}
 use Rattle.octets.specs.Lists.{each}
 use Rattle.edns.specs.Edns.{flags}
-use Rattle.parse_tokens.specs.Rows.{row-of}
-use Rattle.parse_tokens.proofs.flags.Statement.{statement}
-use Rattle.parse_tokens.proofs.flags.Tie as tie
+use Rattle.parse_tables.specs.Rows.{row-of}
+use Rattle.parse_tables.proofs.flags.Statement.{statement}
+use Rattle.parse_tables.proofs.flags.Tie as tie
 
 slice-aggregate-row-of : tie.Need-slice-aggregate-row-of
 slice-aggregate-row-of c = search needs

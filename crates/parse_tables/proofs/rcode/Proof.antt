@@ -1,8 +1,8 @@
--- `parse_tokens::rcode` meets its contract: the table of RCODE.
+-- `parse_tables::rcode` meets its contract: the table of RCODE.
 use borrow.Author.Needs.{needs}
-use Rattle.parse_tokens.specs.Rows.{row-of}
-use Rattle.parse_tokens.proofs.rcode.Statement.{statement}
-use Rattle.parse_tokens.proofs.rcode.Tie as tie
+use Rattle.parse_tables.specs.Rows.{row-of}
+use Rattle.parse_tables.proofs.rcode.Statement.{statement}
+use Rattle.parse_tables.proofs.rcode.Tie as tie
 
 rcode-names-requires : tie.Need-rcode-names-requires
 rcode-names-requires c κs = search needs

@@ -5,21 +5,23 @@ use mathlib.Core.List.{List}
 use Prim.Native.Nat.{ℕ, zero, suc, _+_, _-_, _≤_, _<_, max}
 use Prim.Native.String.{String}
 use native.Mathlib.Omega.{arith}
-use borrow.Author.Tests.{ltb-true, ltb-false}
-use lib.Dec.{ltb}
+use borrow.Author.Tests.{ltb-true, ltb-false, ne-eqb}
+use lib.Dec.{T, ltb}
 use lib.ListN.{length, drop, getD}
-use Rattle.octets.specs.Parsed.{Parsed, failed, and-then}
-use Rattle.octets.specs.Codec.{tableParser}
+use Rattle.octets.specs.Lists.{key?}
+use Rattle.octets.specs.Parsed.{Parsed, parsed, failed, and-then, held, parsed≢failed}
+use Rattle.octets.specs.Codec.{tableParser, tried-sound, distinct}
 use Rattle.parse_tokens.specs.declared.Cursor.{Cursor}
-use Rattle.parse_tokens.specs.declared.Row.{Row}
+use Rattle.parse_tables.specs.declared.Row.{Row}
 use Rattle.parse_tokens.specs.Cursor.{left-of, Safe, Keeps, keeps-then, Passed, FailedAt, cursors, Finds, stopped}
-use Rattle.parse_tokens.specs.Cursor.{clash}
+use Rattle.parse_tokens.specs.Cursor.{clash, reads-got}
 use Rattle.parse_tokens.specs.Step.{Found, moves}
 use Rattle.parse_tokens.specs.Leaf.{rowParser, found-same, found-entry}
 use Rattle.parse_tokens.specs.Choice.{choice, found-first, Further, further-keeps, second-further}
 use Rattle.edns.specs.Table.{tableOctets}
-use Rattle.parse_tokens.specs.Table.{triedRows, triedIn, rows-tried}
-use Rattle.parse_tokens.specs.Table.{RowAt, titleAt, rows-end, rows-cut, rows-row}
+use Rattle.json.specs.Document.{adTitles}
+use Rattle.parse_tables.specs.Table.{triedRows, triedIn, rows-tried}
+use Rattle.parse_tables.specs.Table.{RowAt, titleAt, rows-end, rows-cut, rows-row}
 
 -- one of several titles was read, and this is its key; on a stop the key is 0
 pub record RowRead (p : List ℕ → Parsed ℕ) (t : List ℕ) (c : Cursor) (r : Row) : Type 0 where
@@ -224,3 +226,29 @@ module _ {table t : List ℕ} {c : Cursor} {from : ℕ} {far : Cursor} (y : Tryi
               let e = on-on (next .at) (far .at) (d .at) (r .cursor) k in
               subst (λ (z : Cursor). Reading z (r .key)) e (onwards _ (row-other _ later q g x));
         }
+
+-- ---- the key
+-- it is the table's, if 0, which is told on a stop, is
+pub row-key : {t : List ℕ} {c : Cursor} {r : Row} (rows : List (ℕ × String)) → T (distinct rows) → T (key? 0 rows)
+    → RowRead (tableParser rows) t c r → T (key? (r .key) rows)
+row-key {t} {c} {r} rows d z x = go (r .cursor .grammatical) refl
+  where
+    found : (b : Bool) (w : List ℕ) {n : ℕ} {s : List ℕ}
+        → and-then (left-of b w) (λ u w. tableParser rows w) ≡ parsed n s → T (key? n rows)
+    found true w e = held (tried-sound rows d w) e .0
+    found false w e = absurd (parsed≢failed (sym e))
+
+    go : (b : Bool) → r .cursor .grammatical ≡ b → T (key? (r .key) rows)
+    go true e = let g = reads-got (x .found .reads) e in rw (g .holds) (found (c .grammatical) (drop (c .at) t) (g .is))
+    go false e = rw (x .stop e) z
+
+-- Z is told as a bit
+pub title-bit : {t : List ℕ} {c : Cursor} {r : Row} → RowRead (tableParser adTitles) t c r → r .key < 2
+unfolding adTitles key?
+title-bit {r = r} x = go (r .key) (row-key adTitles tt tt x)
+  where
+    go : (n : ℕ) → T (key? n adTitles) → n < 2
+    go zero h = omega arith
+    go (suc zero) h = omega arith
+    go (suc (suc n)) h =
+        absurd (rw (ne-eqb 0 (suc (suc n)) (λ e. omega arith), ne-eqb 1 (suc (suc n)) (λ e. omega arith)) at h)

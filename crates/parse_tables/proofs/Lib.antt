@@ -1,0 +1,2 @@
+-- Laws on the promises of the public functions.
+pub mod Determined

@@ -1,0 +1,3 @@
+-- The titles of a text that a table has.
+pub mod Table
+pub mod Rows
