@@ -46,7 +46,7 @@ fn hex_length(hex: &Hex) -> u64 {
 /// Writes the message into a buffer of exactly its length.
 pub fn write(draft: &Draft, buffer: &mut [u8]) {
     let mut output = Output { buffer, at: 0 };
-    write_header(&draft.header, &mut output);
+    write_header(&draft.header, draft.z, &mut output);
     for question in &draft.questions {
         write_name(&question.name, &mut output);
         output.two_octets(question.rtype);
@@ -98,11 +98,11 @@ impl Output<'_> {
     }
 }
 
-fn write_header(header: &[u64; 14], output: &mut Output) {
+fn write_header(header: &[u64; 14], z: bool, output: &mut Output) {
     let [id, qr, opcode, aa, tc, rd, ra, ad, cd, rcode, counts @ ..] = header;
     output.two_octets(*id);
     let high = qr << 7 | opcode << 3 | aa << 2 | tc << 1 | rd;
-    let low = ra << 7 | ad << 5 | cd << 4 | rcode;
+    let low = ra << 7 | u64::from(z) << 6 | ad << 5 | cd << 4 | rcode;
     output.two_octets(high << 8 | low);
     for count in counts {
         output.two_octets(*count);

@@ -1,6 +1,6 @@
 //! A converter between DNS messages and their JSON profile, written from the
-//! profile's paper, change request A10 and the RFCs they name, with nothing but
-//! the standard library. It makes test inputs and says what the answers must be.
+//! profile's paper, change requests A6 and A10 and the RFCs they name, with nothing
+//! but the standard library. It makes test inputs and says what the answers must be.
 //!
 //! The way from a message to its text has two steps. `wire` reads the message
 //! and gives its uncompressed form or the refusal; `text` prints that form,

@@ -10,6 +10,12 @@ impl Random {
         Random { state: seed }
     }
 
+    /// Another generator, made from this one's state, for choices that shall
+    /// leave this one's numbers as they are.
+    pub fn aside(&self) -> Random {
+        Random { state: !self.state }
+    }
+
     pub fn number(&mut self) -> u64 {
         self.state = self.state.wrapping_add(0x9E37_79B9_7F4A_7C15);
         let mut mixed = self.state;

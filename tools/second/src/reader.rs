@@ -7,8 +7,10 @@ use crate::tables::*;
 
 /// What a text says.
 pub struct Draft<'t> {
-    /// The header's numbers in the order of the text.
+    /// The header's numbers in the order of the text, all but Z.
     pub header: [u64; 14],
+    /// Whether the text has a Z.
+    pub z: bool,
     pub questions: Vec<Question<'t>>,
     /// Answer, authority and additional section.
     pub sections: [Vec<Element<'t>>; 3],
@@ -93,11 +95,7 @@ pub struct Escaped<'t> {
 /// The draft of a text, or nothing if the text is not within the grammar.
 pub fn read(text: &[u8]) -> Option<Draft<'_>> {
     let mut cursor = Cursor { text, at: 0 };
-    let mut header = [0; 14];
-    for (value, (member, _)) in header.iter_mut().zip(HEADER_MEMBERS) {
-        cursor.expect(member)?;
-        *value = cursor.number()?;
-    }
+    let (header, z) = read_header(&mut cursor)?;
     cursor.expect(QUESTION_ARRAY)?;
     let questions = cursor.items(read_question)?;
     let mut sections = [Vec::new(), Vec::new(), Vec::new()];
@@ -107,7 +105,21 @@ pub fn read(text: &[u8]) -> Option<Draft<'_>> {
         sections[section] = cursor.items(read_element)?;
     }
     cursor.expect(b"}")?;
-    cursor.is_at_end().then_some(Draft { header, questions, sections })
+    cursor.is_at_end().then_some(Draft { header, z, questions, sections })
+}
+
+/// The header's numbers, and whether Z stands in its one place and spelling.
+fn read_header(cursor: &mut Cursor) -> Option<([u64; 14], bool)> {
+    let mut header = [0; 14];
+    let mut z = false;
+    for (place, (member, _)) in HEADER_MEMBERS.iter().enumerate() {
+        cursor.expect(member)?;
+        header[place] = cursor.number()?;
+        if place == HEADER_RA {
+            z = cursor.accept(Z_MEMBER);
+        }
+    }
+    Some((header, z))
 }
 
 fn read_question<'t>(cursor: &mut Cursor<'t>) -> Option<Question<'t>> {

@@ -1,7 +1,7 @@
 //! The fixed lists of the paper: members, RCODE names, options, RDATA layouts.
 
-/// The header's members in the order of the text: what stands before the
-/// number, and the largest number its field can hold.
+/// The header's members in the order of the text, all but Z: what stands
+/// before the number, and the largest number its field can hold.
 pub const HEADER_MEMBERS: [(&[u8], u64); 14] = [
     (b"{\"ID\":", 65_535),
     (b",\"QR\":", 1),
@@ -18,6 +18,15 @@ pub const HEADER_MEMBERS: [(&[u8], u64); 14] = [
     (b",\"NSCOUNT\":", 65_535),
     (b",\"ARCOUNT\":", 65_535),
 ];
+
+/// Where RA stands among the header's members; Z comes behind it.
+pub const HEADER_RA: usize = 6;
+
+/// The member of a Z bit that is set. One that is clear has none.
+pub const Z_MEMBER: &[u8] = b",\"Z\":1";
+
+/// The Z bit in the header's fourth octet.
+pub const Z_BIT: u8 = 0x40;
 
 /// Where the RCODE stands among the header's members.
 pub const HEADER_RCODE: usize = 9;

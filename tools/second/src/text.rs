@@ -117,10 +117,8 @@ fn behind_name(form: &[u8], start: usize) -> usize {
 
 fn print_message(form: &[u8], sink: &mut impl Sink) {
     let header = header_values(form);
-    for ((member, _), value) in HEADER_MEMBERS.iter().zip(header) {
-        sink.put(member);
-        print_number(u64::from(value), sink);
-    }
+    let z = form[3] & Z_BIT != 0;
+    print_header(&header, z, sink);
     let mut at = 12;
     sink.put(QUESTION_ARRAY);
     for index in 0..header[HEADER_COUNTS] {
@@ -147,7 +145,17 @@ fn print_message(form: &[u8], sink: &mut impl Sink) {
     sink.put_octet(b'}');
 }
 
-/// The header's values in the order of the text.
+fn print_header(header: &[u16; 14], z: bool, sink: &mut impl Sink) {
+    for (place, ((member, _), value)) in HEADER_MEMBERS.iter().zip(header).enumerate() {
+        sink.put(member);
+        print_number(u64::from(*value), sink);
+        if place == HEADER_RA && z {
+            sink.put(Z_MEMBER);
+        }
+    }
+}
+
+/// The header's values in the order of the text, all but Z.
 fn header_values(form: &[u8]) -> [u16; 14] {
     let flags = two_octets(form, 2);
     let bit = |shift: u16| (flags >> shift) & 1;

@@ -1,14 +1,11 @@
 //! Reads a message and gives its uncompressed form, or refuses it with one of
-//! the numbers 1 to 9.
+//! the numbers 1, 2 and 4 to 9. Number 3, which was Z, is not used any more.
 
 use crate::tables::layout_of;
 use crate::{Refusal, LARGEST_MESSAGE};
 
 const HEADER_LENGTH: usize = 12;
 const LONGEST_NAME: usize = 255;
-
-/// The Z bit in the header's fourth octet.
-const Z_BIT: u8 = 0x40;
 
 /// The answers that can be met inside a question or record.
 const PAST_THE_END: u32 = 1;
@@ -26,7 +23,7 @@ struct Bound {
 
 /// The uncompressed form of a message.
 pub fn uncompress(message: &[u8]) -> Result<Vec<u8>, Refusal> {
-    check_header(message)?;
+    check_length(message)?;
     let mut form = Vec::with_capacity(2 * message.len());
     form.extend_from_slice(&message[..HEADER_LENGTH]);
     let mut at = HEADER_LENGTH;
@@ -50,13 +47,11 @@ fn at_entry(number: u32, at: usize) -> Refusal {
     Refusal { number, place: at as u64 }
 }
 
-fn check_header(message: &[u8]) -> Result<(), Refusal> {
+fn check_length(message: &[u8]) -> Result<(), Refusal> {
     if message.len() > LARGEST_MESSAGE {
         Err(Refusal::without_place(2))
     } else if message.len() < HEADER_LENGTH {
         Err(Refusal::without_place(1))
-    } else if message[3] & Z_BIT != 0 {
-        Err(Refusal::without_place(3))
     } else {
         Ok(())
     }

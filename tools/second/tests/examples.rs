@@ -1,5 +1,5 @@
 //! The worked and the marked examples of the profile's paper, and answers that its
-//! rules and those of change request A10 decide, written down by hand.
+//! rules and those of change requests A6 and A10 decide, written down by hand.
 
 use second::generate::RCODES;
 use second::lines::{hex_of_octets, octets_of_hex};
@@ -54,6 +54,16 @@ fn edns(options: &str) -> String {
     adding(&edns_element("NoError", options))
 }
 
+/// The text with something put behind the number of RA.
+fn behind_ra(text: &str, put: &str) -> String {
+    let (before, behind) = text.split_once(",\"AD\":").expect("AD is there");
+    format!("{before}{put},\"AD\":{behind}")
+}
+
+fn with_z(text: &str) -> String {
+    behind_ra(text, ",\"Z\":1")
+}
+
 #[track_caller]
 fn answer_is(text: &str, number: u32) {
     let shown = &text[..text.len().min(900)];
@@ -79,7 +89,10 @@ fn marked_examples() {
     refused("", 1, 0);
     assert_eq!(text("00000000 00000000 00000000"), whole(0, 0, [0; 4], [""; 4]));
     refused("00000000 00000000 00000000 00", 8, 12);
-    refused("00000040 00000000 00000000", 3, 0);
+    // Z alone; before change request A6 this was 3.
+    let z_alone = text("00000040 00000000 00000000");
+    assert_eq!(z_alone, with_z(&whole(0, 0, [0; 4], [""; 4])));
+    assert!(z_alone.contains(",\"RA\":0,\"Z\":1,\"AD\":0,"));
     let with_ttl = |ttl: &str| text(&format!("00000000 00000001 00000000 00 0001 0001 {ttl} 0000"));
     assert!(with_ttl("FFFFFFFF").contains("\"TTL\":-1,"));
     assert!(with_ttl("80000000").contains("\"TTL\":-2147483648,"));
@@ -148,18 +161,27 @@ fn faults_in_rdata() {
 #[test]
 fn exact_room_and_one_less() {
     let message = octets("1A2B01000001000000000000016101620000010001");
+    let text_of_clear = text_of(&message).unwrap();
+    check_room(&message, &text_of_clear);
+    // Z takes six octets of text and none of the message.
+    let message = octets("1A2B01400001000000000000016101620000010001");
     let text = text_of(&message).unwrap();
+    assert_eq!(text.len(), text_of_clear.len() + 6);
+    check_room(&message, &text);
+}
+
+fn check_room(message: &[u8], text: &[u8]) {
     let mut room = vec![0xEE; text.len()];
-    assert_eq!(to_text(&message, &mut room), Ok(text.len()));
+    assert_eq!(to_text(message, &mut room), Ok(text.len()));
     assert_eq!(room, text);
     let mut small = vec![0xEE; text.len() - 1];
-    assert_eq!(to_text(&message, &mut small), Err(Refusal { number: 10, place: 0 }));
+    assert_eq!(to_text(message, &mut small), Err(Refusal { number: 10, place: 0 }));
     assert!(small.iter().all(|octet| *octet == 0xEE));
     let mut room = vec![0xEE; message.len()];
-    assert_eq!(to_wire(&text, &mut room), Ok(message.len()));
+    assert_eq!(to_wire(text, &mut room), Ok(message.len()));
     assert_eq!(room, message);
     let mut small = vec![0xEE; message.len() - 1];
-    assert_eq!(to_wire(&text, &mut small), Err(Refusal { number: 23, place: 0 }));
+    assert_eq!(to_wire(text, &mut small), Err(Refusal { number: 23, place: 0 }));
     assert!(small.iter().all(|octet| *octet == 0xEE));
 }
 
@@ -167,10 +189,212 @@ fn exact_room_and_one_less() {
 fn messages_over_the_limit() {
     assert_eq!(text_of(&vec![0; 65_536]), Err(Refusal { number: 2, place: 0 }));
     assert_eq!(text_of(&vec![0; 65_535]), Err(Refusal { number: 8, place: 12 }));
+    // With Z set the same, and then the first question's fault.
     let mut all_z = vec![0xFF; 65_536];
     assert_eq!(text_of(&all_z), Err(Refusal { number: 2, place: 0 }));
     all_z.pop();
-    assert_eq!(text_of(&all_z), Err(Refusal { number: 3, place: 0 }));
+    assert_eq!(text_of(&all_z), Err(Refusal { number: 5, place: 12 }));
+}
+
+#[test]
+fn every_value_of_the_flags() {
+    for flags in 0..=0xFFFF {
+        let bit = |place: u32| flags >> place & 1;
+        let z = if bit(6) == 1 { ",\"Z\":1" } else { "" };
+        let expected = format!(
+            "{{\"ID\":7,\"QR\":{},\"Opcode\":{},\"AA\":{},\"TC\":{},\"RD\":{},\"RA\":{}{z},\
+             \"AD\":{},\"CD\":{},\"RCODE\":{},\"QDCOUNT\":0,\"ANCOUNT\":0,\"NSCOUNT\":0,\"ARCOUNT\":0,\
+             \"questionRRs\":[],\"answerRRs\":[],\"authorityRRs\":[],\"additionalRRs\":[]}}",
+            bit(15),
+            flags >> 11 & 15,
+            bit(10),
+            bit(9),
+            bit(8),
+            bit(7),
+            bit(5),
+            bit(4),
+            flags & 15
+        );
+        let hex = format!("0007{flags:04X}0000000000000000");
+        assert_eq!(text(&hex), expected);
+        let message = message_of(expected.as_bytes()).expect("the text is right");
+        assert_eq!(hex_of_octets(&message), hex.as_bytes());
+    }
+}
+
+#[test]
+fn z_leaves_other_faults_as_they_are() {
+    let asking = |name: &str| format!("00010000 00000000 {name} 0001 0001");
+    let ns = |rdata: &str, length: u32| {
+        format!("00000001 00000000 00 0002 0001 00000000 {length:04X} {rdata}")
+    };
+    let long = format!("{0}{0}{0}3E{1}00", "3F".repeat(64), "61".repeat(62));
+    let cases = [
+        ("00000000 000000".to_string(), 1, 0),
+        ("00010000 00000000".to_string(), 1, 12),
+        ("00010001 00000000 00 0001 0001 00 0001 00".to_string(), 1, 17),
+        (ns("00", 2), 1, 12),
+        (asking("40"), 4, 12),
+        (ns("80", 1), 4, 12),
+        (asking("C00C"), 5, 12),
+        (ns("C003", 2), 5, 12),
+        (asking(&long), 6, 12),
+        (ns("0000", 2), 7, 12),
+        (ns("C0", 1), 7, 12),
+        ("00000000 00000000 00".to_string(), 8, 12),
+        (asking("00") + "40", 8, 17),
+    ];
+    for (behind_flags, number, place) in cases {
+        for flags in ["0000", "0040", "0070", "00C0", "FFFF"] {
+            refused(&format!("0000{flags} {behind_flags}"), number, place);
+        }
+    }
+    // Four octets with Z, and the header up to its last octet.
+    refused("00000040", 1, 0);
+    refused("00000040 00000000 000000", 1, 0);
+    // 9: 254 questions for a name of 255 octets; with one octet behind them 8.
+    let long = format!("{0}{0}{0}3D{1}00", "3F".repeat(64), "61".repeat(61));
+    let many = format!("00FE0000 00000000 {long} 00010001 {}", "C00C00010001".repeat(253));
+    for flags in ["0000", "0040"] {
+        refused(&format!("0000{flags} {many}"), 9, 0);
+        refused(&format!("0000{flags} {many} 00"), 8, 12 + 259 + 253 * 6);
+    }
+}
+
+#[test]
+fn z_has_one_spelling() {
+    for (ra, ad) in [(0, 0), (0, 1), (1, 0), (1, 1)] {
+        let beside = |z: &str| {
+            let text = asking("z.").replacen("\"RA\":0", &format!("\"RA\":{ra}"), 1);
+            behind_ra(&text.replacen("\"AD\":0", &format!("\"AD\":{ad}"), 1), z)
+        };
+        answer_is(&beside(""), 0);
+        answer_is(&beside(",\"Z\":1"), 0);
+        let message = message_of(beside(",\"Z\":1").as_bytes()).unwrap();
+        assert_eq!(message[..4], [0, 0, 0, ra << 7 | 0x40 | ad << 5]);
+        let huge = format!(",\"Z\":{}", "1".repeat(100_000));
+        for wrong in [
+            ",\"Z\":0", ",\"Z\":2", ",\"Z\":10", ",\"Z\":11", ",\"Z\":01", ",\"Z\":00",
+            ",\"Z\":-1", ",\"Z\":-0", ",\"Z\":\"1\"", ",\"Z\":1.0", ",\"Z\":+1", ",\"Z\":1e0",
+            ",\"Z\":true", ",\"Z\":null", ",\"Z\":[1]", ",\"Z\":", ",\"Z\"", ",\"Z", ",\"z\":1",
+            ",\"Z\" :1", ",\"Z\": 1", ",\"Z\":1 ", ", \"Z\":1", " ,\"Z\":1", "\"Z\":1",
+            ",\"Z\":1,", ",,\"Z\":1", ",\"\\u005A\":1", ",\"MBZ\":1", ",\"Z\":257", ",\"Z\":65537",
+            ",\"Z\":18446744073709551617", ",\"Z\":1,\"Z\":1", ",\"Z\":1,\"Z\":0",
+            ",\"Z\":0,\"Z\":1", ",\"Z\":1,\"RA\":0", &huge,
+        ] {
+            answer_is(&beside(wrong), 20);
+        }
+    }
+    // The comma behind it.
+    answer_is(&with_z(&asking(".")).replacen("1,\"AD\"", "1\"AD\"", 1), 20);
+    // A text with Z cut anywhere.
+    let whole = with_z(&asking("z."));
+    for length in 0..whole.len() {
+        answer_is(&whole[..length], 20);
+    }
+}
+
+#[test]
+fn z_has_one_place() {
+    let text = whole(
+        0,
+        0,
+        [1, 1, 0, 1],
+        [
+            "{\"NAME\":\"q.\",\"TYPE\":1,\"CLASS\":1}",
+            "{\"NAME\":\"r.\",\"TYPE\":1,\"CLASS\":1,\"TTL\":1,\"RDATAHEX\":\"00\"}",
+            "",
+            &edns_element("NoError", ",\"NSID\":{\"HEX\":\"00\"}"),
+        ],
+    );
+    answer_is(&text, 0);
+    answer_is(&with_z(&text), 0);
+    let places: Vec<usize> =
+        (1..text.len()).filter(|at| matches!(text.as_bytes()[*at], b',' | b'}' | b']')).collect();
+    let right = text.find(",\"AD\":").unwrap();
+    assert!(places.contains(&right) && places.len() > 30);
+    for z in ["\"Z\":1", "\"Z\":0"] {
+        for place in places.iter().copied().filter(|place| *place != right) {
+            // Alone there, and beside the right one.
+            let alone = format!("{},{z}{}", &text[..place], &text[place..]);
+            answer_is(&alone, 20);
+            answer_is(&with_z(&alone), 20);
+        }
+        for opening in ["{\"ID\"", "{\"NAME\"", "{\"EDNS\"", "{\"Version\"", "{\"HEX\""] {
+            assert!(text.contains(opening));
+            answer_is(&text.replacen(opening, &format!("{{{z},{}", &opening[1..]), 1), 20);
+        }
+        // In the place of the members on both sides.
+        for member in ["\"RA\":0", "\"AD\":0"] {
+            answer_is(&text.replacen(member, z, 1), 20);
+        }
+    }
+    // In strings it is nothing but octets.
+    answer_is(&asking("Z.\\\\034Z\\\\034:1."), 0);
+    let ede = edns(",\"EDE\":{\"CODE\":1,\"TEXT\":\"\\\"RA\\\":0,\\\"Z\\\":1,\\\"AD\\\":0\"}");
+    answer_is(&ede, 0);
+    answer_is(&with_z(&ede), 0);
+}
+
+#[test]
+fn z_beside_other_refusals_of_texts() {
+    let changed = |from: &str, to: &str| {
+        let text = asking("z.");
+        assert!(text.contains(from));
+        text.replacen(from, to, 1)
+    };
+    let padding = |length: u32| edns(&format!(",\"PADDING\":{{\"LENGTH\":{length}}}"));
+    let cases = [
+        (changed("\"RA\":0", "\"RA\":2"), 21),
+        (changed("\"AD\":0", "\"AD\":2"), 21),
+        (changed("\"ID\":0", "\"ID\":65536"), 21),
+        (changed("\"QDCOUNT\":1", "\"QDCOUNT\":2"), 21),
+        (changed("\"ARCOUNT\":0", "\"ARCOUNT\":65536"), 21),
+        (padding(65_509), 22),
+        (padding(65_508), 0),
+        (changed("\"RA\":0", "\"RA\":00"), 20),
+        (changed("\"AD\":0", "\"AD\":-0"), 20),
+        (changed("\"z.\"", "\"z\""), 20),
+        (asking("z.") + "}", 20),
+        (changed("\"RA\":0", "\"RA\":2") + " ", 20),
+    ];
+    for (text, number) in cases {
+        answer_is(&text, number);
+        answer_is(&with_z(&text), number);
+        // 20 comes before all others.
+        answer_is(&behind_ra(&text, ",\"Z\":0"), 20);
+        answer_is(&behind_ra(&text, ",\"Z\":2"), 20);
+    }
+}
+
+#[test]
+fn z_has_no_part_in_the_edns_rules() {
+    let opt = |flags: &str, ttl: &str| {
+        text(&format!("0000{flags} 00000000 00000001 00 0029 0200 {ttl} 0000"))
+    };
+    let ordinary = |ttl: i32| {
+        format!("{{\"NAME\":\".\",\"TYPE\":41,\"CLASS\":512,\"TTL\":{ttl},\"RDATAHEX\":\"\"}}")
+    };
+    let saying = |rcode: u32, element: &str| whole(0, rcode, [0, 0, 0, 1], ["", "", "", element]);
+    for (flags, ttl, rcode, element) in [
+        ("0040", "00000000", 0, edns_element("NoError", "")),
+        ("0047", "01000000", 7, edns_element("BADCOOKIE", "")),
+        ("0040", "01000000", 0, edns_element("BADVERS", "")),
+        ("004C", "00000000", 12, ordinary(0)),
+        ("0048", "01000000", 8, ordinary(0x0100_0000)),
+        ("0040", "00010000", 0, ordinary(0x0001_0000)),
+        ("0040", "00004000", 0, ordinary(0x4000)),
+        ("0040", "04000000", 0, ordinary(0x0400_0000)),
+    ] {
+        let expected = with_z(&saying(rcode, &element));
+        assert_eq!(opt(flags, ttl), expected);
+        answer_is(&expected, 0);
+    }
+    // The header's RCODE must fit, and an EDNS record can't be an ordinary one.
+    answer_is(&with_z(&saying(4, &edns_element("NoError", ""))), 21);
+    answer_is(&with_z(&saying(4, &edns_element("BADNAME", ""))), 0);
+    answer_is(&with_z(&saying(0, &ordinary(0))), 21);
+    answer_is(&with_z(&saying(7, &ordinary(0x0100_0000))), 21);
 }
 
 #[test]

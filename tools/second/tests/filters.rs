@@ -82,7 +82,7 @@ fn towire_agrees_on_its_cases() {
     let cases = cases::towire();
     let expected: Vec<u8> = cases.iter().flat_map(|line| towire_answer(line)).collect();
     let input = cases.join(&b'\n');
-    assert!(cases.len() >= 4_000 && input.len() < 6_000_000);
+    assert!(cases.len() >= 4_000 && input.len() < 8_000_000);
     assert!(!cases[cases.len() - 1].is_empty());
     for largest in [1_000, 70_000] {
         assert!(run_towire(&input, largest) == expected);
@@ -103,7 +103,7 @@ fn numbers(answers: Vec<Vec<u8>>) -> Vec<u32> {
 #[test]
 fn some_cases_keep_every_kind_and_number() {
     let some = cases::some_towire(400);
-    assert!(some.len() >= 4_000 && some.join(&b'\n').len() < 4_000_000);
+    assert!(some.len() >= 4_000 && some.join(&b'\n').len() < 5_000_000);
     let groups = cases::towire_groups();
     assert_eq!(some.len(), groups.iter().map(|group| group.lines.len().min(400)).sum());
     for group in groups {
@@ -120,9 +120,43 @@ fn cases_hold_no_newline_and_meet_every_number() {
     let (totext, towire) = (cases::totext(), cases::towire());
     assert!(totext.iter().chain(&towire).all(|line| !line.contains(&b'\n')));
     let answers = totext.iter().map(|line| totext_answer(line)).collect();
-    assert_eq!(numbers(answers), [1, 3, 4, 5, 6, 7, 8, 9, 10, 30, 31]);
+    assert_eq!(numbers(answers), [1, 4, 5, 6, 7, 8, 9, 10, 30, 31]);
     let answers = towire.iter().map(|line| towire_answer(line)).collect();
     assert_eq!(numbers(answers), [20, 21, 22, 23, 31]);
+}
+
+/// Whether a line holds a message with Z set.
+fn sets_z(line: &[u8]) -> bool {
+    octets_of_hex(line).is_some_and(|message| message.len() > 3 && message[3] & 0x40 != 0)
+}
+
+fn holds(line: &[u8], part: &[u8]) -> bool {
+    line.windows(part.len()).any(|window| window == part)
+}
+
+#[test]
+fn cases_meet_every_number_with_z() {
+    let totext: Vec<Vec<u8>> = cases::totext().into_iter().filter(|line| sets_z(line)).collect();
+    let answers: Vec<Vec<u8>> = totext.iter().map(|line| totext_answer(line)).collect();
+    let accepted: Vec<&Vec<u8>> = answers.iter().filter(|line| line[0] == b'{').collect();
+    assert!(accepted.len() >= 300);
+    assert!(accepted.iter().all(|text| holds(text, b",\"Z\":1,\"AD\":")));
+    for kind in [&b"{\"EDNS\":"[..], b"\"TYPE\":41,", b"\"RCODE\":\"BADVERS\"", b"\"RA\":1,\"Z\""] {
+        assert!(accepted.iter().any(|text| holds(text, kind)));
+    }
+    assert_eq!(numbers(answers), [1, 4, 5, 6, 7, 8, 9, 10]);
+    for lines in [cases::towire(), cases::some_towire(400)] {
+        let right: Vec<Vec<u8>> =
+            lines.iter().filter(|line| holds(line, b",\"Z\":1,\"AD\":")).cloned().collect();
+        let answers: Vec<Vec<u8>> = right.iter().map(|line| towire_answer(line)).collect();
+        let accepted = answers.iter().filter(|line| !line.starts_with(b"refused"));
+        assert!(accepted.clone().count() >= 300 && accepted.clone().all(|line| sets_z(&line[..8])));
+        assert_eq!(numbers(answers), [20, 21, 22, 23, 31]);
+        // Every other Z is wrong.
+        let wrong = lines.iter().filter(|line| holds(line, b"\"Z\":") && !right.contains(line));
+        assert!(wrong.clone().count() >= 500);
+        assert!(wrong.clone().all(|line| towire_answer(line) == b"refused 20 at 0\n"));
+    }
 }
 
 #[test]

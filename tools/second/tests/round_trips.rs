@@ -6,6 +6,40 @@ use second::{message_of, text_of, to_text, to_wire, uncompressed, Refusal};
 
 const MESSAGES: usize = 6_000;
 
+/// The message with Z set or clear.
+fn message_saying(z: bool, message: &[u8]) -> Vec<u8> {
+    let mut message = message.to_vec();
+    if let Some(octet) = message.get_mut(3) {
+        *octet = *octet & !0x40 | u8::from(z) << 6;
+    }
+    message
+}
+
+/// The text with Z put into its place, if there is such a place.
+fn text_saying_z(text: &[u8]) -> Option<Vec<u8>> {
+    let place = text.windows(6).position(|part| part == b",\"AD\":")?;
+    Some([&text[..place], b",\"Z\":1", &text[place..]].concat())
+}
+
+/// Whether a text has a member Z; a string can't hold these octets.
+fn has_z(text: &[u8]) -> bool {
+    text.windows(4).any(|part| part == b"\"Z\":")
+}
+
+/// Checks that Z adds its member to the text of a message, or changes nothing
+/// about its refusal.
+fn check_z(message: &[u8]) {
+    let clear = text_of(&message_saying(false, message));
+    let set = text_of(&message_saying(true, message));
+    match clear {
+        Ok(text) => {
+            assert!(!has_z(&text));
+            assert_eq!(set.ok(), text_saying_z(&text));
+        }
+        Err(refusal) => assert_eq!(set, Err(refusal)),
+    }
+}
+
 fn check_message(message: &[u8]) {
     let form = uncompressed(message).expect("the message is accepted");
     let text = text_of(message).expect("the message is accepted");
@@ -19,7 +53,10 @@ fn check_message(message: &[u8]) {
 fn valid_messages_go_there_and_back() {
     let mut random = Random::new(1);
     for _ in 0..MESSAGES {
-        check_message(&generate::valid_message(&mut random));
+        let message = generate::valid_message(&mut random);
+        check_message(&message);
+        check_message(&message_saying(true, &message));
+        check_z(&message);
     }
 }
 
@@ -31,6 +68,8 @@ fn large_messages_go_there_and_back() {
             let message = generate::message_of_size(&mut random, size);
             assert!(message.len() <= 65_535 && message.len() + 200 > size);
             check_message(&message);
+            check_message(&message_saying(true, &message));
+            check_z(&message);
         }
     }
 }
@@ -40,10 +79,11 @@ fn damaged_messages_are_refused_or_go_there_and_back() {
     let mut random = Random::new(3);
     for _ in 0..MESSAGES {
         let message = generate::damaged_message(&mut random);
+        check_z(&message);
         match text_of(&message) {
             Ok(_) => check_message(&message),
             Err(refusal) => {
-                assert!((1..=9).contains(&refusal.number));
+                assert!([1, 4, 5, 6, 7, 8, 9].contains(&refusal.number));
                 assert!(refusal.place <= message.len() as u64);
                 assert_eq!(uncompressed(&message), None);
             }
@@ -52,15 +92,58 @@ fn damaged_messages_are_refused_or_go_there_and_back() {
 }
 
 #[test]
+fn random_messages_set_z_in_some() {
+    let mut random = Random::new(7);
+    let (mut accepted, mut refused) = (0, 0);
+    for _ in 0..MESSAGES {
+        let message = generate::message(&mut random);
+        if message.len() > 3 && message[3] & 0x40 != 0 {
+            match text_of(&message) {
+                Ok(_) => accepted += 1,
+                Err(_) => refused += 1,
+            }
+        }
+    }
+    assert!((MESSAGES / 10..MESSAGES / 2).contains(&accepted));
+    assert!((MESSAGES / 50..MESSAGES / 4).contains(&refused));
+}
+
+#[test]
+fn z_adds_its_bit_to_the_message_of_a_text() {
+    let mut random = Random::new(8);
+    let (mut accepted, mut refused) = (0, 0);
+    for _ in 0..MESSAGES {
+        let text = generate::text(&mut random);
+        let Some(with_z) = text_saying_z(&text).filter(|_| !has_z(&text)) else {
+            continue;
+        };
+        match message_of(&text) {
+            Ok(message) => {
+                accepted += 1;
+                assert_eq!(message_of(&with_z), Ok(message_saying(true, &message)));
+                assert_eq!(message_saying(false, &message), message);
+            }
+            Err(refusal) => {
+                refused += 1;
+                assert_eq!(message_of(&with_z), Err(refusal));
+            }
+        }
+    }
+    assert!(accepted > MESSAGES / 4 && refused > MESSAGES / 10);
+}
+
+#[test]
 fn accepted_texts_come_back() {
     let mut random = Random::new(4);
     let mut accepted = 0;
+    let mut accepted_with_z = 0;
     for _ in 0..2 * MESSAGES {
         let text = generate::text(&mut random);
         assert!(!text.contains(&b'\n'));
         match message_of(&text) {
             Ok(message) => {
                 accepted += 1;
+                accepted_with_z += usize::from(message[3] & 0x40 != 0);
                 assert_eq!(text_of(&message), Ok(text));
                 assert_eq!(uncompressed(&message), Some(message));
             }
@@ -71,6 +154,7 @@ fn accepted_texts_come_back() {
         }
     }
     assert!(accepted > MESSAGES / 2 && accepted < 2 * MESSAGES);
+    assert!(accepted_with_z > MESSAGES / 20 && accepted_with_z < accepted / 2);
 }
 
 #[test]
@@ -145,6 +229,8 @@ fn the_same_seed_gives_the_same_inputs() {
     assert_eq!(made(9), made(9));
     assert_ne!(made(9), made(10));
     let mut random = Random::new(0);
+    // What is drawn aside leaves the numbers as they are.
+    assert_ne!(random.aside().number(), 0xE220_A839_7B1D_CDAF);
     assert_eq!(random.number(), 0xE220_A839_7B1D_CDAF);
     assert_eq!(random.number(), 0x6E78_9E6A_A1B9_65F4);
 }

@@ -10,6 +10,9 @@ use std::collections::HashSet;
 /// The kind of the cases about RCODE 16, in both lists.
 const RCODE_16: &str = "RCODE 16";
 
+/// The kind of the messages about the Z bit.
+const Z_BIT: &str = "the Z bit";
+
 /// The lines of one kind of case.
 pub struct Group {
     pub kind: &'static str,

@@ -3,8 +3,8 @@
 use std::slice::from_ref;
 
 use super::build::*;
-use super::{Group, RCODE_16};
-use crate::generate;
+use super::{Group, RCODE_16, Z_BIT};
+use crate::generate::{self, message_with_z};
 use crate::lines::hex_of_octets;
 use crate::random::Random;
 use crate::text_of;
@@ -13,7 +13,7 @@ type Messages = Vec<Vec<u8>>;
 type Lines = Vec<Vec<u8>>;
 
 pub fn groups() -> Vec<Group> {
-    let of_messages: [(&'static str, Messages); 30] = [
+    let of_messages: [(&'static str, Messages); 31] = [
         ("worked and marked examples", examples()),
         ("truncations", truncations()),
         ("pointer targets", pointer_targets()),
@@ -44,6 +44,7 @@ pub fn groups() -> Vec<Group> {
         ("long forms and long texts", long_forms_and_texts()),
         ("bit flips", bit_flips()),
         ("random messages", random_messages()),
+        (Z_BIT, z_bit()),
     ];
     let mut groups: Vec<Group> = of_messages
         .into_iter()
@@ -818,6 +819,143 @@ fn random_messages() -> Messages {
     }
     while messages.len() < 310 {
         let message = generate::damaged_message(&mut random);
+        if message.len() <= 300 {
+            messages.push(message);
+        }
+    }
+    messages
+}
+
+/// Z beside everything else that a message can have or be refused for.
+fn z_bit() -> Messages {
+    let with_z = |messages: Messages| messages.into_iter().map(message_with_z);
+    let mut messages = z_and_other_flags();
+    messages.extend(with_z(faults_beside_z()));
+    messages.extend(with_z(edns_beside_z()));
+    messages.extend(with_z(long_beside_z()));
+    messages.extend(with_z(strings_like_z()));
+    messages.extend(strings_like_z());
+    messages.extend(with_z(random_beside_z()));
+    messages
+}
+
+/// Each bit of the flags alone and together with Z, in a message of a header
+/// and in one with a question; all values of the fields around Z.
+fn z_and_other_flags() -> Messages {
+    let ask = |flags| message(flags, &[question(&name("z"), 1, 1)], [&[], &[], &[]]);
+    let mut messages = Vec::new();
+    for bit in 0..16 {
+        for flags in [1 << bit, 0x0040 | 1 << bit] {
+            messages.push(header(0, flags, [0; 4]));
+            messages.push(ask(flags));
+        }
+    }
+    for four_bits in 0..16 {
+        // RA, Z, AD and CD; then Opcode and RCODE beside Z.
+        messages.push(header(4, four_bits << 4, [0; 4]));
+        messages.push(header(5, 0x0040 | four_bits << 11, [0; 4]));
+        messages.push(header(6, 0x0040 | four_bits, [0; 4]));
+    }
+    // The same bit of the octets around the flags' second one.
+    for octets in [[0x40, 0, 0, 0], [0, 0x40, 0, 0], [0, 0, 0x40, 0], [0, 0, 0x40, 0x40]] {
+        messages.push([&octets[..], &[0; 8]].concat());
+        messages.push([&octets[..], &[0x40, 0, 0, 0, 0, 0, 0, 0]].concat());
+    }
+    messages
+}
+
+/// Each number that a message of a line can be refused with, and some beside
+/// each other.
+fn faults_beside_z() -> Messages {
+    let ns = |rdata: &[u8]| answers(&[record(&[0], 2, 1, 0, rdata)]);
+    let entries = message(
+        0,
+        &[question(&name("q"), 1, 1)],
+        [
+            &[record(&pointer(12), 15, 1, 0, &[0, 1, 0])],
+            &[],
+            &[opt_record(512, 0, &option(9, &[]))],
+        ],
+    );
+    // 1 under 12 octets and in every entry, also with no fault at the end.
+    let mut messages = cuts(&entries);
+    messages.extend([
+        header(0, 0, [1, 0, 0, 0]),
+        header(0, 0, [0, 0, 0, 1]),
+        answers(&[record_saying(&[0], 16, 1, 0, 9, &[1])]),
+    ]);
+    // 4, 5 and 6, in the question and in RDATA.
+    for fault in [vec![0x40], vec![0xBF, 0], pointer(12), pointer(3), pointer(11), name_of(256)] {
+        messages.push(asking(&fault));
+        messages.push(ns(&fault));
+    }
+    messages.extend([asking(&name_of(255)), ns(&name_of(255)), ns(&pointer(FIRST_RDATA))]);
+    // 7.
+    for rdata in [&[1][..], &[1, b'a'], &[0, 0], &[0xC0]] {
+        messages.push(ns(rdata));
+    }
+    messages.push(answers(&[record(&[0], 15, 1, 0, &[0])]));
+    messages.push(answers(&[record(&[0], 6, 1, 0, &[0; 21])]));
+    messages.push(answers(&[record(&[0], 14, 1, 0, &[0])]));
+    // 8, without and with entries.
+    for tail in [&[0][..], &[0x40], &[0; 3]] {
+        messages.push([header(0, 0, [0; 4]).as_slice(), tail].concat());
+        messages.push([entries.as_slice(), tail].concat());
+    }
+    messages
+}
+
+/// TYPE 41 records that become EDNS elements and such that don't.
+fn edns_beside_z() -> Messages {
+    let mut messages = edns_conditions();
+    messages.extend(edns_rcodes());
+    messages.extend([plain_query(), plain_response(), rich_message()]);
+    // The flags of the record have bits of their own.
+    for ttl in [0x40, 0x4000, 0x0040_0000, 0x4000_0000, 0x0100_4000, 0x0100_8000] {
+        messages.push(additional(0x00B0, &[opt_record(0x0040, ttl, &option(15, &[0, 0x40]))]));
+    }
+    messages
+}
+
+/// Messages at the limits of 8, 9 and 10. Z makes a text longer by the six
+/// octets of its member, and a form not at all.
+fn long_beside_z() -> Messages {
+    let mut messages = Vec::new();
+    for count in [252, 253, 255] {
+        messages.push(repeated_long_name(4, count, 0));
+    }
+    messages.push([repeated_long_name(4, 255, 0), vec![0]].concat());
+    for first_label in 1..=6 {
+        messages.push(repeated_long_name(first_label, 252, 1));
+    }
+    for length in [65_530, 65_531, 65_536] {
+        messages.push(message_with_text_of(length));
+    }
+    messages
+}
+
+/// Names and strings that hold what Z's member is made of.
+fn strings_like_z() -> Messages {
+    let member = b",\"Z\":1";
+    let around = b"\"RA\":0,\"Z\":1,\"AD\":0";
+    vec![
+        asking(&name("Z")),
+        asking(&name("z.Z.1")),
+        asking(&[label(member), vec![0]].concat()),
+        asking(&[label(around), vec![0]].concat()),
+        with_options(&option(15, &[&[0, 1], &member[..]].concat())),
+        with_options(&option(15, &[&[0, 1], &around[..]].concat())),
+    ]
+}
+
+fn random_beside_z() -> Messages {
+    let mut random = Random::new(6);
+    let mut messages = Vec::new();
+    while messages.len() < 100 {
+        let message = match messages.len() % 2 {
+            0 => generate::valid_message(&mut random),
+            _ => generate::damaged_message(&mut random),
+        };
         if message.len() <= 300 {
             messages.push(message);
         }

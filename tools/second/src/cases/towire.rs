@@ -3,20 +3,25 @@
 use std::collections::HashSet;
 
 use super::build::{message as wire_message, name_of, opt_record, rich_message, tsig_rdata};
-use super::{totext_groups, Group, RCODE_16};
+use super::{totext_groups, Group, RCODE_16, Z_BIT};
 use crate::generate;
 use crate::lines::{hex_of_octets, octets_of_hex, LINE_TEXT};
 use crate::random::Random;
 use crate::text_of;
 
 type Texts = Vec<String>;
+type Lines = Vec<Vec<u8>>;
 
 pub fn groups() -> Vec<Group> {
-    // The texts of RCODE 16 are a kind of their own, so that a choice of cases keeps them all.
-    let is_rcode_16 = |group: &Group| group.kind == RCODE_16;
-    let (of_rcode_16, of_others) = totext_groups().into_iter().partition(is_rcode_16);
+    // The texts of RCODE 16 and those with a Z are kinds of their own, so that a choice of cases
+    // keeps them all, and the same of the others as before.
+    let (of_rcode_16, others) = split_kind(totext_groups(), RCODE_16);
+    let (of_z_bit, others) = split_kind(others, Z_BIT);
+    let (mut with_z, without_z): (Lines, Lines) =
+        texts_of_cases(others).into_iter().partition(|text| has_z(text));
+    with_z.extend(texts_of_cases(of_z_bit));
     let mut groups = vec![
-        Group { kind: "texts of the totext cases", lines: texts_of_cases(of_others) },
+        Group { kind: "texts of the totext cases", lines: without_z },
         Group { kind: "a rich text cut", lines: cut_texts() },
         Group { kind: "a rich text, one octet changed", lines: changed_texts() },
         Group { kind: "a rich text, one octet inserted", lines: inserted_texts() },
@@ -25,7 +30,7 @@ pub fn groups() -> Vec<Group> {
         Group { kind: "octets in EDE texts", lines: octets_in_ede_texts() },
         Group { kind: "octets in hex strings", lines: octets_in_hex() },
     ];
-    let of_texts: [(&'static str, Texts); 23] = [
+    let of_texts: [(&'static str, Texts); 30] = [
         ("members left out, doubled, swapped", members_moved()),
         ("numbers", numbers()),
         ("numbers in lists", numbers_in_lists()),
@@ -49,6 +54,13 @@ pub fn groups() -> Vec<Group> {
         ("sizes", sizes()),
         ("order of the refusals", order_of_refusals()),
         ("long lines", long_lines()),
+        ("Z beside other members", z_beside_members()),
+        ("spellings of Z", spellings_of_z()),
+        ("Z in other places", z_elsewhere()),
+        ("members of a text with Z moved", members_moved_beside_z()),
+        ("a text with Z cut", cut_beside_z()),
+        ("a text changed near Z", changed_near_z()),
+        ("Z beside faults and EDNS", z_beside_faults_and_edns()),
     ];
     groups.extend(of_texts.into_iter().map(|(kind, texts)| Group {
         kind,
@@ -56,6 +68,10 @@ pub fn groups() -> Vec<Group> {
     }));
     groups.push(Group { kind: "texts of RCODE 16", lines: texts_of_cases(of_rcode_16) });
     groups.push(Group { kind: "random texts", lines: random_texts() });
+    groups.push(Group { kind: "texts with Z of the totext cases", lines: with_z });
+    groups.push(Group { kind: "octets in Z's name", lines: octets_in_z_name() });
+    groups.push(Group { kind: "octets in Z's number", lines: octets_in_z_number() });
+    groups.push(Group { kind: "random texts with Z", lines: random_texts_with_z() });
     groups.push(Group { kind: "line ends", lines: line_ends() });
     groups
 }
@@ -144,6 +160,16 @@ fn hex(octets: &[u8]) -> String {
 
 fn rich_text() -> Vec<u8> {
     text_of(&rich_message()).expect("the rich message is right")
+}
+
+/// The groups of one kind, and the others.
+fn split_kind(groups: Vec<Group>, kind: &str) -> (Vec<Group>, Vec<Group>) {
+    groups.into_iter().partition(|group| group.kind == kind)
+}
+
+/// Whether the text of a message has a Z. No string of a text holds these octets.
+fn has_z(text: &[u8]) -> bool {
+    text.windows(Z.len()).any(|part| part == Z.as_bytes())
 }
 
 /// The texts of cases for `totext`.
@@ -1156,6 +1182,266 @@ fn long_lines() -> Texts {
     texts.push(fill(&long_number, "@", "9", LINE_TEXT));
     texts.push(fill(&long_name, "@", "z", LINE_TEXT));
     texts.push("{".repeat(LINE_TEXT + 1));
+    texts
+}
+
+/// The member of a Z that is set, with the comma before it.
+const Z: &str = ",\"Z\":1";
+
+/// The header's members and the arrays of an empty text, all but the first
+/// with their commas, each as a mark of the place before it.
+const OUTER_MARKS: [&str; 18] = [
+    "\"ID\":", ",\"QR\":", ",\"Opcode\":", ",\"AA\":", ",\"TC\":", ",\"RD\":", ",\"RA\":",
+    ",\"AD\":", ",\"CD\":", ",\"RCODE\":", ",\"QDCOUNT\":", ",\"ANCOUNT\":", ",\"NSCOUNT\":",
+    ",\"ARCOUNT\":", ",\"questionRRs\":", ",\"answerRRs\":", ",\"authorityRRs\":",
+    ",\"additionalRRs\":",
+];
+
+/// Puts octets behind the number of RA, the place of Z.
+fn behind_ra(text: &str, put: &str) -> String {
+    replaced(text, ",\"AD\":", &format!("{put},\"AD\":"))
+}
+
+fn with_z(text: &str) -> String {
+    behind_ra(text, Z)
+}
+
+/// The text with something else in the place of the first such part.
+fn replaced(text: &str, from: &str, to: &str) -> String {
+    assert!(text.contains(from), "{from}");
+    text.replacen(from, to, 1)
+}
+
+/// Puts a member and its comma before a mark: a member with or without its
+/// comma, or what closes an object.
+fn put_member(text: &str, mark: &str, member: &str) -> String {
+    let put = if mark.starts_with('"') { format!("{member},") } else { format!(",{member}") };
+    replaced(text, mark, &format!("{put}{mark}"))
+}
+
+/// An empty text with these numbers of RA and AD, and something between them.
+fn between_ra_and_ad(ra: &str, between: &str, ad: &str) -> String {
+    let text = replaced(&Parts::empty().text(), "\"RA\":0", &format!("\"RA\":{ra}"));
+    behind_ra(&replaced(&text, "\"AD\":0", &format!("\"AD\":{ad}")), between)
+}
+
+/// The header's members of one bit, all but Z.
+const BITS: [&str; 7] = ["QR", "AA", "TC", "RD", "RA", "AD", "CD"];
+
+/// An empty text with some of the bits set.
+fn with_bits(is_set: impl Fn(&str) -> bool) -> String {
+    let set = |text: String, bit: &&str| {
+        replaced(&text, &format!("\"{bit}\":0"), &format!("\"{bit}\":1"))
+    };
+    BITS.iter().filter(|bit| is_set(bit)).fold(Parts::empty().text(), set)
+}
+
+/// Z with every number of the members beside it.
+fn z_beside_members() -> Texts {
+    let empty = Parts::empty().text();
+    let mut texts = Vec::new();
+    for z in ["", Z] {
+        for (ra, ad) in [("0", "0"), ("0", "1"), ("1", "0"), ("1", "1")] {
+            texts.push(between_ra_and_ad(ra, z, ad));
+        }
+        for bit in BITS {
+            // Set alone, and clear alone.
+            texts.push(behind_ra(&with_bits(|other| other == bit), z));
+            texts.push(behind_ra(&with_bits(|other| other != bit), z));
+        }
+        for member in ["Opcode", "RCODE"] {
+            for number in 0..=16 {
+                let set = format!("\"{member}\":{number}");
+                let text = replaced(&empty, &format!("\"{member}\":0"), &set);
+                texts.push(behind_ra(&text, z));
+            }
+        }
+    }
+    texts.extend(with_spellings(&with_z(&empty), &[("\"RA\":0", 1), ("\"AD\":0", 1)]));
+    texts.extend(counts().iter().map(|text| with_z(text)));
+    texts
+}
+
+/// What may be mistaken for Z, in its place.
+const NEAR_Z: [&str; 64] = [
+    ",\"Z\":0", ",\"Z\":2", ",\"Z\":10", ",\"Z\":01", ",\"Z\":-1", ",\"Z\":\"1\"", ",\"Z\":1.0",
+    ",\"Z\":+1", ",\"Z\":true", ",\"Z\":", ",\"z\":1", ",\"Z\" :1", ",\"Z\": 1",
+    ",\"Z\":1,\"Z\":1", ",\"Z\":0,\"Z\":1", ",\"Z\":1,\"Z\":0", ",\"Z\":0,\"Z\":0",
+    ",\"Z\":1,\"Z\":1,\"Z\":1", ",\"z\":0", ",\"Z\":\"0\"", ",\"Z\":\"\"", ",\"Z\":false",
+    ",\"Z\":null", ",\"Z\":[1]", ",\"Z\":[]", ",\"Z\":{\"Z\":1}", ",\"Z\":{}", ",\"Z\"", ",\"Z",
+    ",\"Z:1", ",Z:1", ",Z\":1", ",'Z':1", ",\"Z\"1", ",\"Z\"=1", ",\"Z\"::1", ",\"Z\":1:",
+    ",\"Z\":11", ",\"Z\":1 ", ", \"Z\":1", " ,\"Z\":1", ",\" Z\":1", ",\"Z \":1", ",\"\":1",
+    ",\"ZZ\":1", ",\"MBZ\":1", ",\"Zero\":1", ",\"Y\":1", ",\"A\":1", ",\"\\u005A\":1",
+    ",\"\\u005a\":1", ",\"\\Z\":1", ",\"\\\\090\":1", ",\"Z\":\\u0031", "\"Z\":1", ",,\"Z\":1",
+    ",\"Z\":1,", ",", ",1", "1", "\t,\"Z\":1", ",\"Z\":1\r", ",\"\u{396}\":1", ",\"Z\":\u{ff11}",
+];
+
+fn spellings_of_z() -> Texts {
+    let mut texts = Vec::new();
+    for near in NEAR_Z {
+        texts.push(between_ra_and_ad("0", near, "0"));
+        texts.push(between_ra_and_ad("1", near, "1"));
+        // Behind a number of RA that is out of range, which would be 21.
+        texts.push(between_ra_and_ad("2", near, "0"));
+    }
+    texts.extend(with_spellings(&with_z(&Parts::empty().text()), &[("\"Z\":1", 1)]));
+    // The comma behind Z left out, and AD with it.
+    texts.push(replaced(&with_z(&asking("z.")), "1,\"AD\":0", "1\"AD\":0"));
+    texts.push(replaced(&with_z(&asking("z.")), "1,\"AD\":0", "1"));
+    texts.push(replaced(&with_z(&asking("z.")), "1,\"AD\":0", "1,\"CD\":0"));
+    texts
+}
+
+/// Z in every place but its own, alone and beside a right one.
+fn z_elsewhere() -> Texts {
+    let members = [
+        "\"Z\":1", "\"Z\":0", "\"Z\":2", "\"Z\":10", "\"Z\":01", "\"Z\":-1", "\"Z\":\"1\"",
+        "\"z\":1", "\"Z\":1,\"Z\":1",
+    ];
+    let empty = Parts::empty().text();
+    let at_the_end = |text: &str, member: &str| format!("{},{member}}}", &text[..text.len() - 1]);
+    let mut texts = Vec::new();
+    for member in members {
+        for mark in OUTER_MARKS.iter().filter(|mark| **mark != ",\"AD\":") {
+            texts.push(put_member(&empty, mark, member));
+        }
+        texts.push(at_the_end(&empty, member));
+        texts.push(empty.clone() + "," + member);
+    }
+    for member in &members[..2] {
+        for mark in OUTER_MARKS {
+            texts.push(put_member(&with_z(&empty), mark, member));
+        }
+        texts.push(at_the_end(&with_z(&empty), member));
+        for text in [inner_text(), with_z(&inner_text())] {
+            for mark in INNER_MARKS {
+                texts.push(put_member(&text, mark, member));
+            }
+        }
+    }
+    // In the place of another member of the header.
+    for mark in &OUTER_MARKS[..14] {
+        let name = mark.trim_matches([',', '"', ':']);
+        let renamed = replaced(&empty, mark, &mark.replacen(name, "Z", 1));
+        texts.push(renamed.replacen("\"Z\":0", "\"Z\":1", 1));
+        texts.push(renamed);
+    }
+    texts
+}
+
+/// Marks of all places inside the questions, records and EDNS elements of
+/// `inner_text`, in the order of the text.
+const INNER_MARKS: [&str; 24] = [
+    "\"NAME\":\"q.\"", ",\"TYPE\":1,", ",\"CLASS\":1}", "}],\"answerRRs\"", "],\"answerRRs\"",
+    "\"NAME\":\"r.\"", ",\"TYPE\":16", ",\"CLASS\":1,", ",\"TTL\":", ",\"RDATAHEX\":",
+    "}],\"authorityRRs\"", "\"EDNS\":", "\"Version\":", ",\"FLAGS\":", ",\"RCODE\":\"",
+    ",\"UDPSIZE\":", ",\"NSID\":", "\"HEX\":\"01\"", ",\"EDE\":", "\"CODE\":", ",\"TEXT\":",
+    "}}}]", "}}]", "}]}",
+];
+
+fn inner_text() -> String {
+    let options = ",\"NSID\":{\"HEX\":\"01\"},\"EDE\":{\"CODE\":2,\"TEXT\":\"t\"}";
+    Parts {
+        questions: vec![question("q.")],
+        answers: vec![record("r.", "16", "3", "0A")],
+        additional: vec![edns("NoError", options)],
+        ..Parts::empty()
+    }
+    .text()
+}
+
+fn members_moved_beside_z() -> Texts {
+    moved(&with_z(&asking("m.")))
+}
+
+fn cut_beside_z() -> Texts {
+    let text = with_z(&asking("z."));
+    (0..=text.len()).map(|length| text[..length].to_string()).collect()
+}
+
+/// A text with Z changed in small ways from RA to AD.
+fn changed_near_z() -> Texts {
+    let text = with_z(&asking("z."));
+    let mut texts = Vec::new();
+    let start = text.find("\"RA\":").expect("RA is there");
+    let end = text.find(",\"CD\":").expect("CD is there");
+    let signs = ["0", "1", "2", "Z", "z", "\"", ":", ",", " ", "\\", "-", "}"];
+    for place in start..end {
+        let (before, behind) = text.split_at(place);
+        for shift in 0..4 {
+            let sign = signs[(place + 3 * shift) % signs.len()];
+            texts.push(format!("{before}{sign}{}", &behind[1..]));
+            texts.push(format!("{before}{sign}{behind}"));
+        }
+        for count in 1..=6.min(end - place) {
+            // A part left out, and a part doubled.
+            texts.push(format!("{before}{}", &behind[count..]));
+            texts.push(format!("{before}{}{behind}", &behind[..count]));
+        }
+    }
+    texts
+}
+
+fn octets_in_z_name() -> Lines {
+    each_octet(&behind_ra(&asking("z."), ",\"@\":1"), '@')
+}
+
+fn octets_in_z_number() -> Lines {
+    each_octet(&behind_ra(&asking("z."), ",\"Z\":@"), '@')
+}
+
+/// Z set, and the wrong `"Z":0`, beside faults of each number; Z set beside
+/// EDNS elements and ordinary TYPE 41 records, which it leaves as they are.
+fn z_beside_faults_and_edns() -> Texts {
+    let mut texts = Vec::new();
+    for text in order_of_refusals() {
+        texts.push(with_z(&text));
+        texts.push(behind_ra(&text, ",\"Z\":0"));
+    }
+    for length in [4_095, 4_096, 4_097, 65_534, 65_535, 65_536, 65_537] {
+        texts.push(with_z(&padded_to(length)));
+    }
+    for (name, rcode) in generate::RCODES {
+        for header_rcode in [rcode % 16, (rcode + 1) % 16] {
+            let additional = vec![edns(name, ",\"OPT20\":\"40\"")];
+            let parts = Parts { rcode: header_rcode.to_string(), additional, ..Parts::empty() };
+            texts.push(with_z(&parts.text()));
+        }
+    }
+    texts.extend(edns_beside_records().iter().step_by(2).map(|text| with_z(text)));
+    // Faults that are 21: names, layouts, options, ranges.
+    texts.push(with_z(&asking(&("n".repeat(64) + "."))));
+    texts.push(with_z(&answering(&[record(".", "2", "0", "C00C")])));
+    texts.push(with_z(&answering(&[record(".", "1", "2147483648", "")])));
+    texts.push(with_z(&with_options(",\"OPT3\":\"\"")));
+    texts.push(with_z(&with_options(",\"DAU\":[],\"NSID\":{\"HEX\":\"\"}")));
+    // A 20 behind Z: in an array, and behind the text.
+    texts.push(with_z(&asking("n")));
+    texts.push(with_z(&answering(&[record(".", "1", "-0", "")])));
+    texts.push(with_z(&with_options(",\"Z\":1")));
+    texts.push(with_z(&asking("n.")) + " ");
+    // Lines of 65,536 and 65,537 octets.
+    let base = with_z(&asking("@.")).len() - 1;
+    for length in [LINE_TEXT, LINE_TEXT + 1] {
+        texts.push(with_z(&asking(&("z".repeat(length - base) + "."))));
+    }
+    texts
+}
+
+fn random_texts_with_z() -> Lines {
+    let mut random = Random::new(6);
+    let mut texts = Vec::new();
+    while texts.len() < 200 {
+        let text = match texts.len() % 4 {
+            0 => generate::valid_text(&mut random),
+            1 => generate::damaged_text(&mut random),
+            _ => generate::drafted_text(&mut random),
+        };
+        let text = generate::text_about_z(&mut random, text);
+        if text.len() <= 900 {
+            texts.push(text);
+        }
+    }
     texts
 }
 

@@ -4,7 +4,7 @@
 use super::damage::harm;
 use crate::lines::LINE_MESSAGE;
 use crate::random::Random;
-use crate::tables::{layout_of, OPT};
+use crate::tables::{layout_of, OPT, Z_BIT};
 
 const LISTED_TYPES: [u16; 11] = [2, 3, 4, 5, 6, 7, 8, 9, 12, 14, 15];
 const OTHER_TYPES: [u16; 12] = [0, 1, 10, 11, 13, 16, 28, 33, 43, 46, 257, 65_535];
@@ -12,15 +12,27 @@ const OPTION_CODES: [u16; 22] =
     [0, 1, 2, 3, 4, 5, 6, 7, 8, 9, 10, 11, 12, 13, 14, 15, 16, 20, 26_946, 65_001, 65_534, 65_535];
 
 /// A message of at most 4,096 octets: mostly a valid one, else a damaged one.
+/// One in four has Z set, which is decided aside: the others are what the same
+/// seed gave while Z was refused.
 pub fn message(random: &mut Random) -> Vec<u8> {
-    if random.below(5) < 3 {
-        valid_message(random)
+    let z = random.aside().one_in(4);
+    let message = if random.below(5) < 3 { valid_message(random) } else { damaged_message(random) };
+    if z {
+        message_with_z(message)
     } else {
-        damaged_message(random)
+        message
     }
 }
 
-/// A message of at most 4,096 octets that is accepted.
+/// The message with Z set. One that ends before Z stays as it is.
+pub fn message_with_z(mut message: Vec<u8>) -> Vec<u8> {
+    if let Some(octet) = message.get_mut(3) {
+        *octet |= Z_BIT;
+    }
+    message
+}
+
+/// A message of at most 4,096 octets that is accepted, with Z clear.
 pub fn valid_message(random: &mut Random) -> Vec<u8> {
     loop {
         let mut maker = Maker::new(random);
@@ -31,8 +43,8 @@ pub fn valid_message(random: &mut Random) -> Vec<u8> {
     }
 }
 
-/// A message of at most 4,096 octets with one to three harms done to it. Some
-/// of them may still be accepted.
+/// A message of at most 4,096 octets with one to three harms done to it. To
+/// set Z, which harms nothing, is among them, and some others are accepted too.
 pub fn damaged_message(random: &mut Random) -> Vec<u8> {
     let mut octets = valid_message(random);
     for _ in 0..random.between(1, 3) {
@@ -42,7 +54,7 @@ pub fn damaged_message(random: &mut Random) -> Vec<u8> {
     octets
 }
 
-/// A valid message of about `size` octets, for sizes up to 60,000.
+/// A valid message of about `size` octets, for sizes up to 60,000, with Z clear.
 pub fn message_of_size(random: &mut Random, size: usize) -> Vec<u8> {
     let mut maker = Maker::new(random);
     maker.pointers = size <= 20_000;
@@ -53,7 +65,7 @@ pub fn message_of_size(random: &mut Random, size: usize) -> Vec<u8> {
 fn harm_message(octets: &mut Vec<u8>, random: &mut Random) {
     let length = octets.len();
     match random.below(10) {
-        0 if length > 3 => octets[3] |= 0x40,
+        0 if length > 3 => octets[3] |= Z_BIT,
         1 => octets.extend(random.octets(2)),
         2 if length > 11 => {
             let count = &mut octets[*random.pick(&[5, 7, 9, 11])];

@@ -4,5 +4,5 @@ mod damage;
 mod messages;
 mod texts;
 
-pub use messages::{damaged_message, message, message_of_size, valid_message};
-pub use texts::{damaged_text, drafted_text, harmed_text, text, valid_text, RCODES};
+pub use messages::{damaged_message, message, message_of_size, message_with_z, valid_message};
+pub use texts::{damaged_text, drafted_text, harmed_text, text, text_about_z, valid_text, RCODES};

@@ -7,16 +7,89 @@ use crate::lines::{hex_of_octets, LINE_TEXT};
 use crate::random::Random;
 use crate::text_of;
 
-/// A text of at most 65,536 octets, without a newline in it.
+/// A text of at most 65,536 octets, without a newline in it. One in four has
+/// a Z, right or wrong, which is decided aside: the others are what the same
+/// seed gave while no text had a Z.
 pub fn text(random: &mut Random) -> Vec<u8> {
-    match random.below(5) {
+    let mut aside = random.aside();
+    let text = match random.below(5) {
         0 | 1 => valid_text(random),
         2 => damaged_text(random),
         _ => drafted_text(random),
+    };
+    if aside.one_in(4) {
+        text_about_z(&mut aside, text)
+    } else {
+        text
     }
 }
 
-/// The text of a message.
+/// The member of a Z that is set, with the comma before it.
+const Z: &str = ",\"Z\":1";
+
+/// The member behind the one place of Z.
+const BEHIND_Z: &str = ",\"AD\":";
+
+/// The text with Z set: half of the time as the grammar has it, else wrongly
+/// spelled, doubled, in another place, or with a harm done near it.
+pub fn text_about_z(random: &mut Random, text: Vec<u8>) -> Vec<u8> {
+    let wrong = [
+        ",\"Z\":0", ",\"Z\":2", ",\"Z\":10", ",\"Z\":01", ",\"Z\":-1", ",\"Z\":\"1\"",
+        ",\"Z\":1.0", ",\"Z\":", ",\"z\":1", ",\"Z\": 1", ",\"Z\":1,\"Z\":1", ",\"Z\":0,\"Z\":1",
+        ",\"Z\":1,",
+    ];
+    // Members of every object, and what ends one. Z is put before them.
+    let elsewhere = [
+        ",\"QR\":", ",\"Opcode\":", ",\"AA\":", ",\"TC\":", ",\"RD\":", ",\"RA\":", ",\"CD\":",
+        ",\"RCODE\":", ",\"QDCOUNT\":", ",\"ANCOUNT\":", ",\"NSCOUNT\":", ",\"ARCOUNT\":",
+        ",\"questionRRs\":", ",\"answerRRs\":", ",\"authorityRRs\":", ",\"additionalRRs\":",
+        ",\"TYPE\":", ",\"CLASS\":", ",\"TTL\":", ",\"RDATAHEX\":", ",\"FLAGS\":", ",\"UDPSIZE\":",
+        "}",
+    ];
+    let (wrong, elsewhere) = (*random.pick(&wrong), *random.pick(&elsewhere));
+    let mut text = match random.below(8) {
+        0 => put_before(text, BEHIND_Z, wrong),
+        1 => put_before(text, elsewhere, Z),
+        2 => put_before(text_with_z(text), elsewhere, Z),
+        3 => harmed_near_z(random, text_with_z(text)),
+        _ => text_with_z(text),
+    };
+    text.truncate(LINE_TEXT);
+    text
+}
+
+/// The text with Z set. One without the member behind Z stays as it is.
+fn text_with_z(text: Vec<u8>) -> Vec<u8> {
+    put_before(text, BEHIND_Z, Z)
+}
+
+/// Puts something before the first place where a mark stands.
+fn put_before(mut text: Vec<u8>, mark: &str, put: &str) -> Vec<u8> {
+    if let Some(place) = find(&text, mark) {
+        text.splice(place..place, put.bytes());
+    }
+    text
+}
+
+/// Where a mark stands first.
+fn find(text: &[u8], mark: &str) -> Option<usize> {
+    text.windows(mark.len()).position(|part| part == mark.as_bytes())
+}
+
+/// The text with a harm done to Z's member or to the few octets around it.
+fn harmed_near_z(random: &mut Random, mut text: Vec<u8>) -> Vec<u8> {
+    let Some(place) = find(&text, Z) else {
+        return text;
+    };
+    let end = text.len().min(place + Z.len() + BEHIND_Z.len());
+    let around = place.saturating_sub(4)..end;
+    let mut part = text[around.clone()].to_vec();
+    harm(&mut part, random, text_octet);
+    text.splice(around, part);
+    text
+}
+
+/// The text of a message with Z clear.
 pub fn valid_text(random: &mut Random) -> Vec<u8> {
     loop {
         let text = text_of(&valid_message(random)).expect("the message is valid");
@@ -84,8 +157,8 @@ fn any_number(random: &mut Random) -> Vec<u8> {
     random.pick(&edges).as_bytes().to_vec()
 }
 
-/// A text written by the grammar. How often its parts miss the rules differs
-/// from text to text.
+/// A text written by the grammar, without a Z. How often its parts miss the
+/// rules differs from text to text.
 pub fn drafted_text(random: &mut Random) -> Vec<u8> {
     loop {
         let slips = *random.pick(&[0, 200, 100, 50, 20]);
