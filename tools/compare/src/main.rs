@@ -15,6 +15,8 @@ fn check(seed: u64, count: usize) -> Result<(), String> {
     println!("labels of one or two octets: {} agree", worlds::every_label()?);
     println!("RCODEs: {} agree", worlds::every_rcode()?);
     println!("names of RCODEs and their neighbours: {} agree", worlds::every_rcode_name()?);
+    println!("flags of the header: {} agree", worlds::every_flags()?);
+    println!("words in the place of Z: {} agree", worlds::every_z()?);
     println!("random texts: {} agree", checks::random_texts(seed, count)?);
     println!("texts of large messages: {} agree", checks::large_texts(seed, count / 200)?);
     println!("texts padded to the limits: {} agree", checks::padded_texts(seed, count / 20)?);

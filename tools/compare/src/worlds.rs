@@ -1,5 +1,6 @@
 //! Small worlds, every message or text of which is compared: tails over a few octets at every cut, every pointer target
-//! against short messages, every label of one or two octets, every RCODE, and every name of one with its neighbours.
+//! against short messages, every label of one or two octets, every RCODE, every name of one with its neighbours, all
+//! flags of the header, and what may be mistaken for Z.
 
 use crate::checks::{agree, agree_on_text, words};
 use crate::proved;
@@ -137,6 +138,37 @@ pub fn every_rcode_name() -> Result<usize, String> {
                     compare(number % 16, &[before, &[octet], after].concat())?;
                 }
             }
+        }
+    }
+    Ok(compared)
+}
+
+/// All flags of the header, Z among them, in a message without entries: to text and back; and with an octet left over.
+pub fn every_flags() -> Result<usize, String> {
+    let mut compared = 0;
+    for flags in 0..=u16::MAX {
+        let mut message = header(0, 0);
+        message[2..4].copy_from_slice(&flags.to_be_bytes());
+        compared += in_three_rooms(&message)? + 2;
+        agree_on_text(text_of(&message)?.as_bytes(), &LEFTOVERS)?;
+        message.push(0);
+        agree(&message, &LEFTOVERS)?;
+    }
+    Ok(compared)
+}
+
+/// Behind the number of RA, 0 and 1, every word that is no longer than Z's member and made of its octets and 0.
+pub fn every_z() -> Result<usize, String> {
+    let mut compared = 0;
+    for ra in [0, 0x80] {
+        let mut message = header(0, 0);
+        message[3] = ra;
+        let text = text_of(&message)?;
+        let place = text.find(",\"AD\":").ok_or("the text has no AD")?;
+        let (before, after) = text.as_bytes().split_at(place);
+        for word in words(b",\"Z:10", 6) {
+            agree_on_text(&[before, &word, after].concat(), &LEFTOVERS)?;
+            compared += 1;
         }
     }
     Ok(compared)
