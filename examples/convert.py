@@ -12,13 +12,12 @@ import ctypes
 import os
 import sys
 
-FORMAT = 2  # of the texts, numbers and places that this program was written for
+FORMAT = 3  # of the texts, numbers and places that this program was written for
 LONGEST_TEXT = 655750
 LONGEST_MESSAGE = 65535
 REASONS = {
     1: "the message ends too early",
     2: "the message has more than 65,535 octets",
-    3: "the header's Z bit is set",
     4: "a length octet has the top bits 01 or 10",
     5: "a compression pointer goes forward, into the header, or to its own run of labels",
     6: "a name has more than 255 octets uncompressed",

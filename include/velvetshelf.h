@@ -26,11 +26,11 @@ extern "C" {
 #endif
 
 /* The library's version, as a string and as major * 10000 + minor * 100 + patch. */
-#define VELVETSHELF_VERSION "1.1.0"
-#define VELVETSHELF_VERSION_NUMBER 10100
+#define VELVETSHELF_VERSION "1.2.0"
+#define VELVETSHELF_VERSION_NUMBER 10200
 
 /* The format's version. It increases with every change to a text, or to a refusal's number or place. */
-#define VELVETSHELF_FORMAT 2
+#define VELVETSHELF_FORMAT 3
 
 /* What is returned. */
 enum {
@@ -39,7 +39,6 @@ enum {
     /* message to text; E is the offset of the question or record being read, 0 in the header */
     VELVETSHELF_CUT = 1,                /* fewer than 12 octets, or a field, label or RDATA runs past the end; at E */
     VELVETSHELF_MESSAGE_TOO_LONG = 2,   /* message of more than 65,535 octets; at 0 */
-    VELVETSHELF_Z_SET = 3,              /* Z is set; at 0 */
     VELVETSHELF_LENGTH_OCTET = 4,       /* length octet with top bits 01 or 10; at E */
     VELVETSHELF_POINTER = 5,            /* pointer target not allowed; at E */
     VELVETSHELF_NAME_TOO_LONG = 6,      /* name of more than 255 octets; at E */
@@ -54,6 +53,10 @@ enum {
     VELVETSHELF_SIZE = 22,              /* RDATA, an option's value or the message has more than 65,535 octets */
     VELVETSHELF_MESSAGE_BUFFER = 23     /* message longer than the buffer */
 };
+
+/* Withdrawn with format 3: no call returns it, and no later format will use the number. The name is here so that
+   programs which have it can still be compiled. */
+#define VELVETSHELF_Z_SET 3
 
 /* A buffer of LONGEST_TEXT octets has room for the text of every accepted message: it is an upper bound, and no text
    need have that length. A buffer of LONGEST_MESSAGE octets has room for the message of every accepted text. */
@@ -87,8 +90,6 @@ static inline const char *velvetshelf_reason(uint32_t number)
         return "the message ends too early";
     case VELVETSHELF_MESSAGE_TOO_LONG:
         return "the message has more than 65,535 octets";
-    case VELVETSHELF_Z_SET:
-        return "the header's Z bit is set";
     case VELVETSHELF_LENGTH_OCTET:
         return "a length octet has the top bits 01 or 10";
     case VELVETSHELF_POINTER:

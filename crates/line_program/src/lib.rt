@@ -108,7 +108,7 @@ fn answer_argument(name: &[u8], about: &[u8])
         return;
     }
     if is_argument(b"--version") {
-        print_line(b"", name, b" (Velvetshelf) 1.1.0, format 2\n");
+        print_line(b"", name, b" (Velvetshelf) 1.2.0, format 3\n");
         return;
     }
     tell_usage(name);

@@ -65,15 +65,15 @@ pub extern "C" fn velvetshelf_to_wire(text: &[u8], message: &mut [u8], value: &m
 // VELVETSHELF_VERSION_NUMBER of the header: major * 10000 + minor * 100 + patch.
 #[no_mangle]
 pub extern "C" fn velvetshelf_version() -> u32
-    ensures { λ r. ⌜ r ≡ 10100 ⌝ }
+    ensures { λ r. ⌜ r ≡ 10200 ⌝ }
 {
-    10100
+    10200
 }
 
 // VELVETSHELF_FORMAT of the header.
 #[no_mangle]
 pub extern "C" fn velvetshelf_format() -> u32
-    ensures { λ r. ⌜ r ≡ 2 ⌝ }
+    ensures { λ r. ⌜ r ≡ 3 ⌝ }
 {
-    2
+    3
 }
