@@ -2,25 +2,24 @@
 use mathlib.Core.Path.{_≡_, refl, sym, ap, ap₂, _∙_, subst}
 use mathlib.Core.Bool.{Bool, true, false, cond}
 use mathlib.Core.List.{List, [], _∷_, _++_, append-assoc}
-use Prim.Native.Nat.{ℕ, zero, suc, _+_, _*_, _/_, _%_, _≤_, _<_}
+use Prim.Native.Nat.{ℕ, zero, suc, _+_, _≤_, _<_}
 use native.Mathlib.Omega.{arith}
 use borrow.Author.Tests.{le-leb, lt-leb, le-ltb, lt-ltb}
 use lib.Dec.{leb, ltb, eqb}
 use lib.ListN.{length, getD, take}
-use lib.Seq.{take-suc}
 use mir.Syntax.{w8}
 use mir.Val.{Fits}
 use Rattle.octets.specs.Lists.{each, count}
-use Rattle.octets.specs.Fields.{be16, be16At, two-same, empty}
+use Rattle.octets.specs.Fields.{be16At, empty}
 use Rattle.octets.specs.Overlay.{Wrote, overlay-first}
 use Rattle.octets.specs.Answer.{overwritten}
 use Rattle.names.specs.Name.{Fault, refusalNumber}
 use Rattle.names.specs.Answer.{faultOf, faultNumber, number-same}
 use Rattle.names.specs.declared.Fault.{Fault as FaultRead}
-use Rattle.records.specs.Message.{questionForm, recordForm, headerForm, form, opt?}
+use Rattle.records.specs.Message.{questionForm, recordForm, form, opt?}
 use Rattle.records.specs.Read.{Entry, entry, bad, questionAt, recordAt, Reached, reached, stopped, sectionAt}
 use Rattle.records.specs.Read.{sectionFrom}
-use Rattle.records.specs.Decode.{headerOf, sectionsOf, messageRead, Decoded, accepted, refused, decode}
+use Rattle.records.specs.Decode.{sectionsOf, messageRead, Decoded, accepted, refused, decode}
 use Rattle.records.proofs.MessageLaws.{section-step, section-stop}
 use Rattle.records.proofs.Kept.{header-same}
 use Rattle.forms.specs.Putting.{Part, mapped, questionPart, recordPart, partAt, Run, ran, halted, partThen}

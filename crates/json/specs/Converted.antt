@@ -12,7 +12,7 @@ abbrev pub outputOf : Decoded → Output
 outputOf (accepted m) = output (text m)
 outputOf (refused number place) = answer.refused number place
 
--- the profile text of the octets of a message, or the first of the refusals 1 to 9
+-- the profile text of the octets of a message, or the first of the refusals but 10
 unfoldable pub converted : List ℕ → Output
 converted s = outputOf (decode s)
 

@@ -1,6 +1,5 @@
--- What a text in the grammar of docs/FORMAT.md holds: numbers of any size, labels of any length, options in any order and
--- number.
--- Which of these documents can be spelled is said by strict/specs/Grammar.antt.
+-- What a text in the grammar of docs/FORMAT.md holds: numbers of any size, labels of any length, options in any order
+-- and number. Which of these documents can be spelled is said by strict/specs/Grammar.antt.
 use mathlib.Core.List.{List, [], _∷_, _++_}
 use Prim.Native.Nat.{ℕ}
 use Prim.Native.String.{String}
@@ -57,7 +56,7 @@ unfoldable pub itemText : Item → List ℕ
 itemText (ordinary r) = recordText r
 itemText (edns e) = ednsText e
 
--- AD's title by Z: Z has a member, before AD, only where it is set
+-- what is between RA's number and AD's, by Z: a clear Z has no member
 unfoldable pub adTitles : List (ℕ × String)
 adTitles = (0, ",\"AD\":") ∷ (1, ",\"Z\":1,\"AD\":") ∷ []
 

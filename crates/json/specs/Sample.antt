@@ -20,10 +20,10 @@ textAmid rd ra ad rcode qdcount ancount arcount questions answers additional =
     ++ ascii "],\"authorityRRs\":[],\"additionalRRs\":[" ++ ascii additional
     ++ ascii "]}"
 
--- with nothing there
+-- with nothing after these three
 abbrev pub textWith : (rcode qdcount ancount arcount questions answers additional : String) → List ℕ
 textWith = textAmid "" "" ""
 
--- of a message without entries
+-- of a message without entries, with something after these three
 abbrev pub emptyAmid : (rd ra ad : String) → List ℕ
 emptyAmid rd ra ad = textAmid rd ra ad "0" "0" "0" "0" "" "" ""

@@ -16,7 +16,6 @@ use Rattle.octets.specs.Parsed.{Parsed, parsed, failed}
 use Rattle.octets.specs.Calls.{answerOf, Gives}
 use Rattle.octets.specs.declared.Outcome.{Outcome}
 use Rattle.octets.specs.declared.Outcome.the-variants.{Refused}
-use Rattle.names.specs.Name.{refusalNumber}
 use Rattle.records.specs.Message.{Message, form}
 use Rattle.records.specs.Read.{Entry, entry, bad, Reached, reached, stopped, questionAt, recordAt, sectionAt}
 use Rattle.records.specs.Read.{sectionFrom}

@@ -273,6 +273,7 @@ abbrev pub ends? : List ℕ → Bool
 ends? [] = false
 ends? (c ∷ l) = not (digit? c)
 
+-- then no digit comes first, whatever follows
 pub ends-first : (m : List ℕ) → T (ends? m) → (r : List ℕ) → NoDigit (m ++ r)
 ends-first [] h r = absurd h
 ends-first (c ∷ m) h r = h

@@ -199,7 +199,7 @@ module _ {t : List ℕ} {c : Cursor} where
       let d : r .end ≡ s .end = omega (arith, x .end, y .end, o, ap (λ (z : Cursor). z .at) e) in
       λ i. record { cursor = e i; from = b i; end = d i }
 
--- ---- put_octet, put_word, put_long, put_ttl
+-- ---- put_u8, put_u16, put_u32, put_ttl
 pub put-determined : {A : Type 0} {P : A → Type 0} {ok : A → Bool} {wire : A → List ℕ} {fits : Bool}
     {xs b b′ b″ : List ℕ} {c r s : Cursor} → FieldPut P ok wire fits xs c b r b′ → FieldPut P ok wire fits xs c b s b″
     → (r ≡ s) × (b′ ≡ b″)

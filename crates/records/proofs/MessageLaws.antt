@@ -13,7 +13,7 @@ use Rattle.octets.specs.Lists.{all, All, Octets, u16?, each}
 use Rattle.octets.specs.Bits.{both, and-left, and-right, each-holds, all-hold, All-append}
 use Rattle.octets.specs.Fields.{be16, be32, be16At, drop-past, two-back, getD-octet, twoAt-word, two-octets}
 use Rattle.octets.specs.Fields.{four-octets}
-use Rattle.names.specs.Name.{nameForm, Fault, refusalNumber}
+use Rattle.names.specs.Name.{nameForm, Fault}
 use Rattle.names.specs.NameLaws as N
 use Rattle.records.specs.Message.{Header, Question, Record, Message, flagsHigh, flagsLow, questionForm}
 use Rattle.records.specs.Message.{recordForm, headerForm, form, bit?, four-bits?, header?, question?, record?}

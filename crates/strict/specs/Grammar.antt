@@ -67,7 +67,7 @@ abbrev pub ItemIn : Item → Type 0
 ItemIn (ordinary r) = RecordIn r
 ItemIn (edns e) = EdnsIn e
 
--- Z is clear or set, as it is spelled; the header's numbers and the counts are of any size
+-- Z is 0 or 1, the keys of its table; the header's other numbers and the counts are of any size
 abbrev pub DocumentIn : Document → Type 0
 DocumentIn d = T (key? (d .header .z) adTitles)
     × (All QuestionIn (d .questions)

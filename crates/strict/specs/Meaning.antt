@@ -74,9 +74,9 @@ agrees? d = counts? d && all recordItem? (d .answers) && all recordItem? (d .aut
     && all (item? (d .header .rcode)) (d .additional)
 
 -- The meaning, whose absence is refusal 21. Its clauses, by the list of docs/FORMAT.md:
--- a number out of range: header?, word?, octet?, long?, ttl?, value?, member?, and counts over 65,535: section?;
+-- a number out of range: header?, u8?, u16?, u32?, ttl?, value?, member?, and counts over 65,535: section?;
 -- label over 63, name over 255: name?; counts that differ from the arrays: counts?;
--- RDATA that misses its layout or has a pointer in it: fits?;
+-- RDATA that misses its layout or has a pointer in it: rdataFits?;
 -- EDNS rules not met: ednsItem?, edns?, settled?, member?; an EDNS record written as an ordinary one: settled?;
 -- EDNS RCODE modulo 16 not the header's: ednsItem?.
 unfoldable pub meaning : Document → Option View

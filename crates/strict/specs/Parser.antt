@@ -1,14 +1,12 @@
 -- The parser of the grammar: it takes the texts of the documents in the grammar, and no other.
 use mathlib.Core.Path.{_≡_, refl, sym}
 use mathlib.Core.Logic.{_↔_, _⊎_, inl, inr}
-use mathlib.Core.Bool.{Bool, true, false, cond}
 use mathlib.Core.Option.{Option, none, some}
 use mathlib.Core.List.{List, [], _∷_, _++_, append-assoc, nil≢cons, tail-eq-of-cons-eq}
 use Prim.Native.Nat.{ℕ}
 use Prim.Native.String.{String}
-use lib.Dec.{T, eqb}
+use lib.Dec.{T}
 use Rattle.octets.specs.Lists.{ascii, all, All, ended, key?, rowText}
-use Rattle.octets.specs.Bits.{and-left, and-right}
 use Rattle.octets.specs.Parsed.{Parsed, parsed, failed, missed}
 use Rattle.octets.specs.Codec.{Avoids, Any, Codec, fronts, unique, whole, whole-exact, whole-ends, joined, iso, retext}
 use Rattle.octets.specs.Codec.{weaken, reindex, literalAs, many, array, pair-by}
@@ -261,7 +259,10 @@ titles-end = tt
 unfoldable pub head : Codec {A = Head} (λ h. T (key? (h .0 .z) adTitles)) (λ h. headText (bareDocument h)) NoDigit
 unfolding headText
 head = retext (λ h. simp append-assoc) (iso
-    (λ (h, n). (h .id, ((h .qr, (h .opcode, (h .aa, (h .tc, h .rd)))), (((h .ra, h .z), (h .ad, (h .cd, h .rcode))), n))))
+    (λ (h, n). (
+      h .id,
+      ((h .qr, (h .opcode, (h .aa, (h .tc, h .rd)))), (((h .ra, h .z), (h .ad, (h .cd, h .rcode))), n)),
+    ))
     (λ (id, ((qr, (opcode, (aa, (tc, rd)))), (((ra, z), (ad, (cd, rcode))), n))). (
       record {
         id = id;
@@ -284,9 +285,8 @@ head = retext (λ h. simp append-assoc) (iso
     ⊗ (numberThen ",\"Opcode\":" tt number ⊗ numberThen ",\"AA\":" tt number ⊗ numberThen ",\"TC\":" tt number ⊗
     numberThen ",\"RD\":" tt number
     ⊗ numberThen ",\"RA\":" tt number)
-    ⊗ (numberRow adTitles titles-distinct titles-end ⊗ numberThen ",\"CD\":" tt number ⊗ numberThen ",\"RCODE\":" tt number ⊗
-    numberThen ",\"QDCOUNT\":" tt
-    number)
+    ⊗ (numberRow adTitles titles-distinct titles-end ⊗ numberThen ",\"CD\":" tt number
+    ⊗ numberThen ",\"RCODE\":" tt number ⊗ numberThen ",\"QDCOUNT\":" tt number)
     ⊗ numberThen ",\"ANCOUNT\":" tt number ⊗ numberThen ",\"NSCOUNT\":" tt number ⊗ numberThen ",\"ARCOUNT\":" tt number
     ⊗ number))
 

@@ -34,7 +34,7 @@ use Rattle.to_wire.specs.declared.head.Header.{Header}
 abbrev pub Five : Type 0
 Five = ℕ × (ℕ × (ℕ × (ℕ × ℕ)))
 
--- with Z beside RA
+-- RA and Z; AD, CD, RCODE
 abbrev pub Low : Type 0
 Low = (ℕ × ℕ) × (ℕ × (ℕ × ℕ))
 

@@ -6,7 +6,7 @@ use mathlib.Core.List.{List, [], _∷_, _++_, map, append-assoc}
 use Prim.Native.Nat.{ℕ, _+_, _*_}
 use lib.Dec.{T, eqb, eqb→eq}
 use lib.ListN.{length, length-map}
-use Rattle.octets.specs.Lists.{all, All, count, each, u16?, present?}
+use Rattle.octets.specs.Lists.{all, count, each, u16?, present?}
 use Rattle.octets.specs.Bits.{both, and-left, and-right, each-holds, all-hold}
 use Rattle.octets.specs.Fields.{be16}
 use Rattle.records.specs.Message.{Header, bit?, four-bits?, header?, question?, record?, section?, questionForm}

@@ -1,5 +1,5 @@
 -- Answers as C reads them: a number and a value. 0 is success alone, so the number and the value are the whole answer.
-use mathlib.Core.Path.{_≡_, refl, sym, ap, _∙_, subst}
+use mathlib.Core.Path.{_≡_, refl, sym, subst}
 use mathlib.Core.Bool.{Bool, true, false, cond}
 use mathlib.Core.Option.{Option, none, some}
 use mathlib.Core.List.{List}
@@ -10,7 +10,7 @@ use lib.ListN.{length}
 use Rattle.octets.specs.Answer.{Output, output, Answer, success, refusal, Result, overwritten, delivered}
 use Rattle.octets.specs.Answer as answer
 use Rattle.octets.specs.Parsed.{Parsed, parsed, failed}
-use Rattle.octets.specs.Calls.{answerOf, Gives, Call}
+use Rattle.octets.specs.Calls.{answerOf, Gives}
 use Rattle.octets.specs.declared.Outcome.{Outcome}
 use Rattle.octets.specs.declared.Outcome.the-variants.{Length, Refused}
 use Rattle.names.specs.Name.{Kind, cut, reserved, target, long, short, surplus, refusalNumber}

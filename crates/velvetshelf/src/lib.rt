@@ -3,7 +3,6 @@ use octets::Outcome;
 use to_text::convert;
 use to_wire::read;
 ghost use mathlib.Core.Path.{_≡_};
-ghost use Rattle.octets.specs.Calls.{Call};
 ghost use Rattle.json.specs.Converted.{Converts};
 ghost use Rattle.strict.specs.Reading.{Reads};
 ghost use Rattle.velvetshelf.specs.Calls.{cNumber, cValue, outcomeOf};

@@ -1,4 +1,5 @@
--- `parse_tables::ad_title` meets its contract: the octets of the code are computed to be those of the table of AD's titles.
+-- `parse_tables::ad_title` meets its contract: the octets of the code are computed to be those of the table of AD's
+-- titles.
 use mathlib.Core.Path.{refl}
 use borrow.Author.Needs.{needs}
 use Rattle.octets.specs.Lists.{each}

@@ -1,5 +1,5 @@
 use native.Mathlib.Omega.{arith}
--- `parse_tokens::put_word` meets its contract: a number of two octets.
+-- `parse_tokens::put_u16` meets its contract: a number of two octets.
 use mathlib.Core.Path.{refl}
 use borrow.Author.Needs.{needs}
 use Rattle.parse_tokens.specs.Fields.{word-out, word-in}

@@ -1,5 +1,5 @@
 use native.Mathlib.Omega.{arith}
--- `parse_tokens::put_long` meets its contract: a number of four octets.
+-- `parse_tokens::put_u32` meets its contract: a number of four octets.
 use mathlib.Core.Path.{refl}
 use borrow.Author.Needs.{needs}
 use Rattle.parse_tokens.specs.Fields.{long-out, long-in}

@@ -1,5 +1,5 @@
 use native.Mathlib.Omega.{arith}
--- `parse_tokens::put_octet` meets its contract: a number of one octet.
+-- `parse_tokens::put_u8` meets its contract: a number of one octet.
 use borrow.Author.Needs.{needs}
 use Rattle.parse_tokens.specs.Fields.{octet-out, octet-in}
 use Rattle.parse_tokens.proofs.put_u8.Statement.{statement}
