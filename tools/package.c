@@ -4,6 +4,10 @@
 
 #include <stdio.h>
 
+#if VELVETSHELF_Z_SET != 3 /* withdrawn, but programs may have the name */
+#error "VELVETSHELF_Z_SET is not 3"
+#endif
+
 int main(void)
 {
     uint32_t number;
