@@ -5,6 +5,7 @@ use mathlib.Core.Bool.{Bool, true, false, not, _&&_, cond}
 use mathlib.Core.Option.{some}
 use mathlib.Core.List.{List, [], _∷_, map}
 use Prim.Native.Nat.{ℕ, zero, suc, _+_, _-_, _*_, _/_, _%_, _<_}
+use Prim.Native.String.{String}
 use native.Mathlib.Omega.{arith}
 use borrow.Author.Tests.{le-ltb}
 use lib.Dec.{T, ltb, eqb, leb→le, le→leb, ltb→lt, eqb→eq, eqb-refl, nltb→le}
@@ -137,12 +138,11 @@ option-forth o h =
     (ltb→lt (o .code) 65536 (and-left (u16? (o .code)) (all u8? (o .value)) h)) in
     (w .2, w .1, w .0)
 
--- 0 and 1 have a spelling of FLAGS
-bit-flags : (n : ℕ) → n < 2 → T (key? n flags)
-unfolding key? flags
-bit-flags zero h = tt
-bit-flags (suc zero) h = tt
-bit-flags (suc (suc n)) h = absurd (omega arith)
+-- a bit is a key of a table with both
+bit-key : (rows : List (ℕ × String)) → T (key? 0 rows) → T (key? 1 rows) → (n : ℕ) → n < 2 → T (key? n rows)
+bit-key rows h k zero l = h
+bit-key rows h k (suc zero) l = k
+bit-key rows h k (suc (suc n)) l = absurd (omega arith)
 
 -- the parts of a valid EDNS element that the grammar and its members speak of
 edns-parts : (rcode : ℕ) (e : Edns) → T (edns? rcode e)
@@ -162,13 +162,13 @@ edns-parts rcode e h =
 -- a valid EDNS element's members are in the grammar and agree with the header, and are read back
 edns-forth : (rcode : ℕ) → rcode < 16 → (e : Edns) → T (edns? rcode e)
     → EdnsIn (ednsItem rcode e) × T (ednsItem? rcode (ednsItem rcode e)) × (itemEdns (ednsItem rcode e) ≡ e)
-unfolding ednsItem ednsItem? itemEdns
+unfolding ednsItem ednsItem? itemEdns flags key?
 edns-forth rcode k e h =
     let parts = edns-parts rcode e h in
     let w = all-forth memberOf optionOf MemberIn option? member? option-forth (e .options) (parts .2) in
     let low : (e .extended * 16 + rcode) % 16 ≡ rcode = omega arith in
     let high : (e .extended * 16 + rcode) / 16 ≡ e .extended = omega arith in (
-      (tt, (bit-flags (e .dnssecOk) (ltb→lt (e .dnssecOk) 2 (parts .0)), (parts .1, (tt, w .0)))),
+      (tt, (bit-key flags tt tt (e .dnssecOk) (ltb→lt (e .dnssecOk) 2 (parts .0)), (parts .1, (tt, w .0)))),
       both (eqb ((e .extended * 16 + rcode) % 16) rcode) (all member? (map memberOf (e .options)))
           (rw low (eqb-refl rcode)) (w .1),
       λ i. record { size = e .size; extended = high i; dnssecOk = e .dnssecOk; options = w .2 i },
@@ -203,13 +203,6 @@ item-back rcode (doc.ordinary r) i h = ap doc.ordinary (record-back r i h)
 item-back rcode (doc.edns e) i h = ap doc.edns (edns-back rcode e i h)
 
 -- ---- the whole document
--- a bit chooses one of AD's titles
-bit-titled : (n : ℕ) → n < 2 → T (key? n adTitles)
-unfolding adTitles key?
-bit-titled zero h = tt
-bit-titled (suc zero) h = tt
-bit-titled (suc (suc n)) h = absurd (omega arith)
-
 -- the parts of a valid view: the header's fields, and the entries of the sections
 view-parts : (v : View) → T (view? v)
     → Bounds (v .header) × T (all question? (v .questions)) × T (all record? (v .answers))
@@ -251,10 +244,10 @@ items-forth rcode k =
 
 -- a valid view's document is in the grammar
 pub view-in : (v : View) → T (view? v) → DocumentIn (documentOf v)
-unfolding documentOf
+unfolding documentOf adTitles key?
 view-in v h =
     let parts = view-parts v h in (
-      bit-titled (v .header .z) (parts .0 .z),
+      bit-key adTitles tt tt (v .header .z) (parts .0 .z),
       (
         All-map question-in (v .questions) (all→All question? (v .questions) (parts .1)),
         (
