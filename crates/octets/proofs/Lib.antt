@@ -1,3 +1,5 @@
 -- Laws that no definition needs.
 pub mod Arms
 pub mod Writing
+pub mod LookAhead
+pub mod LookAheadDigits

@@ -387,7 +387,7 @@ apart-texts (x ∷ l) (y ∷ m) r s h e = go (eqb x y) refl h (λ h. apart-texts
     go false d h f = fronts (subst (λ b. T (not b)) (sym d) tt) e
 
 -- a key of the rows that a row differs from is not the row's, and its text is apart from the row's
-key-apart : (row : ℕ × String) (rows : List (ℕ × String)) (n : ℕ) → T (all (differs? row) rows) → T (key? n rows)
+pub key-apart : (row : ℕ × String) (rows : List (ℕ × String)) (n : ℕ) → T (all (differs? row) rows) → T (key? n rows)
     → T (not (eqb (row .0) n)) × T (apart? (ascii (row .1)) (rowText n rows))
 unfolding key? rowText
 key-apart row [] n h k = absurd k

@@ -15,6 +15,11 @@ abbrev pub and-then : {A B : Type 0} → Parsed A → (A → List ℕ → Parsed
 and-then (parsed a r) f = f a r
 and-then (failed w) f = failed w
 
+pub then-then : {A B C : Type 0} (o : Parsed A) (f : A → List ℕ → Parsed B) (g : B → List ℕ → Parsed C)
+    → and-then (and-then o f) g ≡ and-then o (λ a r. and-then (f a r) g)
+then-then (parsed a r) f g = refl
+then-then (failed w) f g = refl
+
 -- one parser or another; where both stop, the one that came further says where
 abbrev pub or-else : {A : Type 0} → Parsed A → Parsed A → Parsed A
 or-else (parsed a r) o = parsed a r

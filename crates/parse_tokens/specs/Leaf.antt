@@ -6,12 +6,13 @@ use Prim.Native.Nat.{ℕ, _+_, _≤_}
 use native.Mathlib.Omega.{arith}
 use lib.Dec.{eqb}
 use lib.ListN.{length, drop, length-append, length-drop}
-use Rattle.octets.specs.Parsed.{Parsed, parsed, failed, and-then, strip, strip-sound, strip-back, held, parsed≢failed}
+use Rattle.octets.specs.Parsed.{Parsed, parsed, failed, and-then, then-then, strip, strip-sound, strip-back, held}
+use Rattle.octets.specs.Parsed.{parsed≢failed}
 use Rattle.parse_tokens.specs.declared.Cursor.{Cursor}
 use Rattle.parse_tokens.specs.Cursor.{left-of, Safe, Passed, Advanced, FailedAt, went-keeps, Finds, stopped}
 use Rattle.parse_tokens.specs.Cursor.{taken}
 use Rattle.parse_tokens.specs.Cursor.{reads-parsed, reads-stop, reads-as}
-use Rattle.parse_tokens.specs.Step.{then-then, Found, moves, found-lit, Put, put-from}
+use Rattle.parse_tokens.specs.Step.{Found, moves, found-lit, Put, put-from}
 
 module _ {A : Type 0} {P : A → Type 0} {p : List ℕ → Parsed A} {t : List ℕ} {c r : Cursor} where
   -- it took a value, and came to place n

@@ -9,7 +9,7 @@ use lib.Dec.{T, leb, leb→le}
 use lib.ListN.{length, drop, length-append}
 use Rattle.octets.specs.Lists.{all, each, none?}
 use Rattle.octets.specs.Bits.{is-true, and-left, and-right}
-use Rattle.octets.specs.Parsed.{Parsed, parsed, failed, and-then, strip, parsed≢failed}
+use Rattle.octets.specs.Parsed.{Parsed, parsed, failed, and-then, then-then, strip, parsed≢failed}
 use Rattle.octets.specs.Codec.{Codec, exact}
 use Rattle.octets.specs.Overlay.{Wrote, then, nothing, wrote-before, each-append, each-single}
 use Rattle.parse_tokens.specs.declared.Cursor.{Cursor}
@@ -18,11 +18,6 @@ use Rattle.parse_tokens.specs.Cursor.{reads-at}
 use Rattle.parse_tokens.specs.Cursor.{clash}
 
 -- ---- what is read, whatever is done with it
-pub then-then : {A B C : Type 0} (o : Parsed A) (f : A → List ℕ → Parsed B) (g : B → List ℕ → Parsed C)
-    → and-then (and-then o f) g ≡ and-then o (λ a r. and-then (f a r) g)
-then-then (parsed a r) f g = refl
-then-then (failed w) f g = refl
-
 -- the reader went on from c to r
 pub record Moves (t : List ℕ) (c r : Cursor) : Type 0 where
   pub safe : Safe t r

@@ -6,7 +6,7 @@ use mathlib.Core.List.{List, [], _∷_, _++_, append-assoc, nil≢cons, tail-eq-
 use Prim.Native.Nat.{ℕ}
 use Prim.Native.String.{String}
 use lib.Dec.{T}
-use Rattle.octets.specs.Lists.{ascii, all, All, ended, key?, rowText}
+use Rattle.octets.specs.Lists.{ascii, all, All, ended, listed, key?, rowText}
 use Rattle.octets.specs.Parsed.{Parsed, parsed, failed, missed}
 use Rattle.octets.specs.Codec.{Avoids, Any, Codec, fronts, unique, whole, whole-exact, whole-ends, joined, iso, retext}
 use Rattle.octets.specs.Codec.{weaken, reindex, literalAs, many, array, pair-by}
@@ -14,8 +14,9 @@ use Rattle.octets.specs.Codec.{tableParser, apart?, apart-texts, distinct, row-
 use Rattle.octets.specs.Decimal.{decimal, NoDigit, natural, number, number-avoids, decimal-avoids, ends?, numberThen}
 use Rattle.octets.specs.Decimal.{numberRow}
 use Rattle.octets.specs.Hexadecimal.{hexText, unhex, hexPairs, hex, hexText-avoids}
-use Rattle.records.specs.Message.{Header}
-use Rattle.spelling.specs.Spelling.{plain?, stringText}
+use Rattle.names.specs.Name.{Name}
+use Rattle.records.specs.Message.{Header, Question}
+use Rattle.spelling.specs.Spelling.{plain?, Signed, stringText}
 use Rattle.options.specs.Options.{rows, members, Syntax, hexObject, octetList, expiry, hexList, word, padding, wordList}
 use Rattle.options.specs.Options.{extendedError, unlisted, syntaxOf, Value}
 use Rattle.options.specs.Options.{paddingTail, errorTail, expiryText, valueText, Member, known, other, memberText}
@@ -140,19 +141,28 @@ member = sum (λ u. known (u .0) (u .1)) (λ u. other (u .0) (u .1)) memberKind 
     whole (other n hex) = refl
 
 -- ---- questions and records
+-- a question and a record from their parts, in the order of the text
+abbrev pub questionFrom : Name × (ℕ × ℕ) → Question
+questionFrom (n, (t, c)) = record { name = n; type = t; class = c }
+
+abbrev pub RecordParts : Type 0
+RecordParts = Name × (ℕ × (ℕ × (Signed × List ℕ)))
+
+abbrev pub recordFrom : RecordParts → RecordItem
+recordFrom (n, (t, (c, (l, d)))) = record { name = n; type = t; class = c; ttl = l; rdata = d }
+
 unfoldable pub questionCodec : Codec QuestionIn questionText Any
 unfolding questionText
-questionCodec = retext (λ q. simp append-assoc) (iso (λ q. (q .name, (q .type, q .class)))
-    (λ (n, (t, c)). record { name = n; type = t; class = c }) (λ q h. (h, refl)) (λ q h. (h, refl))
+questionCodec = retext (λ q. simp append-assoc) (iso (λ q. (q .name, (q .type, q .class))) questionFrom
+    (λ q h. (h, refl)) (λ q h. (h, refl))
     ("{\"NAME\":" ▷ name
     ⊗ ",\"TYPE\":" ▷ numberThen ",\"CLASS\":" tt number
     ⊗ numberThen "}" tt number))
 
 unfoldable pub recordCodec : Codec RecordIn recordText Any
 unfolding recordText
-recordCodec = retext (λ r. simp append-assoc) (iso (λ r. (r .name, (r .type, (r .class, (r .ttl, r .rdata)))))
-    (λ (n, (t, (c, (l, d)))). record { name = n; type = t; class = c; ttl = l; rdata = d }) (λ r h. (h, refl))
-    (λ r h. (h, refl))
+recordCodec = retext (λ r. simp append-assoc)
+    (iso (λ r. (r .name, (r .type, (r .class, (r .ttl, r .rdata))))) recordFrom (λ r h. (h, refl)) (λ r h. (h, refl))
     ("{\"NAME\":" ▷ name
     ⊗ ",\"TYPE\":" ▷ numberThen ",\"CLASS\":" tt number
     ⊗ numberThen ",\"TTL\":" tt number
@@ -179,11 +189,18 @@ options-fit (m ∷ o) r = tt
 unfoldable pub optionMembers : Codec (All MemberIn) membersEndText Any
 optionMembers = many (λ a r s h e. fronts tt e) (λ r. tt) (λ b r h. tt) ("," ▷ member) ◁ "}"
 
+-- the element from its parts, in the order of the text
+abbrev pub EdnsParts : Type 0
+EdnsParts = ℕ × (ℕ × (ℕ × (ℕ × List Member)))
+
+abbrev pub ednsFrom : EdnsParts → EdnsItem
+ednsFrom (v, (f, (c, (s, o)))) = record { version = v; flags = f; rcode = c; size = s; options = o }
+
 -- the whole element
 unfoldable pub ednsElement : Codec EdnsIn ednsText Any
 unfolding ednsText
-ednsElement = retext (λ e. simp append-assoc) (iso (λ e. (e .version, (e .flags, (e .rcode, (e .size, e .options)))))
-    (λ (v, (f, (c, (s, o)))). record { version = v; flags = f; rcode = c; size = s; options = o }) (λ e h. (h, refl))
+ednsElement = retext (λ e. simp append-assoc)
+    (iso (λ e. (e .version, (e .flags, (e .rcode, (e .size, e .options))))) ednsFrom (λ e h. (h, refl))
     (λ e h. (h, refl))
     ("{\"EDNS\":{\"Version\":" ▷ numberThen ",\"FLAGS\":" tt number
     ⊗ table flags flags-distinct
@@ -225,23 +242,30 @@ item-avoids (ordinary a) r s h e = fronts tt e
 item-avoids (edns a) r s h e = fronts tt e
 
 -- ---- the document
--- the header and the counts, and a document with nothing else
+-- the header and the counts
 abbrev pub Head : Type 0
 Head = Header × (ℕ × (ℕ × (ℕ × ℕ)))
 
-abbrev pub bareDocument : Head → Document
-bareDocument (h, (qn, (an, (nn, rn)))) =
+-- a document from its head and its four arrays; one without entries
+abbrev pub DocumentParts : Type 0
+DocumentParts = Head × (List Question × (List RecordItem × (List RecordItem × List Item)))
+
+abbrev pub documentFrom : DocumentParts → Document
+documentFrom ((h, (qn, (an, (nn, rn)))), (qs, (ans, (auth, add)))) =
     record {
       header = h;
       qdcount = qn;
       ancount = an;
       nscount = nn;
       arcount = rn;
-      questions = [];
-      answers = [];
-      authority = [];
-      additional = [];
+      questions = qs;
+      answers = ans;
+      authority = auth;
+      additional = add;
     }
+
+abbrev pub bareDocument : Head → Document
+bareDocument h = documentFrom (h, ([], ([], ([], []))))
 
 abbrev pub headOf : Document → Head
 headOf d = (d .header, (d .qdcount, (d .ancount, (d .nscount, d .arcount))))
@@ -255,7 +279,29 @@ pub titles-end : T (all (λ row. ends? (ascii (row .1))) adTitles)
 unfolding adTitles
 titles-end = tt
 
--- the 14 numbers and Z, up to the last digit: ID; the flags of the header's third octet and of its fourth; the counts
+-- the 14 numbers and Z: ID; the flags of the header's third octet and of its fourth; the counts
+abbrev pub HeadParts : Type 0
+HeadParts = ℕ × ((ℕ × (ℕ × (ℕ × (ℕ × ℕ)))) × (((ℕ × ℕ) × (ℕ × (ℕ × ℕ))) × (ℕ × (ℕ × (ℕ × ℕ)))))
+
+abbrev pub headFrom : HeadParts → Head
+headFrom (id, ((qr, (opcode, (aa, (tc, rd)))), (((ra, z), (ad, (cd, rcode))), n))) = (
+  record {
+    id = id;
+    qr = qr;
+    opcode = opcode;
+    aa = aa;
+    tc = tc;
+    rd = rd;
+    ra = ra;
+    z = z;
+    ad = ad;
+    cd = cd;
+    rcode = rcode;
+  },
+  n,
+)
+
+-- the head, up to the last digit
 unfoldable pub head : Codec {A = Head} (λ h. T (key? (h .0 .z) adTitles)) (λ h. headText (bareDocument h)) NoDigit
 unfolding headText
 head = retext (λ h. simp append-assoc) (iso
@@ -263,22 +309,7 @@ head = retext (λ h. simp append-assoc) (iso
       h .id,
       ((h .qr, (h .opcode, (h .aa, (h .tc, h .rd)))), (((h .ra, h .z), (h .ad, (h .cd, h .rcode))), n)),
     ))
-    (λ (id, ((qr, (opcode, (aa, (tc, rd)))), (((ra, z), (ad, (cd, rcode))), n))). (
-      record {
-        id = id;
-        qr = qr;
-        opcode = opcode;
-        aa = aa;
-        tc = tc;
-        rd = rd;
-        ra = ra;
-        z = z;
-        ad = ad;
-        cd = cd;
-        rcode = rcode;
-      },
-      n,
-    ))
+    headFrom
     (λ h i. ((tt, ((tt, (tt, (tt, (tt, tt)))), (((tt, i), (tt, (tt, tt))), (tt, (tt, (tt, tt)))))), refl))
     (λ u i. (i .1 .1 .0 .0 .1, refl))
     ("{\"ID\":" ▷ numberThen ",\"QR\":" tt number
@@ -295,24 +326,19 @@ pub head-same : (d : Document) → headText d ≡ headText (bareDocument (headOf
 unfolding headText
 head-same d = refl
 
--- the head and the four arrays
-unfoldable pub document : Codec DocumentIn documentText Any
+-- its text, part by part
+pub document-parts : (d : Document)
+    → documentText d ≡ headText (bareDocument (headOf d)) ++ ((ascii ",\"questionRRs\":" ++ listed questionText (d .questions))
+    ++ ((ascii ",\"answerRRs\":" ++ listed recordText (d .answers))
+    ++ ((ascii ",\"authorityRRs\":" ++ listed recordText (d .authority))
+    ++ (ascii ",\"additionalRRs\":" ++ (listed itemText (d .additional) ++ ascii "}")))))
 unfolding documentText
-document = retext (λ d. rw (head-same d) (simp append-assoc)) (iso
+document-parts d = rw (head-same d) (simp append-assoc)
+
+unfoldable pub document : Codec DocumentIn documentText Any
+document = retext document-parts (iso
     (λ d. (headOf d, (d .questions, (d .answers, (d .authority, d .additional)))))
-    (λ ((h, (qn, (an, (nn, rn)))), (qs, (ans, (auth, add)))).
-    record {
-      header = h;
-      qdcount = qn;
-      ancount = an;
-      nscount = nn;
-      arcount = rn;
-      questions = qs;
-      answers = ans;
-      authority = auth;
-      additional = add;
-    })
-    (λ d h. (h, refl)) (λ u h. (h, refl))
+    documentFrom (λ d h. (h, refl)) (λ u h. (h, refl))
     (joined head
     (",\"questionRRs\":" ▷ array question-avoids (λ r. tt) (λ r. tt) questionCodec
     ⊗ ",\"answerRRs\":" ▷ array entry-avoids (λ r. tt) (λ r. tt) recordCodec

@@ -89,7 +89,7 @@ spelledAt (c ∷ t) = elim (plain? c) [
 ]
 
 -- an octet among the numbers counts
-coded-among : (lo n x : ℕ) → T (coded? x) → lo ≤ x → x < lo + n → T (coded-from? lo n)
+pub coded-among : (lo n x : ℕ) → T (coded? x) → lo ≤ x → x < lo + n → T (coded-from? lo n)
 unfolding coded-from?
 coded-among lo zero x c h k = absurd (omega arith)
 coded-among lo (suc n) x c h k = go (eqb lo x) refl (λ f. coded-among (suc lo) n x c f (omega arith))
@@ -110,7 +110,7 @@ coded-among lo (suc n) x c h k = go (eqb lo x) refl (λ f. coded-among (suc lo) 
     go false e f = later (coded? lo) _ (f (above (eqb-false lo x e)))
 
 -- a single number is one
-coded-alone : (x : ℕ) → T (coded-from? x 1) → T (coded? x)
+pub coded-alone : (x : ℕ) → T (coded-from? x 1) → T (coded? x)
 unfolding coded-from?
 coded-alone x h = go (coded? x) h
   where
@@ -182,7 +182,7 @@ coded-in : (x : ℕ) → x < 256 → plain? x ≡ false → eqb x 46 ≡ false �
 unfolding coded?
 coded-in x h e f g = rw (is-true (ltb x 256) (lt→ltb x 256 h), e, f, g) tt
 
-coded-out : (x : ℕ) → T (coded? x) → (x < 256) × (spelled x ≡ ascii "\\\\" ++ three-digits x)
+pub coded-out : (x : ℕ) → T (coded? x) → (x < 256) × (spelled x ≡ ascii "\\\\" ++ three-digits x)
 unfolding coded? spelled
 coded-out x h =
     let k = and-right (ltb x 256) _ h in
@@ -215,7 +215,7 @@ plain-in x h =
     (and-left (leb 33 x && leb x 126 && not (eqb x 34) && not (eqb x 46)) _ h)) in
     (leb→le 33 x (and-left (leb 33 x) _ k), leb→le x 126 (and-right (leb 33 x) _ k))
 
-spelled-plain : (x : ℕ) → T (plain? x) → spelled x ≡ x ∷ []
+pub spelled-plain : (x : ℕ) → T (plain? x) → spelled x ≡ x ∷ []
 unfolding spelled
 spelled-plain x h = rw (is-true (plain? x) h)
 
@@ -295,7 +295,7 @@ abbrev rootOr : Name → Unit {0} ⊎ Name
 rootOr [] = inl tt
 rootOr (l ∷ n) = inr (l ∷ n)
 
-abbrev nameFrom : Unit {0} ⊎ Name → Name
+abbrev pub nameFrom : Unit {0} ⊎ Name → Name
 nameFrom (inl u) = []
 nameFrom (inr n) = n
 
@@ -368,7 +368,7 @@ bare-in : (x : ℕ) → T (printable? x) → eqb x 34 ≡ false → eqb x 92 ≡
 unfolding bare?
 bare-in x h e f = rw (is-true (printable? x) h, e, f) tt
 
-bare-out : (x : ℕ) → T (bare? x) → T (printable? x) × (stringOctet x ≡ x ∷ [])
+pub bare-out : (x : ℕ) → T (bare? x) → T (printable? x) × (stringOctet x ≡ x ∷ [])
 unfolding bare? stringOctet
 bare-out x h =
     let k = and-right (printable? x) _ h in (

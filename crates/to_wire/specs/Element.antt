@@ -20,7 +20,7 @@ use Rattle.options.specs.Options.{Member}
 use Rattle.edns.specs.Edns.{rcodes, flags, fullRcode, optionForm, option?, rising?, edns?, ednsRecord, EdnsItem}
 use Rattle.strict.specs.Grammar.{MemberIn, EdnsIn}
 use Rattle.strict.specs.Parser.{flags-distinct, rcodes-distinct, membersEndText, options-fit, optionMembers}
-use Rattle.strict.specs.Parser.{ednsElement}
+use Rattle.strict.specs.Parser.{ednsFrom, ednsElement}
 use Rattle.strict.specs.Members.{optionOf, member?}
 use Rattle.strict.proofs.OptionLaws.{key-holds, option-member}
 use Rattle.strict.specs.Meaning.{itemEdns, ednsItem?}
@@ -36,19 +36,13 @@ use Rattle.to_wire.specs.Options.{options?, OptionsStep}
 use Rattle.to_wire.specs.declared.members.EdnsHead.{EdnsHead}
 
 -- ---- the parser after the title
-abbrev pub EdnsFields : Type 0
-EdnsFields = ℕ × (ℕ × (ℕ × (ℕ × List Member)))
-
-abbrev pub itemOf : EdnsFields → EdnsItem
-itemOf (v, (f, (c, (s, o)))) = record { version = v; flags = f; rcode = c; size = s; options = o }
-
 abbrev pub behindText : EdnsItem → List ℕ
 behindText e = (decimal (e .version) ++ ascii ",\"FLAGS\":")
     ++ (rowText (e .flags) flags ++ ((ascii ",\"RCODE\":\"" ++ (rowText (e .rcode) rcodes ++ ascii "\",\"UDPSIZE\":"))
     ++ (decimal (e .size) ++ membersEndText (e .options))))
 
 unfoldable pub ednsBehind : Codec EdnsIn behindText Any
-ednsBehind = iso (λ e. (e .version, (e .flags, (e .rcode, (e .size, e .options))))) itemOf (λ e h. (h, refl))
+ednsBehind = iso (λ e. (e .version, (e .flags, (e .rcode, (e .size, e .options))))) ednsFrom (λ e h. (h, refl))
     (λ e h. (h, refl))
     (numberThen ",\"FLAGS\":" tt number
     ⊗ table flags flags-distinct
@@ -216,7 +210,7 @@ edns-read rcode {t} {c} {h} {o} {j} {b} {b₁} {b₂} {f} {ok} {e = end} x place
         × ((f .size ≡ capped (e .size)) × Put options? (each (λ m. optionForm (optionOf m))) h b o b₁ (e .options))))
 
     fields : Found (ednsBehind .parse) Q t c o
-    fields = found-map itemOf (λ u k. k)
+    fields = found-map ednsFrom (λ u k. k)
         (found-pair (x .version .found)
         (found-pair (x .row .found)
         (found-pair (x .full .found)

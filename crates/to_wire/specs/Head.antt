@@ -23,7 +23,7 @@ use Rattle.parse_tokens.specs.Fields.{Done, done-then, NumberPut}
 use Rattle.parse_tables.specs.declared.Row.{Row}
 use Rattle.parse_tables.specs.Rows.{RowRead}
 use Rattle.json.specs.Document.{adTitles}
-use Rattle.strict.specs.Parser.{Head, titles-distinct, titles-end, head}
+use Rattle.strict.specs.Parser.{Head, titles-distinct, titles-end, headFrom, head}
 use Rattle.to_wire.specs.Meant.{highMeant?, highOctet, lowMeant?, lowOctet, headMeant?, headOctets}
 use Rattle.to_wire.specs.declared.head.Flags.{Flags}
 use Rattle.to_wire.specs.declared.head.Counts.{Counts}
@@ -266,24 +266,6 @@ HeadRead t c b r b′ =
 
 abbrev pub Numbers : Type 0
 Numbers = ℕ × (Five × (Low × Four))
-
-abbrev pub headFrom : Numbers → Head
-headFrom (id, ((qr, (opcode, (aa, (tc, rd)))), (((ra, z), (ad, (cd, rcode))), n))) = (
-  record {
-    id = id;
-    qr = qr;
-    opcode = opcode;
-    aa = aa;
-    tc = tc;
-    rd = rd;
-    ra = ra;
-    z = z;
-    ad = ad;
-    cd = cd;
-    rcode = rcode;
-  },
-  n,
-)
 
 abbrev pub numbersParse : List ℕ → Parsed Numbers
 numbersParse w = and-then (and-then (strip (ascii "{\"ID\":") w) λ u r. tillParse (ascii ",\"QR\":") r) λ i w.

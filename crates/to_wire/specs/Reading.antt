@@ -14,7 +14,7 @@ use Rattle.octets.specs.Parsed.{Parsed, parsed, failed, and-then, strip}
 use Rattle.octets.specs.Codec.{_▷_, _⊗_, _◁_}
 use Rattle.octets.specs.Decimal.{natural, number, numberThen}
 use Rattle.octets.specs.Hexadecimal.{hex}
-use Rattle.names.specs.Name.{Name, name?, nameForm}
+use Rattle.names.specs.Name.{name?, nameForm}
 use Rattle.records.specs.Layout.{laid, laid?, rdataAt, rdataFits?}
 use Rattle.records.proofs.Pieces.{layout-beyond}
 use Rattle.records.specs.Message.{record?, question?, questionForm, recordForm, opt?}
@@ -23,7 +23,7 @@ use Rattle.edns.specs.Element.{showsEdns, shows-edns}
 use Rattle.json.specs.Document.{RecordItem}
 use Rattle.strict.specs.Grammar.{SignedNumber}
 use Rattle.strict.specs.Spelt.{name, signedNumber}
-use Rattle.strict.specs.Parser.{questionCodec, recordCodec}
+use Rattle.strict.specs.Parser.{questionFrom, RecordParts, recordFrom, questionCodec, recordCodec}
 use Rattle.strict.specs.Meaning.{itemRecord, ttl?, unsigned}
 use Rattle.strict.proofs.MeaningLaws.{unsigned-back}
 use Rattle.parse_tokens.specs.declared.Cursor.{Cursor}
@@ -89,7 +89,7 @@ unfolding questionCodec question? questionForm
 question-read p n x z =
     step-on {ok = λ u. name? (u .0) && (u16? (u .1 .0) && u16? (u .1 .1))} {wire = λ u. nameForm (u .0)
     ++ (be16 (u .1 .0) ++ be16 (u .1 .1))}
-    (λ (n, (t, c)). record { name = n; type = t; class = c })
+    questionFrom
     (λ (n, (t, c)). and-assoc (name? n) (u16? t) (u16? c)) (λ (n, (t, c)). append-assoc (nameForm n) (be16 t) (be16 c))
     (step-pair (step-lit p (found-as n λ a h. h .0))
     (step-pair (step-lit (x .title-type) (step-behind (found-as (x .type) λ a h. h .0) (x .title-class)))
@@ -235,13 +235,7 @@ tail-read {rtype} {rcode} {root} {h} {t} {b} {b₁} {b₂} {c} {r} {v} {s} x y z
             subst T (sym (k .0 .1 .1 .0)) (and-right (c .meaningful) _ (subst T (k .0 .1 .0 .meaningful) e))
 
 -- a record from its owner on
-abbrev Fields : Type 0
-Fields = Name × (ℕ × (ℕ × (Signed × List ℕ)))
-
-abbrev recordFrom : Fields → RecordItem
-recordFrom (n, (t, (c, (l, d)))) = record { name = n; type = t; class = c; ttl = l; rdata = d }
-
-abbrev fieldsParse : List ℕ → Parsed Fields
+abbrev fieldsParse : List ℕ → Parsed RecordParts
 fieldsParse = (name ⊗ ",\"TYPE\":" ▷ numberThen ",\"CLASS\":" tt number ⊗ numberThen ",\"TTL\":" tt number ⊗ numberThen
     ",\"RDATAHEX\":"
     tt signedNumber ⊗ hex ◁ "}") .parse
@@ -277,7 +271,7 @@ abbrev pub RecordRead : ℕ → List ℕ → Cursor → List ℕ → Entry → L
 RecordRead rcode t c b r b′ = Found recordRest (RecordFacts rcode c b r b′) t c (r .cursor)
 
 -- a record in the grammar, judged part by part
-record-judged : (u : Fields) → SignedNumber (u .1 .1 .1 .0) → Octets (u .1 .1 .1 .1)
+record-judged : (u : RecordParts) → SignedNumber (u .1 .1 .1 .0) → Octets (u .1 .1 .1 .1)
     → recordMeant? (recordFrom u) ≡ (name? (u .0)
     && (u16? (u .1 .0) && (u16? (u .1 .1 .0) && (ttl? (u .1 .1 .1 .0) && rdataFits? (u .1 .0) (u .1 .1 .1 .1)))))
 unfolding recordMeant? record? itemRecord
@@ -316,7 +310,7 @@ record-read {rcode} {root} {t} {b} {b₁} {b₂} {b₃} {c} {d} {h} {k} {r} n x 
     (found-as (found-pair n (found-pair (found-lit (x .title-type) (found-behind (x .type) (x .title-class)))
     (found-pair (found-behind (x .class) s) z))) told)
   where
-    wire : (u : Fields) → recordOctets (recordFrom u) ≡ nameForm (u .0)
+    wire : (u : RecordParts) → recordOctets (recordFrom u) ≡ nameForm (u .0)
         ++ (be16 (u .1 .0) ++ (be16 (u .1 .1 .0)
         ++ (be32 (unsigned (u .1 .1 .1 .0)) ++ (be16 (length (u .1 .1 .1 .1)) ++ u .1 .1 .1 .1))))
     wire u = chain (nameForm (u .0)) (be16 (u .1 .0)) (be16 (u .1 .1 .0)) (be32 (unsigned (u .1 .1 .1 .0)))
@@ -325,13 +319,13 @@ record-read {rcode} {root} {t} {b} {b₁} {b₂} {b₃} {c} {d} {h} {k} {r} n x 
         chain : (a b c d e f : List ℕ) → a ++ b ++ c ++ d ++ e ++ f ≡ a ++ (b ++ (c ++ (d ++ (e ++ f))))
         chain a b c d e f = simp append-assoc
 
-    hides : (u : Fields) → none? (u .0) ≡ root → k .value ≡ capped (u .1 .0)
+    hides : (u : RecordParts) → none? (u .0) ≡ root → k .value ≡ capped (u .1 .0)
         → (eqb (k .value) 41 && showsEdns root (unsigned (u .1 .1 .1 .0)) rcode (u .1 .1 .1 .1)) ≡ hides? rcode
         (recordFrom u)
     hides u e d = rw (d, capped-is (u .1 .0) 41 (omega arith), ← e)
         (ap (λ x. eqb (u .1 .0) 41 && x) (shows-edns rcode (itemRecord (recordFrom u))))
 
-    told : (u : Fields) → (Put name? nameForm c b d b₁ (u .0) × (none? (u .0) ≡ eqb (d .at) (c .at + 3)))
+    told : (u : RecordParts) → (Put name? nameForm c b d b₁ (u .0) × (none? (u .0) ≡ eqb (d .at) (c .at + 3)))
         × ((Put u16? be16 (x .d) b₁ (x .e) (x .b₁) (u .1 .0) × (k .value ≡ capped (u .1 .0)))
         × ((Put u16? be16 (x .f) (x .b₁) (k .cursor) b₂ (u .1 .1 .0) × (x .value ≡ capped (u .1 .1 .0)))
         × Tail (k .value) root rcode h b₂ r b₃ (u .1 .1 .1)))
@@ -344,7 +338,7 @@ record-read {rcode} {root} {t} {b} {b₁} {b₂} {b₃} {c} {d} {h} {k} {r} n x 
           (v .0 .1 ∙ sym (three-behind (c .at) (d .at) (n .moves .onward)) ∙ sym e) (v .1 .0 .1);
     }
       where
-        all : Put {A = Fields} (λ u. name? (u .0)
+        all : Put {A = RecordParts} (λ u. name? (u .0)
             && (u16? (u .1 .0) && (u16? (u .1 .1 .0)
             && (ttl? (u .1 .1 .1 .0) && rdataFits? (u .1 .0) (u .1 .1 .1 .1)))))
             (λ u. nameForm (u .0)

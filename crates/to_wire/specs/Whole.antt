@@ -9,14 +9,14 @@ use lib.Dec.{T, eqb, ltb→lt, eqb→eq}
 use lib.ListN.{length, drop}
 use Rattle.octets.specs.Lists.{ascii, all, count, each, u16?}
 use Rattle.octets.specs.Bits.{and-left, and-right}
-use Rattle.octets.specs.Parsed.{Parsed, parsed, and-then, strip}
-use Rattle.records.specs.Message.{Question, header?, question?, questionForm}
-use Rattle.json.specs.Document.{RecordItem, Item, Document}
-use Rattle.strict.specs.Parser.{Head, document}
+use Rattle.octets.specs.Parsed.{Parsed, parsed, and-then, then-then, strip}
+use Rattle.records.specs.Message.{header?, question?, questionForm}
+use Rattle.json.specs.Document.{Item}
+use Rattle.strict.specs.Parser.{DocumentParts, documentFrom, document}
 use Rattle.strict.specs.Meaning.{counts?}
 use Rattle.parse_tokens.specs.declared.Cursor.{Cursor}
 use Rattle.parse_tokens.specs.Cursor.{Passed}
-use Rattle.parse_tokens.specs.Step.{then-then, Found, found-as, found-lit, found-map, found-behind, found-pair}
+use Rattle.parse_tokens.specs.Step.{Found, found-as, found-lit, found-map, found-behind, found-pair}
 use Rattle.parse_tokens.specs.Step.{found-at, Put}
 use Rattle.parse_tokens.specs.Step.{put-then, put-from, put-to, put-as, put-judged, Step, Judged}
 use Rattle.parse_tokens.specs.Leaf.{found-same}
@@ -110,30 +110,13 @@ lone-same n = go (eqb n 1) refl
     go false e = ne-eqb (atMost65536 n) 1 (λ d. eqb-false n 1 e (omega (arith, d)))
 
 -- ---- the whole
-abbrev Parts : Type 0
-Parts = Head × (List Question × (List RecordItem × (List RecordItem × List Item)))
-
-abbrev documentFrom : Parts → Document
-documentFrom ((h, (qn, (an, (nn, rn)))), (qs, (ans, (auth, add)))) =
-    record {
-      header = h;
-      qdcount = qn;
-      ancount = an;
-      nscount = nn;
-      arcount = rn;
-      questions = qs;
-      answers = ans;
-      authority = auth;
-      additional = add;
-    }
-
 -- part by part, with the RCODE that the code has
-abbrev partsMeant? : ℕ → Parts → Bool
+abbrev partsMeant? : ℕ → DocumentParts → Bool
 partsMeant? rcode u =
     headMeant? (u .0) && (all question? (u .1 .0)
     && (all recordMeant? (u .1 .1 .0) && (all recordMeant? (u .1 .1 .1 .0) && all (itemMeant? rcode) (u .1 .1 .1 .1))))
 
-abbrev partsOctets : Parts → List ℕ
+abbrev partsOctets : DocumentParts → List ℕ
 partsOctets u = headOctets (u .0)
     ++ (each questionForm (u .1 .0)
     ++ (each recordOctets (u .1 .1 .0) ++ (each recordOctets (u .1 .1 .1 .0) ++ each itemOctets (u .1 .1 .1 .1))))
@@ -167,7 +150,7 @@ module _ {t b b₁ b₂ b₃ : List ℕ} {h : Header} {x y : TwoSections} {e d :
       nested true false c d = refl
       nested false b c d = refl
 
-      told : (u : Parts) → (Put headMeant? headOctets start b (h .cursor) b₁ (u .0) × Told h (u .0))
+      told : (u : DocumentParts) → (Put headMeant? headOctets start b (h .cursor) b₁ (u .0) × Told h (u .0))
           × (SectionFacts Questions (h .rcode) (h .cursor) b₁ (x .first) (v .between) (u .1 .0)
           × (SectionFacts Records (h .rcode) (x .first .cursor) (v .between) (x .second) b₂ (u .1 .1 .0)
           × (SectionFacts Records (h .rcode) (x .second .cursor) b₂ (y .first) (w .between) (u .1 .1 .1 .0)
@@ -175,7 +158,7 @@ module _ {t b b₁ b₂ b₃ : List ℕ} {h : Header} {x y : TwoSections} {e d :
           → Put documentMeant? documentOctets start b d b₃ (documentFrom u)
       told u k = put-as judged refl (put-judged {ok′ = λ u. partsMeant? (h .rcode) u && f} all-put j refl)
         where
-          all-put : Put {A = Parts} (partsMeant? (h .rcode)) partsOctets start b e b₃ u
+          all-put : Put {A = DocumentParts} (partsMeant? (h .rcode)) partsOctets start b e b₃ u
           all-put = put-as refl refl
               (put-then (k .0 .0) (put-then (k .1 .0 .put)
               (put-then (k .1 .1 .0 .put) (put-then (k .1 .1 .1 .0 .put) (put-to (k .1 .1 .1 .1 .put) (l .keeps))))))
