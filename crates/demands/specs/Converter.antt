@@ -8,12 +8,13 @@ use lib.Dec.{T}
 use lib.ListN.{length, drop}
 use Rattle.octets.specs.Lists.{All}
 use Rattle.octets.specs.Codec.{streams, prefix-free}
-use Rattle.octets.specs.Answer.{Output, output, Answer, success, refusal, reported, delivered-room}
+use Rattle.octets.specs.Answer.{Output, output, success, refusal, reported, delivered-room}
 use Rattle.octets.specs.Answer as answer
 use Rattle.octets.specs.Calls.{Call, writtenBy}
 use Rattle.records.specs.Message.{Message, form, valid?}
 use Rattle.records.specs.Decode.{Decoded, accepted, refused, decode}
 use Rattle.records.proofs.MessageLaws.{decode-valid, decode-form, form-octets, forms-equal}
+use Rattle.records.proofs.Places.{PlacedIn, decode-placed}
 use Rattle.json.specs.Text.{text}
 use Rattle.json.proofs.Bound.{text-short}
 use Rattle.json.specs.Converted.{outputOf, converted, toText, Converts}
@@ -108,6 +109,15 @@ module _ (c : Call) (made : Converts c) where
           × (p ≡ 0))
       backward (inl e) = inl (ap outputOf e)
       backward (inr u) = let (m, a, h, j, q) = u in inr (text m, ap outputOf a, h, j, q)
+
+  pub places : (k p : ℕ) → reply c ≡ refusal k p → p ≤ length (c .input)
+  places k p e = go (declines k p .0 e)
+    where
+      go : (decode (c .input) ≡ refused k p)
+          ⊎ ((m : Message) × (decode (c .input) ≡ accepted m) × (room c < length (text m)) × (k ≡ 10) × (p ≡ 0))
+          → p ≤ length (c .input)
+      go (inl d) = subst (PlacedIn (length (c .input))) d (decode-placed (c .input))
+      go (inr u) = let (m, a, h, j, q) = u in omega arith
 
   pub writes : (m : Message) → decode (c .input) ≡ accepted m → length (text m) ≤ room c → writtenBy c ≡ text m
   unfolding toText converted

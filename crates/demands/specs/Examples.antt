@@ -64,6 +64,16 @@ examples =
     }
     -- pointer C00C as the first question's name: 5 at 12
     ∷ record { message = "000000000001000000000000C00C00010001"; gives = refused 5 12 }
+    -- a label before it: 5 at 14, the pointer
+    ∷ record { message = "0000000000010000000000000161C00C00010001"; gives = refused 5 14 }
+    -- a label past the end: 1 at 12, its length octet
+    ∷ record { message = "0000000000010000000000000361"; gives = refused 1 12 }
+    -- half of CLASS: 1 at 15
+    ∷ record { message = "00000000000100000000000000000100"; gives = refused 1 15 }
+    -- RDATA of NS past the message: 1 at 23; ends inside its layout: 7 at 23; has an octet left over: 11 at 26
+    ∷ record { message = "0000000000000001000000000000020001000000000004016100"; gives = refused 1 23 }
+    ∷ record { message = "00000000000000010000000000000200010000000000020161"; gives = refused 7 23 }
+    ∷ record { message = "000000000000000100000000000002000100000000000401610000"; gives = refused 11 26 }
     -- one additional record 00 0029 04D0 00008000 0004 00090000, header RCODE 0
     ∷ record {
       message = "00000000000000000000000100002904D000008000000400090000";

@@ -14,19 +14,22 @@ pub c-success : (n v k : ℕ) → (answerOf (outcomeOf n v) ≡ success k) ↔ (
 c-success = both.c-success
 
 -- Demand 1. Answer and octets written depend on the input and the buffer's length, not on what the buffer held.
--- A refusal changes no octet of the buffer; on success the octets after the reported length stay.
+-- A refusal changes no octet of the buffer, and its place is at most the input's length; on success the octets after
+-- the reported length stay.
 pub same : (c d : Call) → Both c d → c .input ≡ d .input → room c ≡ room d
     → (reply c ≡ reply d) × (writtenBy c ≡ writtenBy d)
 same = both.same
 
-pub leaves : (c : Call) → Made c → (k p : ℕ) → reply c ≡ refusal k p → c .after ≡ c .before
+pub leaves : (c : Call) → Made c → (k p : ℕ) → reply c ≡ refusal k p → (c .after ≡ c .before) × (p ≤ length (c .input))
 leaves = both.leaves
 
 pub stays : (c : Call) → Made c → drop (reported (reply c)) (c .after) ≡ drop (reported (reply c)) (c .before)
 stays = both.stays
 
 -- Demand 2. Success exactly for an accepted message, given room: its text is written and its length reported. A refusal
--- exactly when `decode` says so, with its place; 10 exactly without room. VELVETSHELF_LONGEST_TEXT octets are enough.
+-- exactly when `decode` says so; 10 exactly without room. VELVETSHELF_LONGEST_TEXT octets are enough. The place of 1,
+-- 4, 5 and 6 is the octet at fault: the length octet, the pointer's first octet, the first octet of the field that
+-- doesn't fit (`Fault`, `walk`, `recordAt`); that of 7 is RDATA's first octet, of 11 and 8 the first octet left over.
 module _ (c : Call) (made : Converts c) where
   pub text-success : (n : ℕ) → (reply c ≡ success n) ↔ ((m : Message) × Accepts c m × Length c n (text m))
   text-success = converter.accepts c made
@@ -42,8 +45,9 @@ module _ (c : Call) (made : Converts c) where
   text-room = converter.room-enough c made
 
 -- Demand 2. Success exactly for the text of a message that is accepted, given room: its uncompressed form is written.
--- 20 exactly if no document of the grammar has this text; 21 if one has, but no message, even one without limits of
--- size; 22 if a message over a limit has it; 23 without room. Nothing else. VELVETSHELF_LONGEST_MESSAGE octets suffice.
+-- 20 exactly if no document of the grammar has this text, at the length of the longest beginning of the input that
+-- also begins such a document's text. 21 if one has it, but no message, even one without limits of size; 22 if a
+-- message over a limit has it; 23 without room. Nothing else. VELVETSHELF_LONGEST_MESSAGE octets suffice.
 module _ (c : Call) (made : Reads c) where
   pub wire-success : (n : ℕ) → (reply c ≡ success n) ↔ ((m : Message) × Spells c m × Length c n (form m))
   wire-success = reader.accepts c made
@@ -51,22 +55,19 @@ module _ (c : Call) (made : Reads c) where
   pub wire-written : (m : Message) → Spells c m → length (form m) ≤ room c → writtenBy c ≡ form m
   wire-written = reader.writes c made
 
-  pub wire-20 : (p : ℕ) → (reply c ≡ refusal 20 p) ↔ ((InGrammar (c .input) → ⊥) × (p ≡ 0))
+  pub wire-20 : (p : ℕ) → (reply c ≡ refusal 20 p) ↔ ((InGrammar (c .input) → ⊥) × LongestBeginning (c .input) p)
   wire-20 = reader.grammar c made
 
-  pub wire-21 : (p : ℕ)
-      → (reply c ≡ refusal 21 p) ↔ (InGrammar (c .input) × ((v : View) → HasText (c .input) v → ⊥) × (p ≡ 0))
+  pub wire-21 : (p : ℕ) → (reply c ≡ refusal 21 p) ↔ (InGrammar (c .input) × NoMessage (c .input) × (p ≡ 0))
   wire-21 = reader.no-message c made
 
-  pub wire-22 : (p : ℕ)
-      → (reply c ≡ refusal 22 p) ↔ ((v : View) × HasText (c .input) v × (within? v ≡ false) × (p ≡ 0))
+  pub wire-22 : (p : ℕ) → (reply c ≡ refusal 22 p) ↔ ((v : View) × HasText (c .input) v × (within? v ≡ false) × (p ≡ 0))
   wire-22 = reader.limits c made
 
-  pub wire-23 : (p : ℕ)
-      → (reply c ≡ refusal 23 p) ↔ ((m : Message) × Spells c m × (room c < length (form m)) × (p ≡ 0))
+  pub wire-23 : (p : ℕ) → (reply c ≡ refusal 23 p) ↔ ((m : Message) × Spells c m × (room c < length (form m)) × (p ≡ 0))
   wire-23 = reader.no-room c made
 
-  pub wire-numbers : (k p : ℕ) → reply c ≡ refusal k p → (20 ≤ k) × (k ≤ 23) × (p ≡ 0)
+  pub wire-numbers : (k p : ℕ) → reply c ≡ refusal k p → (20 ≤ k) × (k ≤ 23)
   wire-numbers = reader.numbers c made
 
   pub wire-room : 65535 ≤ room c → (p : ℕ) → reply c ≡ refusal 23 p → ⊥

@@ -5,9 +5,11 @@ use mathlib.Core.Logic.{_↔_, _⊎_, inl, inr}
 use mathlib.Core.Bool.{Bool, true, false, false≢true}
 use mathlib.Core.Option.{Option, none, some, Option·none-ne-some}
 use mathlib.Core.List.{List, [], _∷_, nil≢cons}
-use Prim.Native.Nat.{ℕ, _≤_, _<_}
+use Prim.Native.Nat.{ℕ, _+_, _-_, _≤_, _<_}
 use native.Mathlib.Omega.{arith}
-use lib.ListN.{length, drop}
+use lib.ListN.{length, take, drop, length-append, take-append-drop}
+use lib.Seq.{take-append-seam, length-take-le}
+use Rattle.octets.proofs.LookAhead.{Viable}
 use Rattle.octets.specs.Parsed.{Parsed, parsed, failed, parsed≢failed}
 use Rattle.octets.specs.Answer.{Output, output, refused, success, refusal, reported, delivered-room}
 use Rattle.octets.specs.Calls.{Call, writtenBy}
@@ -16,15 +18,18 @@ use Rattle.records.specs.Decode.{accepted, decode}
 use Rattle.records.proofs.MessageLaws.{decode-form}
 use Rattle.json.specs.View.{View, messageOf}
 use Rattle.json.specs.Limits.{within?}
-use Rattle.json.specs.Document.{Document}
+use Rattle.json.specs.Document.{Document, documentText}
 use Rattle.json.specs.Text.{text, documentOf}
 use Rattle.json.specs.Converted.{Converts}
+use Rattle.strict.specs.Grammar.{DocumentIn}
 use Rattle.strict.specs.Meaning.{meaning}
 use Rattle.strict.proofs.MeaningLaws.{view-in}
 use Rattle.strict.specs.Parser.{parse, parse-exact, parse-ends}
 use Rattle.strict.specs.Reading.{ofView, ofMeaning, ofParsed, reading, toWire, Reads}
-use Rattle.strict.proofs.ReadingLaws.{Means, means-text, means-one, reads-text, read-only}
-use Rattle.demands.specs.FrontPage.Words.{reply, room, Length, Accepted, Spells, InGrammar, HasText}
+use Rattle.strict.proofs.Longest.{parse-stops}
+use Rattle.strict.proofs.ReadingLaws.{means-text, means-one, reads-text, read-only}
+use Rattle.demands.specs.FrontPage.Words.{reply, room, Length, Accepted, Spells, InGrammar, Begins}
+use Rattle.demands.specs.FrontPage.Words.{LongestBeginning, HasText, NoMessage}
 use Rattle.demands.specs.Delivered.{call-succeeds, call-refuses, call-leaves, call-stays, calls-same}
 use Rattle.demands.specs.Converter as converter
 
@@ -36,10 +41,34 @@ same c d p q e n = calls-same 23 (reading (d .input)) c (rw e at p) d q n
 
 -- ---- what is read, by the grammar and by the messages, not by the parser
 pub data Ruling (t : List ℕ) : Output → Type 0 where
-  ungrammatical : (InGrammar t → ⊥) → Ruling t (refused 20 0)
-  meaningless : InGrammar t → ((v : View) → HasText t v → ⊥) → Ruling t (refused 21 0)
+  ungrammatical : {p : ℕ} → (InGrammar t → ⊥) → LongestBeginning t p → Ruling t (refused 20 p)
+  meaningless : InGrammar t → NoMessage t → Ruling t (refused 21 0)
   large : (v : View) → HasText t v → within? v ≡ false → Ruling t (refused 22 0)
   read : (v : View) → HasText t v → within? v ≡ true → Ruling t (output (form (messageOf v)))
+
+-- where the parser stops, in the words of the front page
+viable-begins : {u : List ℕ} → Viable DocumentIn documentText u → Begins u
+viable-begins v = (v .value, v .in-range, v .rest, v .same)
+
+begins-viable : {u : List ℕ} → Begins u → Viable DocumentIn documentText u
+begins-viable (d, i, r, e) = record { value = d; in-range = i; rest = r; same = e }
+
+stops-longest : (t w : List ℕ) → parse t ≡ failed w → LongestBeginning t (length t - length w)
+stops-longest t w e =
+    let l = parse-stops t w e in
+    let size : length (l .past) + length w ≡ length t = sym (length-append (l .past) w) ∙ ap length (l .whole) in
+    let place : length t - length w ≡ length (l .past) = omega arith in
+    let first : take (length (l .past)) t ≡ l .past =
+    ap (take (length (l .past))) (sym (l .whole)) ∙ take-append-seam (l .past) w in
+    rw place (
+      omega arith,
+      rw first (viable-begins (l .viable)),
+      λ n h b. rw (length-take-le n t h) at (l .longest (take n t) (drop n t) (take-append-drop n t) (begins-viable b)),
+    )
+
+-- there is one such place
+longest-one : {t : List ℕ} {p q : ℕ} → LongestBeginning t p → LongestBeginning t q → p ≡ q
+longest-one {t} {p} {q} (h, b, f) (k, d, g) = omega (arith, f q k d, g p h b)
 
 pub ruling : (t : List ℕ) → Ruling t (reading t)
 unfolding reading
@@ -59,8 +88,10 @@ ruling t = go (parse t) refl
         Option·none-ne-some v (sym e ∙ ap meaning (taken (sym p ∙ m .parses)) ∙ m .means)
     means d p (some v) e = sizes d v p e (within? v) refl
 
-    go : (o : Parsed Document) → parse t ≡ o → Ruling t (ofParsed o)
-    go (failed w) e = ungrammatical λ h. let (d, i, s) = h in parsed≢failed (sym (parse-exact t d .1 (i, s)) ∙ e)
+    go : (o : Parsed Document) → parse t ≡ o → Ruling t (ofParsed t o)
+    go (failed w) e =
+        ungrammatical (λ h. let (d, i, s) = h in parsed≢failed (sym (parse-exact t d .1 (i, s)) ∙ e))
+        (stops-longest t w e)
     go (parsed d []) e = means d e (meaning d) refl
     go (parsed d (x ∷ r)) e = absurd (nil≢cons (sym (parse-ends t d (x ∷ r) e)))
 
@@ -88,17 +119,19 @@ no : {X : Type 0} {o : Output} {k p : ℕ} → (numberIn o ≡ k → ⊥) → o 
 unfolding numberIn
 no n e = absurd (n (ap numberIn e))
 
-at-20 : {t : List ℕ} {o : Output} (p : ℕ) → Ruling t o → (o ≡ refused 20 p) ↔ ((InGrammar t → ⊥) × (p ≡ 0))
+at-20 : {t : List ℕ} {o : Output} (p : ℕ) → Ruling t o
+    → (o ≡ refused 20 p) ↔ ((InGrammar t → ⊥) × LongestBeginning t p)
 unfolding numberIn placeIn
-at-20 p (ungrammatical g) = (λ e. (g, sym (ap placeIn e)), λ h. rw (h .1))
+at-20 {t} p (ungrammatical g l) =
+    (λ e. (g, subst (LongestBeginning t) (ap placeIn e) l), λ h. ap (refused 20) (longest-one l (h .1)))
 at-20 p (meaningless g f) = (no (λ e. omega arith), λ h. absurd (h .0 g))
 at-20 {t} p (large v h w) = (no (λ e. omega arith), λ k. absurd (k .0 (has-grammar t v h)))
 at-20 {t} p (read v h w) = (no (λ e. omega arith), λ k. absurd (k .0 (has-grammar t v h)))
 
 at-21 : {t : List ℕ} {o : Output} (p : ℕ) → Ruling t o
-    → (o ≡ refused 21 p) ↔ (InGrammar t × ((v : View) → HasText t v → ⊥) × (p ≡ 0))
+    → (o ≡ refused 21 p) ↔ (InGrammar t × NoMessage t × (p ≡ 0))
 unfolding numberIn placeIn
-at-21 p (ungrammatical g) = (no (λ e. omega arith), λ h. let (i, f, q) = h in absurd (g i))
+at-21 p (ungrammatical g l) = (no (λ e. omega arith), λ h. let (i, f, q) = h in absurd (g i))
 at-21 p (meaningless g f) = (λ e. (g, f, sym (ap placeIn e)), λ h. let (i, j, q) = h in rw q)
 at-21 p (large v h w) = (no (λ e. omega arith), λ k. let (i, f, q) = k in absurd (f v h))
 at-21 p (read v h w) = (no (λ e. omega arith), λ k. let (i, f, q) = k in absurd (f v h))
@@ -106,18 +139,18 @@ at-21 p (read v h w) = (no (λ e. omega arith), λ k. let (i, f, q) = k in absur
 at-22 : {t : List ℕ} {o : Output} (p : ℕ) → Ruling t o
     → (o ≡ refused 22 p) ↔ ((v : View) × HasText t v × (within? v ≡ false) × (p ≡ 0))
 unfolding numberIn placeIn
-at-22 {t} p (ungrammatical g) = (no (λ e. omega arith), λ h. let (v, k, w, q) = h in absurd (g (has-grammar t v k)))
+at-22 {t} p (ungrammatical g l) = (no (λ e. omega arith), λ h. let (v, k, w, q) = h in absurd (g (has-grammar t v k)))
 at-22 p (meaningless g f) = (no (λ e. omega arith), λ h. let (v, k, w, q) = h in absurd (f v k))
 at-22 p (large v h w) = (λ e. (v, h, w, sym (ap placeIn e)), λ u. let (x, k, y, q) = u in rw q)
 at-22 {t} p (read v h w) =
     (no (λ e. omega arith), λ u. let (x, k, y, q) = u in absurd (false≢true (sym y ∙ has-one t x v k h ∙ w)))
 
 -- there is no other refusal
-others : {t : List ℕ} {o : Output} {k p : ℕ} → Ruling t o → o ≡ refused k p → (20 ≤ k) × (k ≤ 22) × (p ≡ 0)
+others : {t : List ℕ} {o : Output} {k p : ℕ} → Ruling t o → o ≡ refused k p → (20 ≤ k) × (k ≤ 22) × (p ≤ length t)
 unfolding numberIn placeIn
-others (ungrammatical g) e = let k = ap numberIn e in (omega arith, omega arith, sym (ap placeIn e))
-others (meaningless g f) e = let k = ap numberIn e in (omega arith, omega arith, sym (ap placeIn e))
-others (large v h w) e = let k = ap numberIn e in (omega arith, omega arith, sym (ap placeIn e))
+others (ungrammatical g l) e = let k = ap numberIn e in (omega arith, omega arith, omega (arith, ap placeIn e, l .0))
+others (meaningless g f) e = let k = ap numberIn e in (omega arith, omega arith, omega (arith, ap placeIn e))
+others (large v h w) e = let k = ap numberIn e in (omega arith, omega arith, omega (arith, ap placeIn e))
 others (read v h w) e = absurd (subst Written e tt)
   where
     Written : Output → Type 0
@@ -176,11 +209,10 @@ module _ (c : Call) (made : Reads c) where
   writes m (a, e) k = rw (made .answers, made .leaves, ← e, reads-text m (converter.accepted-whole m a))
       (delivered-room 23 (form m) (c .before) k .1)
 
-  pub grammar : (p : ℕ) → (reply c ≡ refusal 20 p) ↔ ((InGrammar (c .input) → ⊥) × (p ≡ 0))
+  pub grammar : (p : ℕ) → (reply c ≡ refusal 20 p) ↔ ((InGrammar (c .input) → ⊥) × LongestBeginning (c .input) p)
   grammar p = both (due 20 (omega arith) p) (at-20 p (ruling (c .input)))
 
-  pub no-message : (p : ℕ)
-      → (reply c ≡ refusal 21 p) ↔ (InGrammar (c .input) × ((v : View) → HasText (c .input) v → ⊥) × (p ≡ 0))
+  pub no-message : (p : ℕ) → (reply c ≡ refusal 21 p) ↔ (InGrammar (c .input) × NoMessage (c .input) × (p ≡ 0))
   no-message p = both (due 21 (omega arith) p) (at-21 p (ruling (c .input)))
 
   pub limits : (p : ℕ) → (reply c ≡ refusal 22 p) ↔ ((v : View) × HasText (c .input) v × (within? v ≡ false) × (p ≡ 0))
@@ -205,16 +237,22 @@ module _ (c : Call) (made : Reads c) where
           call-refuses 23 (reading (c .input)) c made 23 p .1
           (inr (form m, ap reading (sym e) ∙ reads-text m (converter.accepted-whole m a), h, refl, q))
 
-  -- there is no other answer
-  pub numbers : (k p : ℕ) → reply c ≡ refusal k p → (20 ≤ k) × (k ≤ 23) × (p ≡ 0)
+  -- there is no other answer, and no place after the input's end
+  declined : (k p : ℕ) → reply c ≡ refusal k p → (20 ≤ k) × (k ≤ 23) × (p ≤ length (c .input))
   unfolding toWire
-  numbers k p e = go (call-refuses 23 (reading (c .input)) c made k p .0 e)
+  declined k p e = go (call-refuses 23 (reading (c .input)) c made k p .0 e)
     where
       go : (reading (c .input) ≡ refused k p)
           ⊎ ((l : List ℕ) × (reading (c .input) ≡ output l) × (room c < length l) × (k ≡ 23) × (p ≡ 0))
-          → (20 ≤ k) × (k ≤ 23) × (p ≡ 0)
+          → (20 ≤ k) × (k ≤ 23) × (p ≤ length (c .input))
       go (inl e) = let (a, b, q) = others (ruling (c .input)) e in (a, omega arith, q)
-      go (inr u) = let (l, o, h, j, q) = u in (omega arith, omega arith, q)
+      go (inr u) = let (l, o, h, j, q) = u in (omega arith, omega arith, omega arith)
+
+  pub numbers : (k p : ℕ) → reply c ≡ refusal k p → (20 ≤ k) × (k ≤ 23)
+  numbers k p e = let (a, b, q) = declined k p e in (a, b)
+
+  pub places : (k p : ℕ) → reply c ≡ refusal k p → p ≤ length (c .input)
+  places k p e = let (a, b, q) = declined k p e in q
 
 -- ---- a buffer of 65,535 octets holds every message
 pub room-enough : (c : Call) → Reads c → 65535 ≤ room c → (p : ℕ) → reply c ≡ refusal 23 p → ⊥

@@ -14,7 +14,7 @@ use Rattle.octets.specs.Fields.{be16At, empty}
 use Rattle.octets.specs.Overlay.{Wrote, overlay-first}
 use Rattle.octets.specs.Answer.{overwritten}
 use Rattle.names.specs.Name.{Fault, refusalNumber}
-use Rattle.names.specs.Answer.{faultOf, faultNumber, number-same}
+use Rattle.names.specs.Answer.{faultOf, faultNumber, octetOf, number-same, octet-same}
 use Rattle.names.specs.declared.Fault.{Fault as FaultRead}
 use Rattle.records.specs.Message.{questionForm, recordForm, form, opt?}
 use Rattle.records.specs.Read.{Entry, entry, bad, questionAt, recordAt, Reached, reached, stopped, sectionAt}
@@ -173,7 +173,7 @@ module _ (s : List ℕ) (small : length s ≤ 65535) (room : 12 ≤ length s) wh
   decode-reached i e = rw (le-ltb 65535 (length s) small, le-ltb (length s) 12 room, e, decode)
 
   decode-stopped : (i : ℕ) (fault : Fault) → sectionsOf s .additional .end ≡ stopped i fault
-      → decode s ≡ refused (refusalNumber (fault .kind)) i
+      → decode s ≡ refused (refusalNumber (fault .kind)) (fault .octet)
   unfolding decode
   decode-stopped i fault e =
       rw (le-ltb 65535 (length s) small, le-ltb (length s) 12 room, e, decode)
@@ -192,15 +192,16 @@ module _ (s : List ℕ) (small : length s ≤ 65535) (room : 12 ≤ length s) wh
 
   -- reading met a fault
   decode-halted : (i : ℕ) (fault : Fault) → messageRun s ≡ halted i fault
-      → decode s ≡ refused (refusalNumber (fault .kind)) i
+      → decode s ≡ refused (refusalNumber (fault .kind)) (fault .octet)
   decode-halted i fault e = go (sectionsOf s .additional .end) refl
     where
-      go : (w : Reached) → sectionsOf s .additional .end ≡ w → decode s ≡ refused (refusalNumber (fault .kind)) i
+      go : (w : Reached) → sectionsOf s .additional .end ≡ w
+          → decode s ≡ refused (refusalNumber (fault .kind)) (fault .octet)
       go (reached j) q = absurd (halted≢ran (sym e ∙ run-reached j q))
       go (stopped j other) q =
           let same : halted i fault ≡ halted j other = sym e ∙ run-stopped j other q in
-          decode-stopped j other q ∙ ap₂ (λ (f : Fault) (k : ℕ). refused (refusalNumber (f .kind)) k)
-          (sym (ap (faultIn fault) same)) (sym (ap offsetOf same))
+          decode-stopped j other q
+          ∙ ap (λ (f : Fault). refused (refusalNumber (f .kind)) (f .octet)) (sym (ap (faultIn fault) same))
 
   -- all entries were read
   pub record Whole (l : List ℕ) (i n : ℕ) : Type 0 where
@@ -287,12 +288,13 @@ module _ (s b e : List ℕ) {x : SectionEnd} (f : FirstRun s e x) where
   same-buffer = ap (λ (y : List ℕ). y ++ b) (empty e (f .none))
 
   -- an entry has a fault
-  pub at-fault : {at k : ℕ} {g : FaultRead} {r : Scan} → x ≡ sectionEnd.Stopped at g → k ≡ faultNumber g
-      → r ≡ scanOf (refused k at) → Uncompressed s b r (e ++ b)
-  at-fault {at} {k} q i p =
+  pub at-fault : {at k p : ℕ} {g : FaultRead} {r : Scan} → x ≡ sectionEnd.Stopped at g → k ≡ faultNumber g
+      → p ≡ octetOf g → r ≡ scanOf (refused k p) → Uncompressed s b r (e ++ b)
+  at-fault {at} q i j p =
       let (fault, u, v) = told-halted (rw q at (f .ran)) in
-      refusing (refusalNumber (fault .kind)) at (decode-halted s (f .small) (f .room) at fault u)
-      (p ∙ ap (λ (n : ℕ). scanOf (refused n at)) (i ∙ ap faultNumber v ∙ number-same (fault .kind) (fault .octet)))
+      refusing (refusalNumber (fault .kind)) (fault .octet) (decode-halted s (f .small) (f .room) at fault u)
+      (p ∙ ap₂ (λ (n o : ℕ). scanOf (refused n o)) (i ∙ ap faultNumber v ∙ number-same (fault .kind) (fault .octet))
+      (j ∙ ap octetOf v ∙ octet-same (fault .kind) (fault .octet)))
       same-buffer
 
   module _ {at size m : ℕ} (q : x ≡ sectionEnd.To at size m) where

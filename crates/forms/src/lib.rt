@@ -20,7 +20,7 @@ ghost use mathlib.Core.List.{_++_};
 ghost use lib.ListN.{length};
 ghost use Rattle.octets.specs.Fields.{be16};
 ghost use Rattle.octets.specs.Overlay.{Wrote};
-ghost use Rattle.names.specs.Answer.{faultNumber};
+ghost use Rattle.names.specs.Answer.{faultNumber, octetOf};
 ghost use Rattle.records.specs.Decode.{refused};
 ghost use Rattle.forms.specs.Putting.{partAt, PutsSized, SizedTo, fieldsPart, WritesEntry, EntryBound, optCount};
 ghost use Rattle.forms.specs.Putting.{sectionRun, WritesSection, SectionBound, messageRun};
@@ -222,7 +222,21 @@ fn number_of(fault: Fault) -> u32
         Fault::Target(_) => 5,
         Fault::Long(_) => 6,
         Fault::Short(_) => 7,
-        Fault::Surplus(_) => 7,
+        Fault::Surplus(_) => 11,
+    }
+}
+
+// The offset of the octet at fault.
+fn octet_of(fault: Fault) -> usize
+    ensures { λ r. ⌜ r ≡ octetOf fault ⌝ }
+{
+    match fault {
+        Fault::Cut(octet) => octet,
+        Fault::Reserved(octet) => octet,
+        Fault::Target(octet) => octet,
+        Fault::Long(octet) => octet,
+        Fault::Short(octet) => octet,
+        Fault::Surplus(octet) => octet,
     }
 }
 
@@ -239,7 +253,7 @@ pub fn uncompress(s: &[u8], out: &mut [u8]) -> Scan
         return refuse(1, 0);
     }
     match put_message(s, &mut out[..0]) {
-        SectionEnd::Stopped(at, fault) => refuse(number_of(fault), at),
+        SectionEnd::Stopped(_, fault) => refuse(number_of(fault), octet_of(fault)),
         SectionEnd::To(at, size, opts) => {
             if at < s.len() {
                 return refuse(8, at);

@@ -1,6 +1,6 @@
 -- The steps of reading a line of digits, and what follows of what `unhex` promises.
-use mathlib.Core.Path.{_≡_, refl, sym, ap, _∙_, subst}
-use mathlib.Core.Bool.{Bool, true, false, false≢true}
+use mathlib.Core.Path.{_≡_, refl, sym, ap, _∙_}
+use mathlib.Core.Bool.{true, false, false≢true}
 use mathlib.Core.Option.{Option, none, some}
 use mathlib.Core.List.{List, [], _∷_}
 use Prim.Native.Nat.{ℕ, suc, _+_, _-_, _*_, _≤_, _<_}
@@ -11,7 +11,6 @@ use lib.Dec.{eqb}
 use lib.ListN.{length, getD, take, drop, set, length-drop}
 use lib.Seq.{drop-cons, take-append-seam}
 use Rattle.octets.specs.Lists.{present?}
-use Rattle.octets.specs.Lists as lists
 use Rattle.octets.specs.Overlay.{overlay, Wrote, nothing, overlay-first}
 use Rattle.octets.specs.Loops.{Continues, continues-start, continues-step, continues-text, Remains}
 use Rattle.hex_lines.specs.Hex.{hexValue, octetThen, unhexed, hexAnswer, hexLeft, Unhexed, OctetsWithin}
@@ -165,24 +164,6 @@ module _ {s b : List ℕ} where
           record { answers = rw q (ap (λ m. Octets m) k); leaves = rw q (w .text ∙ overlay-first b l (omega arith)) }
       go none q e w = absurd (false≢true e)
 
--- ---- what a line spells are octets
-abbrev AllOctets : Option (List ℕ) → Type 0
-AllOctets (some l) = lists.Octets l
-AllOctets none = Unit {0}
-
-joined-octets : (v w : Option ℕ) (o : Option (List ℕ)) → Digit v → Digit w → AllOctets o → AllOctets (octetThen v w o)
-joined-octets (some v) (some w) (some l) (digit h) (digit k) p = (omega arith, p)
-joined-octets (some v) (some w) none d e p = tt
-joined-octets (some v) none o d e p = tt
-joined-octets none w o d e p = tt
-
-unhexed-octets : (s : List ℕ) → AllOctets (unhexed s)
-unfolding unhexed
-unhexed-octets [] = tt
-unhexed-octets (c ∷ []) = tt
-unhexed-octets (c ∷ d ∷ s) =
-    joined-octets (hexValue c) (hexValue d) (unhexed s) (hexValue-digit c) (hexValue-digit d) (unhexed-octets s)
-
 -- ---- what follows of the answer
 -- a number of octets is within the buffer
 pub within : (a : Hex) {n size : ℕ} → OctetsWithin a size → a ≡ Octets n → n ≤ size
@@ -208,7 +189,3 @@ module _ {s m m′ : List ℕ} {a : Hex} (u : Unhexed s m a m′) where
             let k : n ≡ length l = cc in
             rw (q, k) (ap some (sym (take-append-seam l (drop (length l) m))))
         go none e q = let z : _≡_ {A = ℕ} 0 1 = cc in absurd (omega arith)
-
-    -- they are octets; the code takes them as the part from 0 to n
-    pub octets-read : lists.Octets (take (n - 0) m′)
-    octets-read = let z : n - 0 ≡ n = omega arith in rw z (subst AllOctets read-octets (unhexed-octets s))

@@ -5,7 +5,6 @@ use Prim.Native.Nat.{ℕ, _-_, _≤_}
 use native.Mathlib.Omega.{arith}
 use lib.ListN.{length, take, drop, take-append-drop}
 use lib.Seq.{drop-append-le, length-take-le}
-use Rattle.octets.specs.Lists as lists
 use Rattle.octets.specs.Overlay.{overlay-first, Wrote}
 use Rattle.octets.specs.Answer.{Answer, overwritten}
 use Rattle.octets.specs.Calls.{answerOf, Gives}
@@ -17,7 +16,7 @@ use Rattle.hex_lines.proofs.Steps.{read-none, read-octets}
 use Rattle.hex_lines.specs.declared.Hex.{Hex}
 use Rattle.hex_lines.specs.declared.Hex.the-variants.{Octets, Bad}
 use Rattle.line_answers.specs.Answers.{refusalLine, answerText, asText, textLine, textLeft}
-use Rattle.line_answers.proofs.Places.{place-within}
+use Rattle.line_answers.proofs.Places.{message-place}
 use Rattle.line_answers.proofs.Calls.{Told, told, told-by, callLine, told-line}
 use Rattle.line_answers.proofs.Limits.{in-limit, in-left}
 
@@ -68,8 +67,8 @@ module _ (s b : List ℕ) (k : length b ≡ 65537) where
           let same : t ++ drop 65536 b ≡ b = rw (q .1) (take-append-drop 65536 b) in
           rw (same-room, q .0) (rw same at w)
 
-      pub place-below : lists.Octets s → length s ≤ 4096 → place ≤ 4096
-      place-below o h = omega (arith, place-within s (take 65536 b) o p e)
+      pub place-below : length s ≤ 4096 → place ≤ 4096
+      place-below h = omega (arith, message-place s (take 65536 b) p e)
 
 -- a line within the limit
 module _ (s : List ℕ) (h : length s ≤ 8192) {m m′ : List ℕ} {a : Hex} (u : Unhexed s m a m′) where

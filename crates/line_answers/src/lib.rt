@@ -8,7 +8,6 @@ use octets::put_hex;
 ghost use mathlib.Core.Path.{_≡_};
 ghost use Prim.Native.Nat.{_+_, _^_, _≤_, _<_};
 ghost use lib.ListN.{length};
-ghost use Rattle.octets.specs.Lists.{Octets};
 ghost use Rattle.octets.specs.Overlay.{Wrote};
 ghost use Rattle.json.specs.Converted.{converted};
 ghost use Rattle.strict.specs.Reading.{reading, toWire};
@@ -29,7 +28,7 @@ pub fn put_refusal(number: u32, place: u32, out: &mut [u8], to: usize) -> usize
 
 // Writes the text of a message or its refusal.
 fn put_message(message: &[u8], text: &mut [u8]) -> usize
-    requires { ⌜ Octets (now message) × (length (now message) ≤ 4096) × (length (now text) ≡ 65537) ⌝ }
+    requires { ⌜ (length (now message) ≤ 4096) × (length (now text) ≡ 65537) ⌝ }
     ensures { λ r. ⌜ Wrote (now (text .entry)) 0 (answerText asText 65536 10 (converted (now (message .entry))))
         (now (text .exit)) r ⌝ }
     ensures { λ r. ⌜ r ≤ 65536 ⌝ }
@@ -69,7 +68,7 @@ pub fn text_line(line: &[u8], message: &mut [u8], text: &mut [u8]) -> usize
 
 // Writes the message of a text in hexadecimal, or its refusal.
 fn put_wire(line: &[u8], message: &mut [u8], text: &mut [u8]) -> usize
-    requires { ⌜ (length (now message) ≡ 4096) × (length (now text) ≡ 65537) ⌝ }
+    requires { ⌜ (length (now message) ≡ 4096) × (length (now text) ≡ 65537) × (length (now line) ≤ 65536) ⌝ }
     ensures { λ r. ⌜ Wrote (now (text .entry)) 0 (answerText asHex 4096 23 (reading (now (line .entry))))
         (now (text .exit)) r ⌝ }
     ensures { λ r. ⌜ r ≤ 8192 ⌝ }

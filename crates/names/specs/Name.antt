@@ -44,11 +44,11 @@ refusalNumber reserved = 4
 refusalNumber target = 5
 refusalNumber long = 6
 refusalNumber short = 7
-refusalNumber surplus = 7
+refusalNumber surplus = 11
 
--- a fault, with the offset of the octet at fault: the length octet, the pointer's first octet, the first octet of the
--- field that doesn't fit, RDATA's first octet where it ends inside its layout, the first octet left over. Answers
--- report the offset of the entry instead.
+-- a fault, with the offset of the octet at fault, which is the place of the refusal: the length octet, the pointer's
+-- first octet, the first octet of the field that doesn't fit, RDATA's first octet where it ends inside its layout, the
+-- first octet left over
 pub record Fault : Type 0 where
   pub kind : Kind
   pub octet : ℕ

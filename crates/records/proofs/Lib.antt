@@ -5,3 +5,4 @@ pub mod Kept
 pub mod Reading
 pub mod Pieces
 pub mod Told
+pub mod Places

@@ -60,10 +60,10 @@ pub data Decoded : Type 0 where
   accepted : Message → Decoded
   refused : ℕ → ℕ → Decoded
 
--- where reading came to: the first fault in an entry, reported at the entry; 8 octets after the last record, at the
--- first of them; 9 uncompressed form over 65,535 octets
+-- where reading came to: the first fault, reported at the octet at fault; 8 octets after the last record, at the first
+-- of them; 9 uncompressed form over 65,535 octets
 abbrev pub afterReading : List ℕ → Message → Reached → Decoded
-afterReading s m (stopped at fault) = refused (refusalNumber (fault .kind)) at
+afterReading s m (stopped at fault) = refused (refusalNumber (fault .kind)) (fault .octet)
 afterReading s m (reached at) =
     cond (ltb at (length s)) (refused 8 at)
     (cond (ltb 65535 (length (form m))) (refused 9 0) (accepted m))

@@ -1,6 +1,7 @@
--- Texts at the limits of the reader's rules, one row each, and one theorem over the table.
+-- Texts at the limits of the reader's rules, one row each, and one theorem over the table. Stops.antt has the rows of
+-- 20 with their places.
 use mathlib.Core.Path.{_≡_, refl}
-use mathlib.Core.List.{List, [], _∷_, _++_, map}
+use mathlib.Core.List.{List, [], _∷_, map}
 use Prim.Native.Nat.{ℕ}
 use Rattle.octets.specs.Decimal.{natural, positive, decimal}
 use Rattle.octets.specs.Hexadecimal.{hex, hexPairs, unhex, hexText}
@@ -41,24 +42,13 @@ pub record Reading : Type 0 where
 
 unfoldable pub readings : List Reading
 readings =
-    -- an empty text; one with a space after it
-    record { text = []; gives = refuses 20 0 }
-    ∷ record { text = textWith "0" "0" "0" "0" "" "" "" ++ ascii " "; gives = refuses 20 0 }
-    ∷ record { text = textWith "0" "0" "0" "0" "" "" ""; gives = taken }
-    -- numbers: a leading zero, a minus, out of range; 20 before 21 wherever each is
-    ∷ record { text = textWith "00" "0" "0" "0" "" "" ""; gives = refuses 20 0 }
-    ∷ record { text = textWith "-1" "0" "0" "0" "" "" ""; gives = refuses 20 0 }
+    -- no entry; RCODE 15 and 16
+    record { text = textWith "0" "0" "0" "0" "" "" ""; gives = taken }
     ∷ record { text = textWith "15" "0" "0" "0" "" "" ""; gives = taken }
     ∷ record { text = textWith "16" "0" "0" "0" "" "" ""; gives = refuses 21 0 }
-    ∷ record { text = textWith "16" "0" "0" "0" "" "" "" ++ ascii "]"; gives = refuses 20 0 }
     -- a count that differs from its array
     ∷ record { text = textWith "0" "1" "0" "0" "" "" ""; gives = refuses 21 0 }
     -- TTL
-    ∷ record {
-      text = textWith "0" "0" "1" "0" "" "{\"NAME\":\".\",\"TYPE\":1,\"CLASS\":1,\"TTL\":-0,\"RDATAHEX\":\"\"}"
-          "";
-      gives = refuses 20 0;
-    }
     ∷ record {
       text = textWith "0" "0" "1" "0" ""
           "{\"NAME\":\".\",\"TYPE\":1,\"CLASS\":1,\"TTL\":-2147483648,\"RDATAHEX\":\"\"}" "";
@@ -79,18 +69,7 @@ readings =
           "{\"NAME\":\".\",\"TYPE\":1,\"CLASS\":1,\"TTL\":2147483648,\"RDATAHEX\":\"\"}" "";
       gives = refuses 21 0;
     }
-    -- names: an octet spelled in another way, a label that is empty, no last dot, labels of 63 and 64
-    ∷ record {
-      text = textWith "0" "1" "0" "0" "{\"NAME\":\"\\\\046.\",\"TYPE\":1,\"CLASS\":1}" "" "";
-      gives = refuses 20 0;
-    }
-    ∷ record {
-      text = textWith "0" "1" "0" "0" "{\"NAME\":\"\\\\097.\",\"TYPE\":1,\"CLASS\":1}" "" "";
-      gives = refuses 20 0;
-    }
-    ∷ record { text = textWith "0" "1" "0" "0" "{\"NAME\":\"a..\",\"TYPE\":1,\"CLASS\":1}" "" ""; gives = refuses 20 0 }
-    ∷ record { text = textWith "0" "1" "0" "0" "{\"NAME\":\"\",\"TYPE\":1,\"CLASS\":1}" "" ""; gives = refuses 20 0 }
-    ∷ record { text = textWith "0" "1" "0" "0" "{\"NAME\":\"a\",\"TYPE\":1,\"CLASS\":1}" "" ""; gives = refuses 20 0 }
+    -- labels of 63 and 64
     ∷ record {
       text = textWith "0" "1" "0" "0"
           "{\"NAME\":\"aaaaaaaaaaaaaaaaaaaaaaaaaaaaaaaaaaaaaaaaaaaaaaaaaaaaaaaaaaaaaaa.\",\"TYPE\":1,\"CLASS\":1}" ""
@@ -102,17 +81,6 @@ readings =
           "{\"NAME\":\"aaaaaaaaaaaaaaaaaaaaaaaaaaaaaaaaaaaaaaaaaaaaaaaaaaaaaaaaaaaaaaaa.\",\"TYPE\":1,\"CLASS\":1}" ""
           "";
       gives = refuses 21 0;
-    }
-    -- hex: lowercase, an odd number of digits
-    ∷ record {
-      text = textWith "0" "0" "1" "0" ""
-          "{\"NAME\":\".\",\"TYPE\":1,\"CLASS\":1,\"TTL\":0,\"RDATAHEX\":\"ab\"}" "";
-      gives = refuses 20 0;
-    }
-    ∷ record {
-      text = textWith "0" "0" "1" "0" "" "{\"NAME\":\".\",\"TYPE\":1,\"CLASS\":1,\"TTL\":0,\"RDATAHEX\":\"A\"}"
-          "";
-      gives = refuses 20 0;
     }
     -- RDATA of NS: its layout, octets after it, a pointer, nothing
     ∷ record {
@@ -146,18 +114,7 @@ readings =
           "{\"EDNS\":{\"Version\":1,\"FLAGS\":[],\"RCODE\":\"NoError\",\"UDPSIZE\":1232}}";
       gives = refuses 21 0;
     }
-    ∷ record {
-      text = textWith "0" "0" "0" "1" "" ""
-          "{\"EDNS\":{\"Version\":00,\"FLAGS\":[],\"RCODE\":\"NoError\",\"UDPSIZE\":1232}}";
-      gives = refuses 20 0;
-    }
-    ∷ record {
-      text = textWith "0" "0" "0" "1" "" ""
-          "{\"EDNS\":{\"Version\":0,\"FLAGS\":[\"DO\",\"DO\"],\"RCODE\":\"NoError\",\"UDPSIZE\":1232}}";
-      gives =
-          refuses 20 0;
-    }
-    -- RCODE 16 is BADVERS; BADSIG is 20, beside a number out of range too; the header's RCODE is a number
+    -- RCODE 16 is BADVERS; BADSIG is 20, at its S
     ∷ record {
       text = textWith "0" "0" "0" "1" "" ""
           "{\"EDNS\":{\"Version\":0,\"FLAGS\":[],\"RCODE\":\"BADVERS\",\"UDPSIZE\":1232}}";
@@ -166,14 +123,8 @@ readings =
     ∷ record {
       text = textWith "0" "0" "0" "1" "" ""
           "{\"EDNS\":{\"Version\":0,\"FLAGS\":[],\"RCODE\":\"BADSIG\",\"UDPSIZE\":1232}}";
-      gives = refuses 20 0;
+      gives = refuses 20 237;
     }
-    ∷ record {
-      text = textWith "0" "0" "0" "1" "" ""
-          "{\"EDNS\":{\"Version\":0,\"FLAGS\":[],\"RCODE\":\"BADSIG\",\"UDPSIZE\":65536}}";
-      gives = refuses 20 0;
-    }
-    ∷ record { text = textWith "\"BADVERS\"" "0" "0" "0" "" "" ""; gives = refuses 20 0 }
     ∷ record {
       text = textWith "7" "0" "0" "1" "" ""
           "{\"EDNS\":{\"Version\":0,\"FLAGS\":[],\"RCODE\":\"BADCOOKIE\",\"UDPSIZE\":1232}}";
@@ -184,12 +135,7 @@ readings =
           "{\"EDNS\":{\"Version\":0,\"FLAGS\":[],\"RCODE\":\"BADCOOKIE\",\"UDPSIZE\":1232}}";
       gives = refuses 21 0;
     }
-    -- elsewhere; twice; beside a TYPE 41 record; written as an ordinary record; two ordinary ones
-    ∷ record {
-      text = textWith "0" "0" "1" "0" ""
-          "{\"EDNS\":{\"Version\":0,\"FLAGS\":[],\"RCODE\":\"NoError\",\"UDPSIZE\":1232}}" "";
-      gives = refuses 20 0;
-    }
+    -- twice; beside a TYPE 41 record; written as an ordinary record; two ordinary ones
     ∷ record {
       text = textWith "0" "0" "0" "2" "" ""
           "{\"EDNS\":{\"Version\":0,\"FLAGS\":[],\"RCODE\":\"NoError\",\"UDPSIZE\":1232}},{\"EDNS\":{\"Version\":0,\"FLAGS\":[],\"RCODE\":\"NoError\",\"UDPSIZE\":1232}}";
@@ -231,13 +177,7 @@ readings =
           "{\"EDNS\":{\"Version\":0,\"FLAGS\":[],\"RCODE\":\"NoError\",\"UDPSIZE\":1232,\"EXPIRE\":\"NONE\",\"EXPIRE\":\"NONE\"}}";
       gives = refuses 21 0;
     }
-    -- `OPTn`: a leading zero, out of range, with its row's shape, without it, without a row
-    ∷ record {
-      text = textWith "0" "0" "0" "1" "" ""
-          "{\"EDNS\":{\"Version\":0,\"FLAGS\":[],\"RCODE\":\"NoError\",\"UDPSIZE\":1232,\"OPT05\":\"\"}}";
-      gives =
-          refuses 20 0;
-    }
+    -- `OPTn`: out of range, with its row's shape, without it, without a row
     ∷ record {
       text = textWith "0" "0" "0" "1" "" ""
           "{\"EDNS\":{\"Version\":0,\"FLAGS\":[],\"RCODE\":\"NoError\",\"UDPSIZE\":1232,\"OPT65536\":\"\"}}";
@@ -265,12 +205,6 @@ readings =
     -- EXPIRE, COOKIE, EDE
     ∷ record {
       text = textWith "0" "0" "0" "1" "" ""
-          "{\"EDNS\":{\"Version\":0,\"FLAGS\":[],\"RCODE\":\"NoError\",\"UDPSIZE\":1232,\"EXPIRE\":\"none\"}}";
-      gives =
-          refuses 20 0;
-    }
-    ∷ record {
-      text = textWith "0" "0" "0" "1" "" ""
           "{\"EDNS\":{\"Version\":0,\"FLAGS\":[],\"RCODE\":\"NoError\",\"UDPSIZE\":1232,\"EXPIRE\":4294967296}}";
       gives =
           refuses 21 0;
@@ -295,11 +229,6 @@ readings =
       text = textWith "0" "0" "0" "1" "" ""
           "{\"EDNS\":{\"Version\":0,\"FLAGS\":[],\"RCODE\":\"NoError\",\"UDPSIZE\":1232,\"EDE\":{\"CODE\":1,\"TEXT\":\"\\\"\\\\\"}}}";
       gives = taken;
-    }
-    ∷ record {
-      text = textWith "0" "0" "0" "1" "" ""
-          "{\"EDNS\":{\"Version\":0,\"FLAGS\":[],\"RCODE\":\"NoError\",\"UDPSIZE\":1232,\"EDE\":{\"CODE\":1,\"TEXT\":\"\\n\"}}}";
-      gives = refuses 20 0;
     }
     -- PADDING: HEX all zero, not all zero, a LENGTH that disagrees, LENGTH alone, over 65,535
     ∷ record {
@@ -377,21 +306,12 @@ readings =
       text = textWith "0" "1" "0" "0" "{\"NAME\":\".\",\"TYPE\":1,\"CLASS\":65536}" "" "";
       gives = refuses 21 0;
     }
-    -- Z: set, between RA and AD; another value there; twice; elsewhere; beside a number out of range
+    -- Z: set, between RA and AD; 0 there, at the 0; 10, at its 0; set beside a number out of range
     ∷ record { text = emptyAmid "" ",\"Z\":1" ""; gives = taken }
-    ∷ record { text = emptyAmid "" ",\"Z\":0" ""; gives = refuses 20 0 }
-    ∷ record { text = emptyAmid "" ",\"Z\":2" ""; gives = refuses 20 0 }
-    ∷ record { text = emptyAmid "" ",\"Z\":10" ""; gives = refuses 20 0 }
-    ∷ record { text = emptyAmid "" ",\"Z\":01" ""; gives = refuses 20 0 }
-    ∷ record { text = emptyAmid "" ",\"Z\":-1" ""; gives = refuses 20 0 }
-    ∷ record { text = emptyAmid "" ",\"Z\":\"1\"" ""; gives = refuses 20 0 }
-    ∷ record { text = emptyAmid "" ",\"Z\":" ""; gives = refuses 20 0 }
-    ∷ record { text = emptyAmid "" ",\"Z\":1,\"Z\":1" ""; gives = refuses 20 0 }
-    ∷ record { text = emptyAmid ",\"Z\":1" "" ""; gives = refuses 20 0 }
-    ∷ record { text = emptyAmid "" "" ",\"Z\":1"; gives = refuses 20 0 }
+    ∷ record { text = emptyAmid "" ",\"Z\":0" ""; gives = refuses 20 58 }
+    ∷ record { text = emptyAmid "" ",\"Z\":10" ""; gives = refuses 20 59 }
     ∷ record { text = textAmid "" ",\"Z\":1" "" "16" "0" "0" "0" "" "" ""; gives = refuses 21 0 }
-    ∷ record { text = textAmid "" ",\"Z\":0" "" "16" "0" "0" "0" "" "" ""; gives = refuses 20 0 }
-    -- names of 255 and 256 octets; a dot, a backslash, 0x7F and 0x7E as digits, a number past 255
+    -- names of 255 and 256 octets; a dot, a backslash, 0x7F and 0xFF as digits
     ∷ record {
       text = textWith "0" "1" "0" "0"
           "{\"NAME\":\"aaaaaaaaaaaaaaaaaaaaaaaaaaaaaaaaaaaaaaaaaaaaaaaaaaaaaaaaaaaaaaa.aaaaaaaaaaaaaaaaaaaaaaaaaaaaaaaaaaaaaaaaaaaaaaaaaaaaaaaaaaaaaaa.aaaaaaaaaaaaaaaaaaaaaaaaaaaaaaaaaaaaaaaaaaaaaaaaaaaaaaaaaaaaaaa.aaaaaaaaaaaaaaaaaaaaaaaaaaaaaaaaaaaaaaaaaaaaaaaaaaaaaaaaaaaaa.\",\"TYPE\":1,\"CLASS\":1}" "" "";
@@ -405,15 +325,7 @@ readings =
     ∷ record { text = textWith "0" "1" "0" "0" "{\"NAME\":\"\\\\..\",\"TYPE\":1,\"CLASS\":1}" "" ""; gives = taken }
     ∷ record { text = textWith "0" "1" "0" "0" "{\"NAME\":\"\\\\\\\\.\",\"TYPE\":1,\"CLASS\":1}" "" ""; gives = taken }
     ∷ record { text = textWith "0" "1" "0" "0" "{\"NAME\":\"\\\\127.\",\"TYPE\":1,\"CLASS\":1}" "" ""; gives = taken }
-    ∷ record {
-      text = textWith "0" "1" "0" "0" "{\"NAME\":\"\\\\126.\",\"TYPE\":1,\"CLASS\":1}" "" "";
-      gives = refuses 20 0;
-    }
     ∷ record { text = textWith "0" "1" "0" "0" "{\"NAME\":\"\\\\255.\",\"TYPE\":1,\"CLASS\":1}" "" ""; gives = taken }
-    ∷ record {
-      text = textWith "0" "1" "0" "0" "{\"NAME\":\"\\\\256.\",\"TYPE\":1,\"CLASS\":1}" "" "";
-      gives = refuses 20 0;
-    }
     -- RDATA of MX, SOA and MINFO: one octet less, the layout, one more; top bits 01
     ∷ record {
       text = textWith "0" "0" "1" "0" ""
@@ -622,13 +534,7 @@ readings =
           "{\"EDNS\":{\"Version\":0,\"FLAGS\":[],\"RCODE\":\"NoError\",\"UDPSIZE\":1232,\"COOKIE\":[\"0000000000000000\",\"0000000000000000000000000000000000000000000000000000000000000000\"]}}";
       gives = taken;
     }
-    -- 20 before 22, 21 before 22
-    ∷ record {
-      text = textWith "0" "0" "0" "1" "" ""
-          "{\"EDNS\":{\"Version\":0,\"FLAGS\":[],\"RCODE\":\"NoError\",\"UDPSIZE\":1232,\"PADDING\":{\"LENGTH\":65536}}}"
-          ++ ascii "]";
-      gives = refuses 20 0;
-    }
+    -- 21 before 22
     ∷ record {
       text = textWith "0" "0" "0" "1" "" ""
           "{\"EDNS\":{\"Version\":1,\"FLAGS\":[],\"RCODE\":\"NoError\",\"UDPSIZE\":1232,\"PADDING\":{\"LENGTH\":65536}}}";

@@ -144,7 +144,7 @@ read-only t o e = first (parse t) refl e
     second d p none q e = refused≢output e
     second d p (some v) q e = third v (record { document = d; parses = p; means = q }) (within? v) refl e
 
-    first : (p : Parsed Document) → parse t ≡ p → ofParsed p ≡ output o → Read t o
+    first : (p : Parsed Document) → parse t ≡ p → ofParsed t p ≡ output o → Read t o
     first (parsed d []) q e = second d q (meaning d) refl e
     first (parsed d (x ∷ r)) q e = absurd (nil≢cons (sym (parse-ends t d (x ∷ r) q)))
     first (failed w) q e = refused≢output e

@@ -2,7 +2,8 @@
 use mathlib.Core.Bool.{cond}
 use mathlib.Core.Option.{Option, none, some}
 use mathlib.Core.List.{List}
-use Prim.Native.Nat.{ℕ}
+use Prim.Native.Nat.{ℕ, _-_}
+use lib.ListN.{length}
 use Rattle.octets.specs.Parsed.{Parsed, parsed, failed}
 use Rattle.octets.specs.Answer.{Output, output, refused, Result, delivered}
 use Rattle.octets.specs.Calls.{Call, Gives}
@@ -22,14 +23,15 @@ abbrev pub ofMeaning : Option View → Output
 ofMeaning none = refused 21 0
 ofMeaning (some v) = ofView v
 
--- 20 where the text is not within the grammar: `parse` takes a whole text or stops; where it stopped is not reported
-abbrev pub ofParsed : Parsed Document → Output
-ofParsed (parsed d r) = ofMeaning (meaning d)
-ofParsed (failed rest) = refused 20 0
+-- 20 where the text is not within the grammar, at the octet at which `parse` stopped: before it lies the longest
+-- beginning of the text that is also one of some text in the grammar (`parse-stops`, `proofs/Longest.antt`)
+abbrev pub ofParsed : List ℕ → Parsed Document → Output
+ofParsed t (parsed d r) = ofMeaning (meaning d)
+ofParsed t (failed rest) = refused 20 (length t - length rest)
 
 -- the octets of the message that a text says, or the first of the refusals 20 to 22
 unfoldable pub reading : List ℕ → Output
-reading t = ofParsed (parse t)
+reading t = ofParsed t (parse t)
 
 -- number, place, length and the whole buffer afterwards; 23 where the message is longer than the buffer
 unfoldable pub toWire : List ℕ → List ℕ → Result

@@ -3,12 +3,12 @@ use mathlib.Core.Path.{_≡_, refl, sym, _∙_, ap, subst}
 use mathlib.Core.Bool.{Bool, true, false, not, _&&_}
 use mathlib.Core.Option.{none, some}
 use mathlib.Core.List.{List, [], _++_}
-use Prim.Native.Nat.{ℕ, _≤_, _<_}
+use Prim.Native.Nat.{ℕ, _-_, _≤_, _<_}
 use native.Mathlib.Nat.{zero-add}
 use native.Mathlib.Omega.{arith}
 use borrow.Author.Tests.{not-true, not-false}
 use lib.Dec.{T, leb}
-use lib.ListN.{length, drop, drop-of-length-le}
+use lib.ListN.{length, drop, length-drop, drop-of-length-le}
 use Rattle.octets.specs.Bits.{is-true, and-left, and-right}
 use Rattle.octets.specs.Parsed.{parsed, parsed-value, parsed≢failed}
 use Rattle.octets.specs.Answer.{output}
@@ -24,7 +24,7 @@ use Rattle.json.specs.Limits.{within?}
 use Rattle.json.specs.Document.{Document}
 use Rattle.strict.specs.Meaning.{documentView, counts?, meaning}
 use Rattle.strict.specs.Parser.{document, parse}
-use Rattle.strict.specs.Reading.{ofMeaning, reading, toWire}
+use Rattle.strict.specs.Reading.{reading, toWire}
 use Rattle.parse_tokens.specs.declared.Cursor.{Cursor}
 use Rattle.parse_tokens.specs.Cursor.{Finds, reads-bad, reads-got, Got}
 use Rattle.parse_tokens.specs.Step.{found-there, Put, Step}
@@ -68,23 +68,29 @@ within-same d t = go (within? (documentView d)) (leb (length (documentOctets d))
 -- l is what the first run leaves of no octets
 module _ (t b l : List ℕ) (z : length l ≡ 0) {c : Cursor}
     (x : Step documentMeant? documentOctets (document .parse) t start [] c l) where
-  refuses : (n : ℕ) → reading t ≡ answer.refused n 0 → Gives (toWire t b) (Refused n 0) (l ++ b)
+  refuses : (n p : ℕ) → reading t ≡ answer.refused n p → Gives (toWire t b) (Refused n p) (l ++ b)
   unfolding toWire
-  refuses n e = rw (empty l z, e) (gives-refusal 23 b n 0)
+  refuses n p e = rw (empty l z, e) (gives-refusal 23 b n p)
+
+  -- the octets before those that are left
+  place : length t - length (drop (c .at) t) ≡ c .at
+  place = omega (arith, length-drop (c .at) t, x .moves .safe .inside)
 
   -- the text is not within the grammar
-  pub read-stopped : not (c .grammatical) ≡ true → Gives (toWire t b) (Refused 20 0) (l ++ b)
+  pub read-stopped : not (c .grammatical) ≡ true → Gives (toWire t b) (Refused 20 (c .at)) (l ++ b)
   unfolding reading parse
-  read-stopped g = refuses 20 (rw (reads-bad (found-there x refl) (not-true (c .grammatical) g)))
+  read-stopped g = refuses 20 (c .at) (rw (reads-bad (found-there x refl) (not-true (c .grammatical) g), place))
 
   module _ (g : not (c .grammatical) ≡ false) where
     got : Got (document .parse t) (Put documentMeant? documentOctets start [] c l) (drop (c .at) t)
     got = reads-got (found-there x refl) (not-false (c .grammatical) g)
 
     -- octets are left after it
-    pub read-left : c .at < length t → Gives (toWire t b) (Refused 20 0) (l ++ b)
+    pub read-left : c .at < length t → Gives (toWire t b) (Refused 20 (c .at)) (l ++ b)
     unfolding reading parse
-    read-left h = refuses 20 (rw (got .is, drop-one t (c .at) h))
+    read-left h =
+        let left = ap (λ (w : List ℕ). length t - length w) (sym (drop-one t (c .at) h)) ∙ place in
+        refuses 20 (c .at) (rw (got .is, drop-one t (c .at) h) (ap (answer.refused 20) left))
 
     module _ (h : length t ≤ c .at) where
       whole : parse t ≡ parsed (got .value) []
@@ -96,7 +102,8 @@ module _ (t b l : List ℕ) (z : length l ≡ 0) {c : Cursor}
 
       pub read-meaningless : not (c .meaningful) ≡ true → Gives (toWire t b) (Refused 21 0) (l ++ b)
       unfolding reading
-      read-meaningless k = refuses 21 (rw (whole, meaning-none (got .value) (sym judged ∙ not-true (c .meaningful) k)))
+      read-meaningless k =
+          refuses 21 0 (rw (whole, meaning-none (got .value) (sym judged ∙ not-true (c .meaningful) k)))
 
       module _ (k : not (c .meaningful) ≡ false) where
         holds : T (c .meaningful)
@@ -110,7 +117,7 @@ module _ (t b l : List ℕ) (z : length l ≡ 0) {c : Cursor}
 
         pub read-large : not (c .bounded) ≡ true → Gives (toWire t b) (Refused 22 0) (l ++ b)
         unfolding reading
-        read-large m = refuses 22 (rw (
+        read-large m = refuses 22 0 (rw (
           whole,
           meaning-some (got .value) means,
           within-same (got .value) means,

@@ -177,10 +177,11 @@ pub fn read(text: &[u8], message: &mut [u8]) -> Outcome
 {
     let c = document(text, &mut message[..0]);
     if !c.grammatical {
-        return Outcome::Refused(20, 0);
+        return Outcome::Refused(20, c.at);
     }
-    if c.at < text.len() {
-        return Outcome::Refused(20, 0);
+    let end = c.at;
+    if end < text.len() {
+        return Outcome::Refused(20, end);
     }
     if !c.meaningful {
         return Outcome::Refused(21, 0);

@@ -98,7 +98,7 @@ reading-numbered t = read (parse t)
     mean none = omega arith
     mean (some v) = size (within? v) (form (view.messageOf v))
 
-    read : (o : Parsed Document) → NumberedOut (ofParsed o)
+    read : (o : Parsed Document) → NumberedOut (ofParsed t o)
     read (parsed d r) = mean (meaning d)
     read (failed w) = omega arith
 

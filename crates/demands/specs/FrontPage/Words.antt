@@ -11,7 +11,7 @@ pub use mathlib.Core.Logic.{_↔_, _⊎_}
 pub use mathlib.Core.Bool.{false}
 pub use mathlib.Core.List.{List, [], _++_, map}
 pub use Prim.Native.Nat.{ℕ, _≤_, _<_}
-pub use lib.ListN.{length, drop}
+pub use lib.ListN.{length, take, drop}
 pub use Rattle.octets.specs.Lists.{All, Octets, hexed}
 -- answers: success with a length, a refusal with its number and place; a call has an input, a buffer before and after,
 -- an answer
@@ -70,9 +70,21 @@ Spells c m = Accepted m × (text m ≡ c .input)
 abbrev pub InGrammar : List ℕ → Type 0
 InGrammar t = (d : Document) × DocumentIn d × (documentText d ≡ t)
 
--- a message, of any size, has this text
+-- the octets begin some text in the grammar
+abbrev pub Begins : List ℕ → Type 0
+Begins u = (d : Document) × DocumentIn d × (r : List ℕ) × (documentText d ≡ u ++ r)
+
+-- the first p octets of t begin some text in the grammar, and no longer beginning of t does
+abbrev pub LongestBeginning : List ℕ → ℕ → Type 0
+LongestBeginning t p =
+    (p ≤ length t) × Begins (take p t) × ((n : ℕ) → n ≤ length t → Begins (take n t) → n ≤ p)
+
+-- a message, of any size, has this text; none has it
 abbrev pub HasText : List ℕ → View → Type 0
 HasText t v = T (view? v) × (viewText v ≡ t)
+
+abbrev pub NoMessage : List ℕ → Type 0
+NoMessage t = (v : View) → HasText t v → ⊥
 
 -- what a list of calls wrote, set end to end
 unfoldable pub stream : List Call → List ℕ

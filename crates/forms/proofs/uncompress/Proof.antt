@@ -25,17 +25,20 @@ slice-aggregate-put-message c = search needs
 put-message-requires : tie.Need-put-message-requires
 put-message-requires c κs = search needs
 
-enum-known-at : tie.Need-enum-known-at
-enum-known-at c = search needs
+enum-known-fault : tie.Need-enum-known-fault
+enum-known-fault c = search needs
 
 number-of-requires : tie.Need-number-of-requires
 number-of-requires c κs = search needs
 
+octet-of-requires : tie.Need-octet-of-requires
+octet-of-requires c κs = search needs
+
 refuse-requires-3 : tie.Need-refuse-requires-3
 refuse-requires-3 c κs = search needs
 
-enum-known-at-2 : tie.Need-enum-known-at-2
-enum-known-at-2 c = search needs
+enum-known-at : tie.Need-enum-known-at
+enum-known-at c = search needs
 
 refuse-requires-4 : tie.Need-refuse-requires-4
 refuse-requires-4 c κs = search needs
@@ -87,10 +90,11 @@ uncompress-spec =
     slice-relend-prefix-put-message
     slice-aggregate-put-message
     put-message-requires
-    enum-known-at
+    enum-known-fault
     number-of-requires
+    octet-of-requires
     refuse-requires-3
-    enum-known-at-2
+    enum-known-at
     refuse-requires-4
     same-length
     returns-3

@@ -1,7 +1,7 @@
 -- `line_answers::put_answer` meets its contract: one way for each kind of line.
 use borrow.Author.Needs.{needs}
 use native.Mathlib.Omega.{arith}
-use Rattle.hex_lines.proofs.Steps.{within, octets-read}
+use Rattle.hex_lines.proofs.Steps.{within}
 use Rattle.line_answers.specs.Answers.{textLine, textLeft}
 use Rattle.line_answers.proofs.Limits.{over-limit, over-left}
 use Rattle.line_answers.proofs.Answering.{read-left, bad-answer, read-answer}
@@ -62,7 +62,7 @@ put-message-requires : tie.Need-put-message-requires
 put-message-requires c κs =
     let n = c .before .before .before .before in
     let hex = n .before .before .before .before .unhex .ensures in
-    (octets-read (hex .0) (n .n .given .1), omega (arith, within _ (hex .1) (n .n .given .1)), search needs)
+    (omega (arith, within _ (hex .1) (n .n .given .1)), search needs)
 
 same-length-4 : tie.Need-same-length-4
 same-length-4 c = search needs

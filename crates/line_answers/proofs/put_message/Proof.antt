@@ -30,7 +30,7 @@ cast-put-refusal c =
     let start = call .before .before .before .before in
     let text = start .args .text .now in
     let gives = call .convert .ensures .promise in
-    omega (arith, place-below _ text (start .pre .2) gives (number .number .given .1) (start .pre .0) (start .pre .1))
+    omega (arith, place-below _ text (start .pre .1) gives (number .number .given .1) (start .pre .0))
 
 put-refusal-requires : tie.Need-put-refusal-requires
 put-refusal-requires c κs = search needs
@@ -45,7 +45,7 @@ returns c =
     let start = call .before .before .before .before in
     let gives = call .convert .ensures .promise in
     let told = size .size .given .1 in
-    (text-answer _ _ (start .pre .2) gives told, text-within _ (start .args .text .now) (start .pre .2) gives told)
+    (text-answer _ _ (start .pre .1) gives told, text-within _ (start .args .text .now) (start .pre .1) gives told)
 
 same-length-2 : tie.Need-same-length-2
 same-length-2 c = search needs
@@ -57,7 +57,7 @@ returns-2 c =
     let start = call .before .before .before .before in
     let gives = call .convert .ensures .promise in
     let wrote = c .before .before .put-refusal .ensures .0 in
-    (refused-answer _ _ (start .pre .2) gives (number .number .given .1) wrote, search needs)
+    (refused-answer _ _ (start .pre .1) gives (number .number .given .1) wrote, search needs)
 
 pub put-message-spec : {M : Type 1} → statement M
 put-message-spec =

@@ -1,7 +1,7 @@
 -- `line_answers::put_wire` meets its contract, by the reader's answer.
 use borrow.Author.Needs.{needs}
 use native.Mathlib.Omega.{arith}
-use Rattle.line_answers.proofs.Places.{place-first}
+use Rattle.line_answers.proofs.Places.{text-place}
 use Rattle.line_answers.proofs.Wire.{message-within, message-answer, refused-answer}
 use Rattle.line_answers.proofs.put_wire.Statement.{statement}
 use Rattle.line_answers.proofs.put_wire.Tie as tie
@@ -39,7 +39,8 @@ cast-put-refusal : tie.Need-cast-put-refusal
 cast-put-refusal c =
     let number = c .before in
     let call = number .before .before .before .before in
-    omega (arith, place-first _ _ (call .read .ensures) (number .number .given .1))
+    let limit = call .before .before .before .before .before .pre .2 in
+    omega (arith, text-place _ _ (call .read .ensures) (number .number .given .1))
 
 put-refusal-requires : tie.Need-put-refusal-requires
 put-refusal-requires c κs = search needs
