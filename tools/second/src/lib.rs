@@ -1,17 +1,19 @@
 //! A converter between DNS messages and their JSON profile, written from the
-//! profile's paper, change requests A6 and A10 and the RFCs they name, with nothing
+//! profile's paper, change requests A1, A6 and A10 and the RFCs they name, with nothing
 //! but the standard library. It makes test inputs and says what the answers must be.
 //!
 //! The way from a message to its text has two steps. `wire` reads the message
 //! and gives its uncompressed form or the refusal; `text` prints that form,
 //! once to learn the length and once into the buffer. The way back has four:
 //! `reader` knows the grammar, `meaning` knows which texts belong to a message,
-//! and `encode` measures and writes the message.
+//! and `encode` measures and writes the message. For a text that the reader does
+//! not take, `viable` finds the place of the refusal, with a grammar of its own.
 
 pub mod cases;
 pub mod generate;
 pub mod lines;
 pub mod random;
+pub mod viable;
 
 mod encode;
 mod meaning;
@@ -54,7 +56,7 @@ pub fn to_text(message: &[u8], buffer: &mut [u8]) -> Result<usize, Refusal> {
 /// length. A refusal leaves the buffer as it was.
 pub fn to_wire(text: &[u8], buffer: &mut [u8]) -> Result<usize, Refusal> {
     let Some(draft) = reader::read(text) else {
-        return Err(Refusal::without_place(20));
+        return Err(Refusal { number: 20, place: viable::longest_beginning(text) as u64 });
     };
     if !meaning::has_meaning(&draft) {
         return Err(Refusal::without_place(21));
@@ -69,6 +71,11 @@ pub fn to_wire(text: &[u8], buffer: &mut [u8]) -> Result<usize, Refusal> {
     }
     encode::write(&draft, &mut buffer[..length]);
     Ok(length)
+}
+
+/// Whether the reader takes a text: whether it is anything but 20.
+pub fn reader_takes(text: &[u8]) -> bool {
+    reader::read(text).is_some()
 }
 
 /// The uncompressed form of a message, if the message is accepted.

@@ -1,5 +1,6 @@
 //! The worked and the marked examples of the profile's paper, and answers that its
-//! rules and those of change requests A6 and A10 decide, written down by hand.
+//! rules and those of change requests A1, A6 and A10 decide, written down by hand. The places
+//! of refusal 20 are in `places.rs`.
 
 use second::generate::RCODES;
 use second::lines::{hex_of_octets, octets_of_hex};
@@ -72,6 +73,10 @@ fn answer_is(text: &str, number: u32) {
             let message = message_of(text.as_bytes()).expect(shown);
             assert_eq!(text_of(&message).unwrap(), text.as_bytes());
         }
+        20 => {
+            let refusal = message_of(text.as_bytes()).expect_err(shown);
+            assert!(refusal.number == 20 && refusal.place <= text.len() as u64, "{shown}");
+        }
         _ => assert_eq!(message_of(text.as_bytes()), Err(Refusal { number, place: 0 }), "{shown}"),
     }
 }
@@ -119,19 +124,19 @@ fn names_and_labels_at_their_limits() {
     let label = |count: usize| format!("{count:02X}{}", "61".repeat(count));
     let long = |last: usize| question(&format!("{}{}00", label(63).repeat(3), label(last)));
     assert!(text(&long(61)).contains("\"NAME\":\"aaa"));
-    refused(&long(62), 6, 12);
+    refused(&long(62), 6, 204);
     assert!(text(&question(&(label(63) + "00"))).contains("\"NAME\":\"aaa"));
     refused(&question(&(label(64) + "00")), 4, 12);
     // 250 octets so far, a label of 10, and 7 octets left: 1 before 6.
     let start = format!("{}{}", label(63).repeat(3), label(57));
-    refused(&format!("00000000 00010000 00000000 {start} 0A 61616161616161"), 1, 12);
-    refused(&format!("00000000 00010000 00000000 {start} 0A 61616161616161616161"), 6, 12);
+    refused(&format!("00000000 00010000 00000000 {start} 0A 61616161616161"), 1, 262);
+    refused(&format!("00000000 00010000 00000000 {start} 0A 61616161616161616161"), 6, 262);
     // The same in RDATA: 7 before 6.
     let record = |rdata: &str, length: usize| {
         format!("00000000 00000001 00000000 00 0002 0001 00000000 {length:04X} {rdata}")
     };
-    refused(&record(&format!("{start} 0A 61616161616161"), 258), 7, 12);
-    refused(&record(&format!("{start} 0A 61616161616161616161"), 261), 6, 12);
+    refused(&record(&format!("{start} 0A 61616161616161"), 258), 7, 23);
+    refused(&record(&format!("{start} 0A 61616161616161616161"), 261), 6, 273);
 }
 
 #[test]
@@ -140,12 +145,12 @@ fn faults_in_rdata() {
         let length = rdata.len() / 2;
         format!("00000000 00010001 00000000 016100 0001 0001 00 0002 0001 00000000 {length:04X} {rdata}")
     };
-    refused(&ns("C0"), 7, 19);
-    refused(&ns("40"), 4, 19);
-    refused(&ns("C01E"), 5, 19);
-    refused(&ns("C00B"), 5, 19);
-    refused(&ns("0262"), 7, 19);
-    refused(&ns("016200FF"), 7, 19);
+    refused(&ns("C0"), 7, 30);
+    refused(&ns("40"), 4, 30);
+    refused(&ns("C01E"), 5, 30);
+    refused(&ns("C00B"), 5, 30);
+    refused(&ns("0262"), 7, 30);
+    refused(&ns("016200FF"), 11, 33);
     assert!(text(&ns("C00C")).contains("\"RDATAHEX\":\"016100\""));
     assert!(text(&ns("")).contains("\"TYPE\":2,\"CLASS\":1,\"TTL\":0,\"RDATAHEX\":\"\""));
     // A pointer to a root octet.
@@ -154,7 +159,7 @@ fn faults_in_rdata() {
     refused(
         "00000000 00000002 00000000 00 0010 0001 00000000 0001 20 00 0002 0001 00000000 0002 C017",
         1,
-        24,
+        23,
     );
 }
 
@@ -232,15 +237,15 @@ fn z_leaves_other_faults_as_they_are() {
     let cases = [
         ("00000000 000000".to_string(), 1, 0),
         ("00010000 00000000".to_string(), 1, 12),
-        ("00010001 00000000 00 0001 0001 00 0001 00".to_string(), 1, 17),
-        (ns("00", 2), 1, 12),
+        ("00010001 00000000 00 0001 0001 00 0001 00".to_string(), 1, 20),
+        (ns("00", 2), 1, 23),
         (asking("40"), 4, 12),
-        (ns("80", 1), 4, 12),
+        (ns("80", 1), 4, 23),
         (asking("C00C"), 5, 12),
-        (ns("C003", 2), 5, 12),
-        (asking(&long), 6, 12),
-        (ns("0000", 2), 7, 12),
-        (ns("C0", 1), 7, 12),
+        (ns("C003", 2), 5, 23),
+        (asking(&long), 6, 204),
+        (ns("0000", 2), 11, 24),
+        (ns("C0", 1), 7, 23),
         ("00000000 00000000 00".to_string(), 8, 12),
         (asking("00") + "40", 8, 17),
     ];

@@ -82,7 +82,7 @@ fn towire_agrees_on_its_cases() {
     let cases = cases::towire();
     let expected: Vec<u8> = cases.iter().flat_map(|line| towire_answer(line)).collect();
     let input = cases.join(&b'\n');
-    assert!(cases.len() >= 4_000 && input.len() < 8_000_000);
+    assert!((100_000..250_000).contains(&cases.len()) && input.len() < 80_000_000);
     assert!(!cases[cases.len() - 1].is_empty());
     for largest in [1_000, 70_000] {
         assert!(run_towire(&input, largest) == expected);
@@ -103,7 +103,7 @@ fn numbers(answers: Vec<Vec<u8>>) -> Vec<u32> {
 #[test]
 fn some_cases_keep_every_kind_and_number() {
     let some = cases::some_towire(400);
-    assert!(some.len() >= 4_000 && some.join(&b'\n').len() < 5_000_000);
+    assert!(some.len() >= 4_000 && some.join(&b'\n').len() < 8_000_000);
     let groups = cases::towire_groups();
     assert_eq!(some.len(), groups.iter().map(|group| group.lines.len().min(400)).sum());
     for group in groups {
@@ -120,7 +120,7 @@ fn cases_hold_no_newline_and_meet_every_number() {
     let (totext, towire) = (cases::totext(), cases::towire());
     assert!(totext.iter().chain(&towire).all(|line| !line.contains(&b'\n')));
     let answers = totext.iter().map(|line| totext_answer(line)).collect();
-    assert_eq!(numbers(answers), [1, 4, 5, 6, 7, 8, 9, 10, 30, 31]);
+    assert_eq!(numbers(answers), [1, 4, 5, 6, 7, 8, 9, 10, 11, 30, 31]);
     let answers = towire.iter().map(|line| towire_answer(line)).collect();
     assert_eq!(numbers(answers), [20, 21, 22, 23, 31]);
 }
@@ -144,18 +144,18 @@ fn cases_meet_every_number_with_z() {
     for kind in [&b"{\"EDNS\":"[..], b"\"TYPE\":41,", b"\"RCODE\":\"BADVERS\"", b"\"RA\":1,\"Z\""] {
         assert!(accepted.iter().any(|text| holds(text, kind)));
     }
-    assert_eq!(numbers(answers), [1, 4, 5, 6, 7, 8, 9, 10]);
+    assert_eq!(numbers(answers), [1, 4, 5, 6, 7, 8, 9, 10, 11]);
     for lines in [cases::towire(), cases::some_towire(400)] {
-        let right: Vec<Vec<u8>> =
-            lines.iter().filter(|line| holds(line, b",\"Z\":1,\"AD\":")).cloned().collect();
+        let (right, others): (Vec<Vec<u8>>, Vec<Vec<u8>>) =
+            lines.into_iter().partition(|line| holds(line, b",\"Z\":1,\"AD\":"));
         let answers: Vec<Vec<u8>> = right.iter().map(|line| towire_answer(line)).collect();
         let accepted = answers.iter().filter(|line| !line.starts_with(b"refused"));
         assert!(accepted.clone().count() >= 300 && accepted.clone().all(|line| sets_z(&line[..8])));
         assert_eq!(numbers(answers), [20, 21, 22, 23, 31]);
         // Every other Z is wrong.
-        let wrong = lines.iter().filter(|line| holds(line, b"\"Z\":") && !right.contains(line));
+        let wrong = others.iter().filter(|line| holds(line, b"\"Z\":"));
         assert!(wrong.clone().count() >= 500);
-        assert!(wrong.clone().all(|line| towire_answer(line) == b"refused 20 at 0\n"));
+        assert!(wrong.clone().all(|line| towire_answer(line).starts_with(b"refused 20 at ")));
     }
 }
 
@@ -187,5 +187,10 @@ fn line_ends() {
     assert_eq!(run_towire(b"", 9), b"");
     assert_eq!(run_towire(b"\n", 9), b"refused 20 at 0\n");
     assert_eq!(run_towire(&[b'x'; 65_536], 999), b"refused 20 at 0\n");
+    assert_eq!(
+        run_towire(b"{\"ID\":x\n{\"ID\":\r\n{\n{", 9),
+        b"refused 20 at 6\n\
+        refused 20 at 6\nrefused 20 at 1\nrefused 20 at 1\n"
+    );
     assert_eq!(run_towire(&[b'x'; 65_537], 999), b"refused 31 at 0\n");
 }

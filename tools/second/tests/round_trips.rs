@@ -2,6 +2,7 @@
 
 use second::generate;
 use second::random::Random;
+use second::viable::longest_beginning;
 use second::{message_of, text_of, to_text, to_wire, uncompressed, Refusal};
 
 const MESSAGES: usize = 6_000;
@@ -15,9 +16,14 @@ fn message_saying(z: bool, message: &[u8]) -> Vec<u8> {
     message
 }
 
+/// The place of Z, if the text has the member behind it.
+fn place_of_z(text: &[u8]) -> Option<usize> {
+    text.windows(6).position(|part| part == b",\"AD\":")
+}
+
 /// The text with Z put into its place, if there is such a place.
 fn text_saying_z(text: &[u8]) -> Option<Vec<u8>> {
-    let place = text.windows(6).position(|part| part == b",\"AD\":")?;
+    let place = place_of_z(text)?;
     Some([&text[..place], b",\"Z\":1", &text[place..]].concat())
 }
 
@@ -83,7 +89,7 @@ fn damaged_messages_are_refused_or_go_there_and_back() {
         match text_of(&message) {
             Ok(_) => check_message(&message),
             Err(refusal) => {
-                assert!([1, 4, 5, 6, 7, 8, 9].contains(&refusal.number));
+                assert!([1, 4, 5, 6, 7, 8, 9, 11].contains(&refusal.number));
                 assert!(refusal.place <= message.len() as u64);
                 assert_eq!(uncompressed(&message), None);
             }
@@ -123,13 +129,30 @@ fn z_adds_its_bit_to_the_message_of_a_text() {
                 assert_eq!(message_of(&with_z), Ok(message_saying(true, &message)));
                 assert_eq!(message_saying(false, &message), message);
             }
-            Err(refusal) => {
+            Err(mut refusal) => {
                 refused += 1;
+                if refusal.number == 20 {
+                    refusal.place = place_with_z(&text, &with_z, refusal.place);
+                }
                 assert_eq!(message_of(&with_z), Err(refusal));
             }
         }
     }
     assert!(accepted > MESSAGES / 4 && refused > MESSAGES / 10);
+}
+
+/// Where 20 is if Z is put into a text that has it at `place`: the same octet,
+/// or where Z itself can't stand.
+fn place_with_z(text: &[u8], with_z: &[u8], place: u64) -> u64 {
+    let start = place_of_z(text).expect("Z was put there");
+    let end = start + b",\"Z\":1".len();
+    if place <= start as u64 {
+        place
+    } else if longest_beginning(&with_z[..end]) == end {
+        place + (end - start) as u64
+    } else {
+        longest_beginning(&with_z[..end]) as u64
+    }
 }
 
 #[test]
@@ -149,7 +172,8 @@ fn accepted_texts_come_back() {
             }
             Err(refusal) => {
                 assert!((20..=22).contains(&refusal.number));
-                assert_eq!(refusal.place, 0);
+                assert!(refusal.place <= text.len() as u64);
+                assert!(refusal.number == 20 || refusal.place == 0);
             }
         }
     }

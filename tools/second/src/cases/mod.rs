@@ -3,9 +3,13 @@
 
 mod build;
 mod totext;
+mod totext_places;
 mod towire;
+mod towire_places;
 
 use std::collections::HashSet;
+
+pub use towire_places::texts_with_every_member;
 
 /// The kind of the cases about RCODE 16, in both lists.
 const RCODE_16: &str = "RCODE 16";

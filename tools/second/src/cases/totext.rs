@@ -3,13 +3,13 @@
 use std::slice::from_ref;
 
 use super::build::*;
-use super::{Group, RCODE_16, Z_BIT};
+use super::{totext_places, Group, RCODE_16, Z_BIT};
 use crate::generate::{self, message_with_z};
 use crate::lines::hex_of_octets;
 use crate::random::Random;
 use crate::text_of;
 
-type Messages = Vec<Vec<u8>>;
+pub(super) type Messages = Vec<Vec<u8>>;
 type Lines = Vec<Vec<u8>>;
 
 pub fn groups() -> Vec<Group> {
@@ -46,15 +46,14 @@ pub fn groups() -> Vec<Group> {
         ("random messages", random_messages()),
         (Z_BIT, z_bit()),
     ];
-    let mut groups: Vec<Group> = of_messages
-        .into_iter()
-        .map(|(kind, messages)| Group {
-            kind,
-            lines: messages.iter().map(|message| hex_of_octets(message)).collect(),
-        })
-        .collect();
+    let group = |(kind, messages): (&'static str, Messages)| Group {
+        kind,
+        lines: messages.iter().map(|message| hex_of_octets(message)).collect(),
+    };
+    let mut groups: Vec<Group> = of_messages.into_iter().map(group).collect();
     groups.push(Group { kind: "hexadecimal", lines: hex_lines() });
     groups.push(Group { kind: "long lines", lines: long_lines() });
+    groups.extend(totext_places::kinds().into_iter().map(group));
     groups.push(Group { kind: "line ends", lines: line_ends() });
     groups
 }
@@ -88,7 +87,7 @@ fn truncations() -> Messages {
 }
 
 /// A message cut at every length, itself included.
-fn cuts(message: &[u8]) -> Messages {
+pub(super) fn cuts(message: &[u8]) -> Messages {
     (0..=message.len()).map(|length| message[..length].to_vec()).collect()
 }
 
@@ -113,7 +112,7 @@ fn pointer_targets() -> Messages {
 }
 
 /// Where the RDATA of the first of `answers` starts if its owner is the root.
-const FIRST_RDATA: usize = FIRST_ANSWER + 11;
+pub(super) const FIRST_RDATA: usize = FIRST_ANSWER + 11;
 
 /// A message whose first answer holds octets that two further records point into.
 fn pointing_into(octets: &[u8], offset: usize) -> Messages {

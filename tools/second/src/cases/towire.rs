@@ -3,20 +3,21 @@
 use std::collections::HashSet;
 
 use super::build::{message as wire_message, name_of, opt_record, rich_message, tsig_rdata};
-use super::{totext_groups, Group, RCODE_16, Z_BIT};
+use super::{totext_groups, totext_places, towire_places, Group, RCODE_16, Z_BIT};
 use crate::generate;
 use crate::lines::{hex_of_octets, octets_of_hex, LINE_TEXT};
 use crate::random::Random;
 use crate::text_of;
 
-type Texts = Vec<String>;
-type Lines = Vec<Vec<u8>>;
+pub(super) type Texts = Vec<String>;
+pub(super) type Lines = Vec<Vec<u8>>;
 
 pub fn groups() -> Vec<Group> {
-    // The texts of RCODE 16 and those with a Z are kinds of their own, so that a choice of cases
-    // keeps them all, and the same of the others as before.
-    let (of_rcode_16, others) = split_kind(totext_groups(), RCODE_16);
-    let (of_z_bit, others) = split_kind(others, Z_BIT);
+    // The texts of RCODE 16, those with a Z and those of the cases about places are kinds of
+    // their own, so that a choice of cases keeps the same of the others as before.
+    let (of_rcode_16, others) = split_kinds(totext_groups(), &[RCODE_16]);
+    let (of_z_bit, others) = split_kinds(others, &[Z_BIT]);
+    let (of_places, others) = split_kinds(others, &totext_places::KINDS);
     let (mut with_z, without_z): (Lines, Lines) =
         texts_of_cases(others).into_iter().partition(|text| has_z(text));
     with_z.extend(texts_of_cases(of_z_bit));
@@ -72,23 +73,26 @@ pub fn groups() -> Vec<Group> {
     groups.push(Group { kind: "octets in Z's name", lines: octets_in_z_name() });
     groups.push(Group { kind: "octets in Z's number", lines: octets_in_z_number() });
     groups.push(Group { kind: "random texts with Z", lines: random_texts_with_z() });
+    let kind = "texts of the totext cases about places";
+    groups.push(Group { kind, lines: texts_of_cases(of_places) });
+    groups.extend(towire_places::groups());
     groups.push(Group { kind: "line ends", lines: line_ends() });
     groups
 }
 
 /// The parts of a text that a case may set.
 #[derive(Clone)]
-struct Parts {
-    id: String,
-    rcode: String,
-    questions: Vec<String>,
-    answers: Vec<String>,
-    authority: Vec<String>,
-    additional: Vec<String>,
+pub(super) struct Parts {
+    pub id: String,
+    pub rcode: String,
+    pub questions: Vec<String>,
+    pub answers: Vec<String>,
+    pub authority: Vec<String>,
+    pub additional: Vec<String>,
 }
 
 impl Parts {
-    fn empty() -> Parts {
+    pub fn empty() -> Parts {
         Parts {
             id: "1".to_string(),
             rcode: "0".to_string(),
@@ -99,14 +103,14 @@ impl Parts {
         }
     }
 
-    fn text(&self) -> String {
+    pub fn text(&self) -> String {
         let arrays = [&self.questions, &self.answers, &self.authority, &self.additional];
         let counts = arrays.map(|array| array.len().to_string());
         self.text_saying(&counts)
     }
 
     /// The text with counts that may disagree with the arrays.
-    fn text_saying(&self, counts: &[String; 4]) -> String {
+    pub fn text_saying(&self, counts: &[String; 4]) -> String {
         let [qd, an, ns, ar] = counts;
         let Parts { id, rcode, .. } = self;
         let [questions, answers, authority, additional] =
@@ -121,36 +125,36 @@ impl Parts {
     }
 }
 
-fn question(name: &str) -> String {
+pub(super) fn question(name: &str) -> String {
     format!("{{\"NAME\":\"{name}\",\"TYPE\":1,\"CLASS\":1}}")
 }
 
-fn record(name: &str, rtype: &str, ttl: &str, hex: &str) -> String {
+pub(super) fn record(name: &str, rtype: &str, ttl: &str, hex: &str) -> String {
     format!(
         "{{\"NAME\":\"{name}\",\"TYPE\":{rtype},\"CLASS\":1,\"TTL\":{ttl},\"RDATAHEX\":\"{hex}\"}}"
     )
 }
 
 /// An EDNS element; each option begins with its comma.
-fn edns(rcode: &str, options: &str) -> String {
+pub(super) fn edns(rcode: &str, options: &str) -> String {
     format!(
         "{{\"EDNS\":{{\"Version\":0,\"FLAGS\":[],\"RCODE\":\"{rcode}\",\"UDPSIZE\":512{options}}}}}"
     )
 }
 
-fn asking(name: &str) -> String {
+pub(super) fn asking(name: &str) -> String {
     Parts { questions: vec![question(name)], ..Parts::empty() }.text()
 }
 
-fn answering(records: &[String]) -> String {
+pub(super) fn answering(records: &[String]) -> String {
     Parts { answers: records.to_vec(), ..Parts::empty() }.text()
 }
 
-fn adding(records: &[String]) -> String {
+pub(super) fn adding(records: &[String]) -> String {
     Parts { additional: records.to_vec(), ..Parts::empty() }.text()
 }
 
-fn with_options(options: &str) -> String {
+pub(super) fn with_options(options: &str) -> String {
     adding(&[edns("NoError", options)])
 }
 
@@ -162,9 +166,9 @@ fn rich_text() -> Vec<u8> {
     text_of(&rich_message()).expect("the rich message is right")
 }
 
-/// The groups of one kind, and the others.
-fn split_kind(groups: Vec<Group>, kind: &str) -> (Vec<Group>, Vec<Group>) {
-    groups.into_iter().partition(|group| group.kind == kind)
+/// The groups of these kinds, and the others.
+fn split_kinds(groups: Vec<Group>, kinds: &[&str]) -> (Vec<Group>, Vec<Group>) {
+    groups.into_iter().partition(|group| kinds.contains(&group.kind))
 }
 
 /// Whether the text of a message has a Z. No string of a text holds these octets.
@@ -509,7 +513,7 @@ fn spelled_escapes() -> Texts {
 }
 
 /// All strings of 1 to `longest` signs.
-fn all_strings(signs: &str, longest: usize) -> Texts {
+pub(super) fn all_strings(signs: &str, longest: usize) -> Texts {
     let mut all = Vec::new();
     let mut last = vec![String::new()];
     for _ in 0..longest {
@@ -1198,16 +1202,16 @@ const OUTER_MARKS: [&str; 18] = [
 ];
 
 /// Puts octets behind the number of RA, the place of Z.
-fn behind_ra(text: &str, put: &str) -> String {
+pub(super) fn behind_ra(text: &str, put: &str) -> String {
     replaced(text, ",\"AD\":", &format!("{put},\"AD\":"))
 }
 
-fn with_z(text: &str) -> String {
+pub(super) fn with_z(text: &str) -> String {
     behind_ra(text, Z)
 }
 
 /// The text with something else in the place of the first such part.
-fn replaced(text: &str, from: &str, to: &str) -> String {
+pub(super) fn replaced(text: &str, from: &str, to: &str) -> String {
     assert!(text.contains(from), "{from}");
     text.replacen(from, to, 1)
 }
@@ -1229,7 +1233,7 @@ fn between_ra_and_ad(ra: &str, between: &str, ad: &str) -> String {
 const BITS: [&str; 7] = ["QR", "AA", "TC", "RD", "RA", "AD", "CD"];
 
 /// An empty text with some of the bits set.
-fn with_bits(is_set: impl Fn(&str) -> bool) -> String {
+pub(super) fn with_bits(is_set: impl Fn(&str) -> bool) -> String {
     let set = |text: String, bit: &&str| {
         replaced(&text, &format!("\"{bit}\":0"), &format!("\"{bit}\":1"))
     };

@@ -12,11 +12,17 @@ const OPTION_CODES: [u16; 22] =
     [0, 1, 2, 3, 4, 5, 6, 7, 8, 9, 10, 11, 12, 13, 14, 15, 16, 20, 26_946, 65_001, 65_534, 65_535];
 
 /// A message of at most 4,096 octets: mostly a valid one, else a damaged one.
-/// One in four has Z set, which is decided aside: the others are what the same
-/// seed gave while Z was refused.
+/// One in four has Z set, and one in twelve is one whose RDATA misses its
+/// layout. Both are decided aside: the others are what the same seed gave
+/// before there were such.
 pub fn message(random: &mut Random) -> Vec<u8> {
-    let z = random.aside().one_in(4);
-    let message = if random.below(5) < 3 { valid_message(random) } else { damaged_message(random) };
+    let mut aside = random.aside();
+    let z = aside.one_in(4);
+    let mut message =
+        if random.below(5) < 3 { valid_message(random) } else { damaged_message(random) };
+    if aside.one_in(12) {
+        message = misfit_message(&mut aside);
+    }
     if z {
         message_with_z(message)
     } else {
@@ -52,6 +58,31 @@ pub fn damaged_message(random: &mut Random) -> Vec<u8> {
     }
     octets.truncate(LINE_MESSAGE);
     octets
+}
+
+/// A message of at most 4,096 octets in which the RDATA of a listed TYPE ends
+/// early or has octets left over. Some are accepted or have another fault.
+pub fn misfit_message(random: &mut Random) -> Vec<u8> {
+    loop {
+        let mut maker = Maker::new(random);
+        maker.make_message();
+        let Maker { mut octets, layouts, .. } = maker;
+        if layouts.is_empty() || octets.len() + 4 > LINE_MESSAGE {
+            continue;
+        }
+        let (start, end) = *random.pick(&layouts);
+        let part = if random.one_in(2) {
+            let count = random.between(1, 4);
+            random.octets(count)
+        } else {
+            Vec::new()
+        };
+        let first = if part.is_empty() { random.between(start, end - 1) } else { end };
+        let length = first - start + part.len();
+        octets.splice(first..end, part);
+        octets[start - 2..start].copy_from_slice(&(length as u16).to_be_bytes());
+        return octets;
+    }
 }
 
 /// A valid message of about `size` octets, for sizes up to 60,000, with Z clear.
@@ -98,12 +129,15 @@ struct Maker<'r> {
     random: &'r mut Random,
     octets: Vec<u8>,
     targets: Vec<Target>,
+    /// Where the RDATA of listed TYPEs starts and ends, but for empty RDATA.
+    layouts: Vec<(usize, usize)>,
     pointers: bool,
 }
 
 impl<'r> Maker<'r> {
     fn new(random: &'r mut Random) -> Maker<'r> {
-        Maker { random, octets: Vec::new(), targets: Vec::new(), pointers: true }
+        let (octets, targets, layouts) = (Vec::new(), Vec::new(), Vec::new());
+        Maker { random, octets, targets, layouts, pointers: true }
     }
 
     fn make_message(&mut self) {
@@ -232,11 +266,13 @@ impl<'r> Maker<'r> {
             self.put_unlisted_rdata(rtype);
             return;
         };
+        let start = self.octets.len();
         self.put_random(layout.octets_before);
         for _ in 0..layout.names {
             self.put_name();
         }
         self.put_random(layout.octets_after);
+        self.layouts.push((start, self.octets.len()));
     }
 
     fn put_unlisted_rdata(&mut self, rtype: u16) {

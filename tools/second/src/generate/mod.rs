@@ -4,5 +4,10 @@ mod damage;
 mod messages;
 mod texts;
 
-pub use messages::{damaged_message, message, message_of_size, message_with_z, valid_message};
-pub use texts::{damaged_text, drafted_text, harmed_text, text, text_about_z, valid_text, RCODES};
+pub use messages::{
+    damaged_message, message, message_of_size, message_with_z, misfit_message, valid_message,
+};
+pub use texts::{
+    damaged_text, drafted_text, harmed_text, text, text_about_z, text_harmed_late, valid_text,
+    RCODES,
+};

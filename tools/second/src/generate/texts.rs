@@ -8,8 +8,9 @@ use crate::random::Random;
 use crate::text_of;
 
 /// A text of at most 65,536 octets, without a newline in it. One in four has
-/// a Z, right or wrong, which is decided aside: the others are what the same
-/// seed gave while no text had a Z.
+/// a Z, right or wrong, and one in four of the others has a harm done to one of
+/// its last objects. Both are decided aside: the rest is what the same seed gave
+/// before there were such.
 pub fn text(random: &mut Random) -> Vec<u8> {
     let mut aside = random.aside();
     let text = match random.below(5) {
@@ -19,9 +20,25 @@ pub fn text(random: &mut Random) -> Vec<u8> {
     };
     if aside.one_in(4) {
         text_about_z(&mut aside, text)
+    } else if aside.one_in(4) {
+        text_harmed_late(&mut aside, text)
     } else {
         text
     }
+}
+
+/// The text with a harm done inside its EDNS object or, if it has none, inside
+/// its last question or record or what stands behind it.
+pub fn text_harmed_late(random: &mut Random, mut text: Vec<u8>) -> Vec<u8> {
+    let last = |mark: &str| text.windows(mark.len()).rposition(|part| part == mark.as_bytes());
+    let Some(start) = last("{\"EDNS\":").or_else(|| last("{\"NAME\":")) else {
+        return text;
+    };
+    let mut part = text.split_off(start);
+    harm(&mut part, random, text_octet);
+    text.extend(part);
+    text.truncate(LINE_TEXT);
+    text
 }
 
 /// The member of a Z that is set, with the comma before it.
