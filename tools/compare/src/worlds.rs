@@ -1,6 +1,7 @@
 //! Small worlds, every message or text of which is compared: tails over a few octets at every cut, every pointer target
-//! against short messages, every label of one or two octets, every RCODE, every name of one with its neighbours, all
-//! flags of the header, and what may be mistaken for Z.
+//! against short messages, every label of one or two octets, RDATA of every listed type over a few octets, every RCODE,
+//! every name of one with its neighbours, all flags of the header, what may be mistaken for Z, for a name and for a TTL,
+//! and every octet at every place of a dozen texts.
 
 use crate::checks::{agree, agree_on_text, words};
 use crate::proved;
@@ -59,7 +60,10 @@ pub fn every_target() -> Result<usize, String> {
                 (proved::to_text(&pool[..length], &mut text), text)
             });
             if first != second {
-                return Err(format!("{message:02X?}: {:?} and {:?} with different leftovers", first.0, second.0));
+                return Err(format!(
+                    "{message:02X?}: {:?} and {:?} with different leftovers",
+                    first.0, second.0
+                ));
             }
             compared += 1;
         }
@@ -78,6 +82,34 @@ pub fn every_label() -> Result<usize, String> {
     Ok(compared)
 }
 
+/// The types whose RDATA has names.
+const LISTED: [u8; 11] = [2, 3, 4, 5, 6, 7, 8, 9, 12, 14, 15];
+
+/// A record of every listed type with every RDATA of up to four octets over a few, of which RDLENGTH counts all, one
+/// less, or one more; for SOA twenty octets follow the first two.
+pub fn every_rdata() -> Result<usize, String> {
+    let mut compared = 0;
+    for rtype in LISTED {
+        for word in words(&ALPHABET, 4) {
+            let mut rdata = word;
+            if rtype == 6 {
+                let names = rdata.len().min(2);
+                rdata.splice(names..names, [0x55; 20]);
+            }
+            let length = rdata.len() as u16;
+            for rdlength in [length, length.saturating_sub(1), length + 1] {
+                let fields = [0, 0, rtype, 0, 1, 0, 0, 0, 0];
+                agree(
+                    &[&header(0, 1)[..], &fields, &rdlength.to_be_bytes(), &rdata].concat(),
+                    &LEFTOVERS,
+                )?;
+                compared += 1;
+            }
+        }
+    }
+    Ok(compared)
+}
+
 /// An accepted message: in a buffer with room to spare, in one of the text's length, and in one an octet shorter.
 fn in_three_rooms(message: &[u8]) -> Result<usize, String> {
     let length = text_of(message)?.len();
@@ -89,7 +121,8 @@ fn in_three_rooms(message: &[u8]) -> Result<usize, String> {
 }
 
 fn text_of(message: &[u8]) -> Result<String, String> {
-    let text = second::text_of(message).map_err(|refusal| format!("{message:02X?}: {refusal:?}"))?;
+    let text =
+        second::text_of(message).map_err(|refusal| format!("{message:02X?}: {refusal:?}"))?;
     String::from_utf8(text).map_err(|fault| format!("{message:02X?}: {fault}"))
 }
 
@@ -118,12 +151,17 @@ pub fn every_rcode() -> Result<usize, String> {
 /// belongs to it, cut short at each place, with each octet in place of one of its own, and with each octet inserted.
 pub fn every_rcode_name() -> Result<usize, String> {
     let text = text_of(&extended(0, 0))?;
-    let (start, end) = text.split_once("NoError").ok_or("the text of RCODE 0 has another name")?;
+    let (start, end) = text
+        .split_once("NoError")
+        .ok_or("the text of RCODE 0 has another name")?;
     let mut compared = 0;
     let mut compare = |rcode: u64, name: &[u8]| {
         let start = start.replacen("\"RCODE\":0", &format!("\"RCODE\":{rcode}"), 1);
         compared += 1;
-        agree_on_text(&[start.as_bytes(), name, end.as_bytes()].concat(), &LEFTOVERS)
+        agree_on_text(
+            &[start.as_bytes(), name, end.as_bytes()].concat(),
+            &LEFTOVERS,
+        )
     };
     for (name, number) in generate::RCODES.into_iter().chain([("BADSIG", 16)]) {
         for rcode in 0..=16 {
@@ -169,6 +207,48 @@ pub fn every_z() -> Result<usize, String> {
         for word in words(b",\"Z:10", 6) {
             agree_on_text(&[before, &word, after].concat(), &LEFTOVERS)?;
             compared += 1;
+        }
+    }
+    Ok(compared)
+}
+
+/// Every word of up to six octets over those that names are made of, in the place of a question's name; and every word
+/// of up to five over those of a TTL, in the place of a record's TTL.
+pub fn every_name_and_ttl() -> Result<usize, String> {
+    let question = [&header(1, 0)[..], &[0, 0, 1, 0, 1]].concat();
+    let record = [&header(0, 1)[..], &[0, 0, 1, 0, 1, 0, 0, 0, 7, 0, 0]].concat();
+    let mut compared = 0;
+    for (message, value, octets, most) in [
+        (question, "\".\"", &b"\"\\.0a2"[..], 6),
+        (record, "7", &b"\"0-1,"[..], 5),
+    ] {
+        let text = text_of(&message)?;
+        let (before, after) = text
+            .rsplit_once(&format!(":{value},"))
+            .ok_or("the text has no such value")?;
+        for word in words(octets, most) {
+            agree_on_text(
+                &[before.as_bytes(), b":", &word, b",", after.as_bytes()].concat(),
+                &LEFTOVERS,
+            )?;
+            compared += 1;
+        }
+    }
+    Ok(compared)
+}
+
+/// A dozen texts that use every member, with each octet in turn replaced by every other.
+pub fn every_octet() -> Result<usize, String> {
+    let mut compared = 0;
+    for mut text in second::cases::texts_with_every_member() {
+        for place in 0..text.len() {
+            let own = text[place];
+            for octet in 0..=255 {
+                text[place] = octet;
+                agree_on_text(&text, &LEFTOVERS)?;
+                compared += 1;
+            }
+            text[place] = own;
         }
     }
     Ok(compared)
