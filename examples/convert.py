@@ -12,7 +12,7 @@ import ctypes
 import os
 import sys
 
-FORMAT = 3  # of the texts, numbers and places that this program was written for
+FORMAT = 4  # of the texts, numbers and places that this program was written for
 LONGEST_TEXT = 655750
 LONGEST_MESSAGE = 65535
 REASONS = {
@@ -21,10 +21,11 @@ REASONS = {
     4: "a length octet has the top bits 01 or 10",
     5: "a compression pointer goes forward, into the header, or to its own run of labels",
     6: "a name has more than 255 octets uncompressed",
-    7: "RDATA does not fit the layout of its TYPE",
+    7: "RDATA ends inside the layout of its TYPE",
     8: "octets follow the last record",
     9: "the message has more than 65,535 octets with its names uncompressed",
     10: "the text is longer than the buffer",
+    11: "RDATA has octets after the layout of its TYPE",
     20: "the text is not within the grammar",
     21: "no message has this text",
     22: "RDATA, an option's value or the message would have more than 65,535 octets",

@@ -26,29 +26,32 @@ extern "C" {
 #endif
 
 /* The library's version, as a string and as major * 10000 + minor * 100 + patch. */
-#define VELVETSHELF_VERSION "1.2.0"
-#define VELVETSHELF_VERSION_NUMBER 10200
+#define VELVETSHELF_VERSION "1.3.0"
+#define VELVETSHELF_VERSION_NUMBER 10300
 
 /* The format's version. It increases with every change to a text, or to a refusal's number or place. */
-#define VELVETSHELF_FORMAT 3
+#define VELVETSHELF_FORMAT 4
 
 /* What is returned. */
 enum {
     VELVETSHELF_SUCCESS = 0,
 
-    /* message to text; E is the offset of the question or record being read, 0 in the header */
-    VELVETSHELF_CUT = 1,                /* fewer than 12 octets, or a field, label or RDATA runs past the end; at E */
+    /* message to text; the place is an offset in the message, at most its length */
+    VELVETSHELF_CUT = 1,                /* fewer than 12 octets, at 0; or a field, label or RDATA runs past the end, at
+                                           the field's first octet, the label's length octet, RDATA's first octet */
     VELVETSHELF_MESSAGE_TOO_LONG = 2,   /* message of more than 65,535 octets; at 0 */
-    VELVETSHELF_LENGTH_OCTET = 4,       /* length octet with top bits 01 or 10; at E */
-    VELVETSHELF_POINTER = 5,            /* pointer target not allowed; at E */
-    VELVETSHELF_NAME_TOO_LONG = 6,      /* name of more than 255 octets; at E */
-    VELVETSHELF_RDATA_LAYOUT = 7,       /* RDATA of a listed type doesn't fit its layout; at E */
+    VELVETSHELF_LENGTH_OCTET = 4,       /* length octet with top bits 01 or 10; at that octet */
+    VELVETSHELF_POINTER = 5,            /* pointer target not allowed; at the pointer's first octet */
+    VELVETSHELF_NAME_TOO_LONG = 6,      /* name of more than 255 octets; at the length octet of the label too many */
+    VELVETSHELF_RDATA_LAYOUT = 7,       /* RDATA of a listed type ends inside its layout; at RDATA's first octet */
     VELVETSHELF_TRAILING = 8,           /* octets after the last record; at the first of them */
     VELVETSHELF_FORM_TOO_LONG = 9,      /* uncompressed form of more than 65,535 octets; at 0 */
     VELVETSHELF_TEXT_BUFFER = 10,       /* text longer than the buffer; at 0 */
+    VELVETSHELF_RDATA_LEFT = 11,        /* RDATA of a listed type has octets after its layout; at the first of them */
 
-    /* text to message; the place is always 0 */
-    VELVETSHELF_GRAMMAR = 20,           /* not within the grammar */
+    /* text to message; the place of 20 is an offset in the text, at most its length, all others are at 0 */
+    VELVETSHELF_GRAMMAR = 20,           /* not within the grammar; at the first octet that no text in the grammar has
+                                           there, or at the text's length if it is a proper beginning of one */
     VELVETSHELF_MEANING = 21,           /* no message has this text */
     VELVETSHELF_SIZE = 22,              /* RDATA, an option's value or the message has more than 65,535 octets */
     VELVETSHELF_MESSAGE_BUFFER = 23     /* message longer than the buffer */
@@ -97,13 +100,15 @@ static inline const char *velvetshelf_reason(uint32_t number)
     case VELVETSHELF_NAME_TOO_LONG:
         return "a name has more than 255 octets uncompressed";
     case VELVETSHELF_RDATA_LAYOUT:
-        return "RDATA does not fit the layout of its TYPE";
+        return "RDATA ends inside the layout of its TYPE";
     case VELVETSHELF_TRAILING:
         return "octets follow the last record";
     case VELVETSHELF_FORM_TOO_LONG:
         return "the message has more than 65,535 octets with its names uncompressed";
     case VELVETSHELF_TEXT_BUFFER:
         return "the text is longer than the buffer";
+    case VELVETSHELF_RDATA_LEFT:
+        return "RDATA has octets after the layout of its TYPE";
     case VELVETSHELF_GRAMMAR:
         return "the text is not within the grammar";
     case VELVETSHELF_MEANING:
