@@ -37,21 +37,23 @@ enum {
     VELVETSHELF_SUCCESS = 0,
 
     /* message to text; the place is an offset in the message, at most its length */
-    VELVETSHELF_CUT = 1,                /* fewer than 12 octets, at 0; or a field, label or RDATA runs past the end, at
-                                           the field's first octet, the label's length octet, RDATA's first octet */
+    VELVETSHELF_CUT = 1,                /* fewer than 12 octets, at 0; or a field, label, pointer or RDATA runs past the
+                                           end, at the first octet of the field, pointer or RDATA, or at the label's
+                                           length octet */
     VELVETSHELF_MESSAGE_TOO_LONG = 2,   /* message of more than 65,535 octets; at 0 */
     VELVETSHELF_LENGTH_OCTET = 4,       /* length octet with top bits 01 or 10; at that octet */
     VELVETSHELF_POINTER = 5,            /* pointer target not allowed; at the pointer's first octet */
-    VELVETSHELF_NAME_TOO_LONG = 6,      /* name of more than 255 octets; at the length octet of the label too many */
+    VELVETSHELF_NAME_TOO_LONG = 6,      /* name of more than 255 octets; at the length octet of the label that makes
+                                           it too long */
     VELVETSHELF_RDATA_LAYOUT = 7,       /* RDATA of a listed type ends inside its layout; at RDATA's first octet */
     VELVETSHELF_TRAILING = 8,           /* octets after the last record; at the first of them */
     VELVETSHELF_FORM_TOO_LONG = 9,      /* uncompressed form of more than 65,535 octets; at 0 */
     VELVETSHELF_TEXT_BUFFER = 10,       /* text longer than the buffer; at 0 */
     VELVETSHELF_RDATA_LEFT = 11,        /* RDATA of a listed type has octets after its layout; at the first of them */
 
-    /* text to message; the place of 20 is an offset in the text, at most its length, all others are at 0 */
+    /* text to message; the place of 20 is an offset in the input, at most its length; all others are at 0 */
     VELVETSHELF_GRAMMAR = 20,           /* not within the grammar; at the first octet that no text in the grammar has
-                                           there, or at the text's length if it is a proper beginning of one */
+                                           there, or at the input's length if it is only the beginning of a text */
     VELVETSHELF_MEANING = 21,           /* no message has this text */
     VELVETSHELF_SIZE = 22,              /* RDATA, an option's value or the message has more than 65,535 octets */
     VELVETSHELF_MESSAGE_BUFFER = 23     /* message longer than the buffer */

@@ -1,7 +1,6 @@
 -- What is promised, each demand in words and symbols; every proof is one citation. FrontPage/Words.antt has the words.
 -- `Converts c` is what `to_text::convert` and `velvetshelf_to_text` ensure of a call c, `Reads c` what `to_wire::read`
--- and `velvetshelf_to_wire` ensure. None of the four has a `requires`: every message, text and buffer of every length
--- gets an answer, and nothing undefined happens.
+-- and `velvetshelf_to_wire` do. None has a `requires`: every input gets an answer, and nothing undefined happens.
 use Rattle.demands.specs.Examples.{Example, examples, examples-hold}
 use Rattle.demands.specs.Converter as converter
 use Rattle.demands.specs.Reader as reader
@@ -27,9 +26,10 @@ pub stays : (c : Call) → Made c → drop (reported (reply c)) (c .after) ≡ d
 stays = both.stays
 
 -- Demand 2. Success exactly for an accepted message, given room: its text is written and its length reported. A refusal
--- exactly when `decode` says so; 10 exactly without room. VELVETSHELF_LONGEST_TEXT octets are enough. The place of 1,
--- 4, 5 and 6 is the octet at fault: the length octet, the pointer's first octet, the first octet of the field that
--- doesn't fit (`Fault`, `walk`, `recordAt`); that of 7 is RDATA's first octet, of 11 and 8 the first octet left over.
+-- exactly when `decode` says so; 10 exactly without room. VELVETSHELF_LONGEST_TEXT octets are enough. Places: 1, 4, 5
+-- and 6 at the octet at fault: the length octet, the pointer's first octet, the first octet of the field that doesn't
+-- fit, or the message's end if nothing of it is there; 7 at RDATA's first octet; 11 and 8 at the first octet left over;
+-- under 12 octets, and all else, at 0.
 module _ (c : Call) (made : Converts c) where
   pub text-success : (n : ℕ) → (reply c ≡ success n) ↔ ((m : Message) × Accepts c m × Length c n (text m))
   text-success = converter.accepts c made

@@ -63,7 +63,7 @@ pub front-none : (s : List ℕ) → front s ≡ none → s ≡ []
 front-none [] e = refl
 front-none (x ∷ s) e = absurd (Option·none-ne-some x (sym e))
 
-pub strip-sees : (l t : List ℕ) → Strips l t (strip l t)
+strip-sees : (l t : List ℕ) → Strips l t (strip l t)
 strip-sees [] t = strips refl
 strip-sees (x ∷ l) [] = halts [] (x ∷ l) refl refl (λ s e. rw (front-none s e))
 strip-sees (x ∷ l) (y ∷ t) = go (eqb x y) refl (strip-sees l t)
@@ -241,9 +241,9 @@ further : (b : Bool) (P : List ℕ → Type 0) (u v : List ℕ) → P u → P v 
 further true P u v x y = y
 further false P u v x y = x
 
-apart-at : (b : Bool) (u v w x : List ℕ) {t : List ℕ} → u ++ w ≡ t → v ++ x ≡ t → cond b v u ++ cond b x w ≡ t
-apart-at true u v w x d e = e
-apart-at false u v w x d e = d
+whole-at : (b : Bool) (u v w x : List ℕ) {t : List ℕ} → u ++ w ≡ t → v ++ x ≡ t → cond b v u ++ cond b x w ≡ t
+whole-at true u v w x d e = e
+whole-at false u v w x d e = d
 
 module _ {A B : Type 0} {I : A → Type 0} {f : A → List ℕ} {J : B → Type 0} {g : B → List ℕ} {p : List ℕ
     → Parsed A} {q : List ℕ → Parsed B} where
@@ -275,7 +275,7 @@ module _ {A B : Type 0} {I : A → Type 0} {f : A → List ℕ} {J : B → Type 
           (further far (Viable (Either I J) (eitherText f g)) u v
           (viable (inl (b .value)) (b .rest) (b .in-range) (b .same))
           (viable (inr (d .value)) (d .rest) (d .in-range) (d .same)))
-          (apart-at far u v w x e j)
+          (whole-at far u v w x e j)
           (or-stops left right u v w x (e ∙ sym j) (λ s m. rw (c s m)) (λ s m. rw (n s m)) far refl)
 
 -- ---- a list up to an octet
@@ -293,7 +293,7 @@ stop-past stop c e q (x ∷ t) n = rw (is-false (eqb stop x) (other (eqb stop x)
 module _ {A C : Type 0} {K : A → Type 0} {h : A → List ℕ} {J : C → Type 0} {g : C → List ℕ} {q : List ℕ → Parsed C}
     (stop : ℕ) (c : A) (e : C → A) (i : K c) (d : h c ≡ stop ∷ [])
     (same : (b : C) → J b → K (e b) × (h (e b) ≡ g b)) where
-  pub sees-stop : (t : List ℕ) → Sees J g q t (q t) → Sees K h (stopOr stop c e q) t (stopOr stop c e q t)
+  sees-stop : (t : List ℕ) → Sees J g q t (q t) → Sees K h (stopOr stop c e q) t (stopOr stop c e q t)
   sees-stop t k = go t k
     where
       next : {t : List ℕ} {x : Parsed C} → (front t ≡ some stop → ⊥) → Sees J g q t x
@@ -321,7 +321,7 @@ module _ {A C : Type 0} {K : A → Type 0} {h : A → List ℕ} {J : C → Type 
           by false z = next (λ v. eqb-false stop x z (sym (Option·some-injective x stop v))) k
 
 -- a parser that answers the same
-pub sees-same : {A : Type 0} {I : A → Type 0} {f : A → List ℕ} {p q : List ℕ → Parsed A} {t : List ℕ} {x : Parsed A}
+sees-same : {A : Type 0} {I : A → Type 0} {f : A → List ℕ} {p q : List ℕ → Parsed A} {t : List ℕ} {x : Parsed A}
     → ((t : List ℕ) → q t ≡ p t) → Sees I f p t x → Sees I f q t x
 sees-same {f = f} e (takes {a = a} i d c) = takes i d (λ s k. e (f a ++ s) ∙ c s k)
 sees-same e (stops u b d c) = stops u b d (λ s k. e (u ++ s) ∙ c s k)
@@ -429,8 +429,8 @@ tried-tries [] d t = halts [] (inl refl) refl (λ s e. refl)
 tried-tries (row ∷ rows) d t = go (strip-sees (ascii (row .1)) t)
     (tried-tries rows (and-right (all (differs? row) rows) (distinct rows) d) t)
   where
-    front? : T (all (differs? row) rows)
-    front? = and-left (all (differs? row) rows) (distinct rows) d
+    differ : T (all (differs? row) rows)
+    differ = and-left (all (differs? row) rows) (distinct rows) d
 
     B : List ℕ → Type 0
     B u = (u ≡ []) ⊎ Viable (Row (row ∷ rows)) (λ n. rowText n (row ∷ rows)) u
@@ -440,7 +440,7 @@ tried-tries (row ∷ rows) d t = go (strip-sees (ascii (row .1)) t)
 
     later : {u : List ℕ} → ((u ≡ []) ⊎ Viable (Row rows) (λ n. rowText n rows) u) → B u
     later (inl e) = inl e
-    later (inr b) = let (k, e) = row-later row rows (b .value) front? (b .in-range) in
+    later (inr b) = let (k, e) = row-later row rows (b .value) differ (b .in-range) in
         inr (viable (b .value) (b .rest) k (e ∙ b .same))
 
     first : List ℕ → Parsed ℕ
@@ -449,11 +449,11 @@ tried-tries (row ∷ rows) d t = go (strip-sees (ascii (row .1)) t)
     go : {x : Parsed (Unit {0})} {y : Parsed ℕ} → Strips (ascii (row .1)) t x → Tries rows t y
         → Tries (row ∷ rows) t (or-else (and-then x λ u r. parsed (row .0) r) y)
     go (strips {r = r} e) y = tries (row-first row rows .0) (ap (λ l. l ++ r) (row-first row rows .1) ∙ e)
-    go (halts u v e f c) (tries {n = n} {r = r} k z) = let (j, m) = row-later row rows n front? k in
+    go (halts u v e f c) (tries {n = n} {r = r} k z) = let (j, m) = row-later row rows n differ k in
         tries j (ap (λ l. l ++ r) m ∙ z)
     go (halts {w = w} u v e f c) (halts {w = x} y b z n) =
         let far = ltb (length x) (length w) in
-        halts (cond far y u) (further far B u y (one u v e) (later b)) (apart-at far u y w x f z)
+        halts (cond far y u) (further far B u y (one u v e) (later b)) (whole-at far u y w x f z)
         (or-stops first (tableParser rows) u y w x (f ∙ sym z) (λ s k. rw (c s k)) n far refl)
 
 pub ahead-table : (row : ℕ × String) (rows : List (ℕ × String)) → T (distinct (row ∷ rows))
@@ -582,7 +582,7 @@ abbrev insideText : {A : Type 0} → (A → List ℕ) → List A → List ℕ
 insideText f [] = 93 ∷ []
 insideText f (a ∷ l) = f a ++ ended (λ b. 44 ∷ f b) 93 l
 
-pub ahead-stop : {A C : Type 0} {K : A → Type 0} {h : A → List ℕ} {J : C → Type 0} {g : C → List ℕ} {q : List ℕ
+ahead-stop : {A C : Type 0} {K : A → Type 0} {h : A → List ℕ} {J : C → Type 0} {g : C → List ℕ} {q : List ℕ
     → Parsed C} (stop : ℕ) (c : A) (e : C → A) → K c → h c ≡ stop ∷ []
     → ((b : C) → J b → K (e b) × (h (e b) ≡ g b)) → OneAhead J g q → OneAhead K h (stopOr stop c e q)
 ahead-stop stop c e i d same k = record {

@@ -1,7 +1,7 @@
 -- The parsers of numbers and hexadecimal have a look-ahead of one octet.
 use mathlib.Core.Path.{_≡_, refl, sym, _∙_, ap}
 use mathlib.Core.Bool.{Bool, true, false}
-use mathlib.Core.Option.{Option, some, Option·some-injective, Option·none-ne-some}
+use mathlib.Core.Option.{some, Option·some-injective, Option·none-ne-some}
 use mathlib.Core.List.{List, [], _∷_, _++_}
 use Prim.Native.Nat.{ℕ, _+_, _-_, _*_, _/_, _%_, _<_}
 use native.Mathlib.Omega.{arith}
@@ -19,7 +19,7 @@ use Rattle.octets.proofs.LookAhead.{StopsAt, ahead-lit, ahead-pair, ahe
 
 -- a parser of texts that end by themselves, which stops at the first octet or not at all
 module _ {A : Type 0} {I : A → Type 0} {f : A → List ℕ} where
-  pub ahead-first : (p : Codec I f Any) (a : A) → I a → ((t w : List ℕ) → p .parse t ≡ failed w
+  ahead-first : (p : Codec I f Any) (a : A) → I a → ((t w : List ℕ) → p .parse t ≡ failed w
       → (w ≡ t) × StopsAt (p .parse) [] t) → OneAhead I f (p .parse)
   ahead-first p a i at-first = record { value = a; in-range = i; sees = λ t. go t (p .parse t) refl (p .sound t) }
     where
@@ -45,10 +45,10 @@ unhex-first (c ∷ t) w e = go (digit? c) (capital? c) refl refl
     go false true p q = absurd (parsed≢failed (rw (p, unhex, q) at e))
     go false false p q = let d : failed (c ∷ t) ≡ failed w = rw (p, unhex, q) at e in (cc, λ s k. none-there p q s k)
 
-pub ahead-digit : OneAhead (λ n. n < 16) (λ n. hexDigit n ∷ []) unhex
+ahead-digit : OneAhead (λ n. n < 16) (λ n. hexDigit n ∷ []) unhex
 ahead-digit = ahead-first digitCodec 0 (omega arith) unhex-first
 
-pub ahead-octet : OneAhead (λ x. x < 256) hexOctet (octetCodec .parse)
+ahead-octet : OneAhead (λ x. x < 256) hexOctet (octetCodec .parse)
 ahead-octet = ahead-on (λ t. t .0 * 16 + t .1) halves (ahead-pair ahead-digit (λ a i. ahead-digit))
   where
     halves : (t : ℕ × ℕ) → (t .0 < 16) × (t .1 < 16) → (t .0 * 16 + t .1 < 256)

@@ -130,7 +130,8 @@ boundaries =
     ∷ record { message = answers 14 3 (hexed "000000"); gives = refuses 11 25 }
     ∷ record { message = answers 14 5 (hexed "016100C017"); gives = taken }
     ∷ record { message = answers 14 4 (hexed "C00C016100"); gives = refuses 7 23 }
-    -- SOA with 19 and with 21 octets: a fault in a name comes first
+    -- SOA: a fault in its first name, before 20 octets that are not all there; an octet left over after a name with a
+    -- pointer; a fault in its second name, before an octet left over
     ∷ record { message = answers 6 21 (hexed "C017" ++ replicate 19 0); gives = refuses 5 23 }
     ∷ record { message = answers 6 24 (hexed "00C017" ++ replicate 21 0); gives = refuses 11 46 }
     ∷ record { message = answers 6 24 (hexed "00C018" ++ replicate 21 0); gives = refuses 5 24 }

@@ -1,5 +1,5 @@
--- Texts at the limits of the reader's rules, one row each, and one theorem over the table. Stops.antt has the rows of
--- 20 with their places.
+-- Texts at the limits of the reader's rules, one row each, and one theorem over the table. Stops.antt has the
+-- other rows of 20.
 use mathlib.Core.Path.{_≡_, refl}
 use mathlib.Core.List.{List, [], _∷_, map}
 use Prim.Native.Nat.{ℕ}

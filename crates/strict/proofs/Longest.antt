@@ -5,7 +5,7 @@ use mathlib.Core.Logic.{_⊎_, inl, inr}
 use mathlib.Core.Bool.{Bool, true, false, not, cond, _||_}
 use mathlib.Core.Option.{Option, none, some}
 use mathlib.Core.List.{List, [], _∷_, _++_, map, append-assoc, append-nil, nil≢cons}
-use Prim.Native.Nat.{ℕ, _+_, _-_, _<_, _≤_}
+use Prim.Native.Nat.{ℕ, _+_, _<_, _≤_}
 use Prim.Native.String.{String}
 use native.Mathlib.Omega.{arith}
 use borrow.Author.Tests.{eqb-true, leb-true, leb-false}
@@ -46,7 +46,7 @@ use Rattle.strict.proofs.LookAheadSpelt.{ahead-spelled}
 -- ---- a thing of two kinds
 module _ {A B C : Type 0} {J : C → Type 0} {g : C → List ℕ} {p : List ℕ → Parsed A} {q : List ℕ → Parsed B}
     (left : A → C) (right : B → C) where
-  pub ahead-kinds : OneAhead (λ a. J (left a)) (λ a. g (left a)) p → OneAhead (λ b. J (right b)) (λ b. g (right b)) q
+  ahead-kinds : OneAhead (λ a. J (left a)) (λ a. g (left a)) p → OneAhead (λ b. J (right b)) (λ b. g (right b)) q
       → ((b : B) (s : List ℕ) → J (right b) → (w : List ℕ) × (p (g (right b) ++ s) ≡ failed w))
       → OneAhead J g (λ t. and-then (or-else (and-then (p t) λ a r. parsed (inl a) r)
       (and-then (q t) λ b r. parsed (inr b) r)) λ c r. parsed (fromSum left right c) r)
@@ -65,7 +65,8 @@ ahead-label = ahead-several 46 spelledOctet (spelled-avoids 46 tt tt) ahead-spel
 ahead-labels : OneAhead Labels (λ n. cond (none? n) (ascii ".\"") (ended labelText 34 n)) (rootOrLabels .parse)
 unfolding rootOrLabels plain?
 ahead-labels = ahead-on nameFrom same (ahead-either (ahead-only tt (ascii ".\""))
-    (ahead-several 34 label (label-avoids 34 tt tt) ahead-label) (λ b s i. absent (literalAs tt ".\"") (ended labelText 34 b ++ s)
+    (ahead-several 34 label (label-avoids 34 tt tt) ahead-label)
+    (λ b s i. absent (literalAs tt ".\"") (ended labelText 34 b ++ s)
     (λ a r h e. some-avoids labelText 34 (label-avoids 46 tt tt) b s _ i (sym e))))
   where
     same : (u : Unit {0} ⊎ List (List ℕ)) → Either (λ u. u ≡ tt) (OneOrMore Label) u

@@ -80,13 +80,13 @@ stops =
     ∷ record { begins = ascii "{\"ID\":0"; rest = ascii "0,\"QR\":0" }
     ∷ record { begins = ascii "{\"ID\":"; rest = ascii "-1,\"QR\":0" }
     ∷ record { begins = afterAd ",\"CD\":0,\"RCODE\":"; rest = ascii "\"BADVERS\"" }
-    -- members: another letter, another case, a space, one left out, one twice
+    -- members: another letter case, another letter, a space, one left out, one twice
     ∷ record { begins = ascii "{\"I"; rest = ascii "d\":0" }
-    ∷ record { begins = ascii "{\"ID\":0,\"Q"; rest = ascii "r\":0" }
+    ∷ record { begins = ascii "{\"ID\":0,\"Q"; rest = ascii "X\":0" }
     ∷ record { begins = ascii "{\"ID\":"; rest = ascii " 0" }
     ∷ record { begins = ascii "{\"ID\":0,\""; rest = ascii "Opcode\":0" }
     ∷ record { begins = ascii "{\"ID\":0,\""; rest = ascii "ID\":0" }
-    -- Z: another value, another number of digits, no comma, twice, after RD, after AD
+    -- Z: another number, a minus, a string, nothing, one digit more, no comma, twice, after RD, after AD
     ∷ record { begins = afterRa ",\"Z\":"; rest = ascii "0,\"AD\":0" }
     ∷ record { begins = afterRa ",\"Z\":"; rest = ascii "2,\"AD\":0" }
     ∷ record { begins = afterRa ",\"Z\":"; rest = ascii "01,\"AD\":0" }

@@ -328,7 +328,8 @@ head-same d = refl
 
 -- its text, part by part
 pub document-parts : (d : Document)
-    → documentText d ≡ headText (bareDocument (headOf d)) ++ ((ascii ",\"questionRRs\":" ++ listed questionText (d .questions))
+    → documentText d ≡ headText (bareDocument (headOf d))
+    ++ ((ascii ",\"questionRRs\":" ++ listed questionText (d .questions))
     ++ ((ascii ",\"answerRRs\":" ++ listed recordText (d .answers))
     ++ ((ascii ",\"authorityRRs\":" ++ listed recordText (d .authority))
     ++ (ascii ",\"additionalRRs\":" ++ (listed itemText (d .additional) ++ ascii "}")))))

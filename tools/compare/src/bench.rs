@@ -65,50 +65,21 @@ fn report(title: &str, things: &str, pair: &Pair, inputs: &[Vec<u8>], buffer: &m
 
 /// The texts of the messages that are accepted.
 fn texts_of(messages: &[Vec<u8>]) -> Vec<Vec<u8>> {
-    messages
-        .iter()
-        .filter_map(|message| second::text_of(message).ok())
-        .collect()
+    messages.iter().filter_map(|message| second::text_of(message).ok()).collect()
 }
 
 pub fn run(seed: u64) {
     let mut random = Random::new(seed);
     let mut buffer = vec![0; 1 << 24];
-    let messages: Vec<Vec<u8>> = (0..100_000)
-        .map(|_| generate::message(&mut random))
-        .collect();
-    report(
-        "accepted and refused",
-        "messages",
-        &TO_TEXT,
-        &messages,
-        &mut buffer,
-    );
-    report(
-        "of the accepted",
-        "texts",
-        &TO_WIRE,
-        &texts_of(&messages),
-        &mut buffer,
-    );
+    let messages: Vec<Vec<u8>> = (0..100_000).map(|_| generate::message(&mut random)).collect();
+    report("accepted and refused", "messages", &TO_TEXT, &messages, &mut buffer);
+    report("of the accepted", "texts", &TO_WIRE, &texts_of(&messages), &mut buffer);
     for kilobytes in [1, 10, 60] {
         let messages: Vec<Vec<u8>> = (0..6000 / kilobytes)
             .map(|_| generate::message_of_size(&mut random, kilobytes * 1000))
             .collect();
-        report(
-            &format!("{kilobytes} kB each"),
-            "messages",
-            &TO_TEXT,
-            &messages,
-            &mut buffer,
-        );
-        report(
-            &format!("of {kilobytes} kB messages"),
-            "texts",
-            &TO_WIRE,
-            &texts_of(&messages),
-            &mut buffer,
-        );
+        report(&format!("{kilobytes} kB each"), "messages", &TO_TEXT, &messages, &mut buffer);
+        report(&format!("of {kilobytes} kB messages"), "texts", &TO_WIRE, &texts_of(&messages), &mut buffer);
     }
     let texts: Vec<Vec<u8>> = (0..100_000).map(|_| generate::text(&mut random)).collect();
     report("read and refused", "texts", &TO_WIRE, &texts, &mut buffer);

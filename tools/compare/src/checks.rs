@@ -25,18 +25,12 @@ fn same(ours: Converter, theirs: Converter, input: &[u8], before: &[u8]) -> Resu
 }
 
 pub fn agree(message: &[u8], before: &[u8]) -> Result<(), String> {
-    same(proved::to_text, second::to_text, message, before)
-        .map_err(|fault| format!("{message:02X?}: {fault}"))
+    same(proved::to_text, second::to_text, message, before).map_err(|fault| format!("{message:02X?}: {fault}"))
 }
 
 pub fn agree_on_text(text: &[u8], before: &[u8]) -> Result<(), String> {
-    same(proved::to_wire, second::to_wire, text, before).map_err(|fault| {
-        format!(
-            "{} in {} octets: {fault}",
-            String::from_utf8_lossy(text),
-            before.len()
-        )
-    })
+    same(proved::to_wire, second::to_wire, text, before)
+        .map_err(|fault| format!("{} in {} octets: {fault}", String::from_utf8_lossy(text), before.len()))
 }
 
 /// Random messages, valid and damaged, with buffers of random length and random leftovers.
@@ -157,8 +151,7 @@ pub fn padded_texts(seed: u64, count: usize) -> Result<Tally, String> {
     let before = random.octets(second::LARGEST_MESSAGE);
     for _ in 0..count {
         let message = generate::valid_message(&mut random);
-        let (Some(form), Ok(text)) = (second::uncompressed(&message), second::text_of(&message))
-        else {
+        let (Some(form), Ok(text)) = (second::uncompressed(&message), second::text_of(&message)) else {
             continue;
         };
         let others = if random.one_in(4) { 0 } else { form.len() + 4 };
@@ -184,13 +177,11 @@ pub fn there_and_back(seed: u64, count: usize) -> Result<usize, String> {
         let given = generate::valid_message(&mut random);
         let failed = |what: &str| format!("{given:02X?}: {what}");
         let length = proved::to_text(&given, &mut text).map_err(|_| failed("refused"))?;
-        let size = proved::to_wire(&text[..length], &mut message)
-            .map_err(|_| failed("the text is refused"))?;
+        let size = proved::to_wire(&text[..length], &mut message).map_err(|_| failed("the text is refused"))?;
         if second::uncompressed(&given).as_deref() != Some(&message[..size]) {
             return Err(failed("the text is not read as the uncompressed form"));
         }
-        let second_length = proved::to_text(&message[..size], &mut again)
-            .map_err(|_| failed("the form is refused"))?;
+        let second_length = proved::to_text(&message[..size], &mut again).map_err(|_| failed("the form is refused"))?;
         if text[..length] != again[..second_length] {
             return Err(failed("the form has another text"));
         }
@@ -237,11 +228,7 @@ pub fn words(alphabet: &[u8], longest: usize) -> Vec<Vec<u8>> {
     for _ in 0..longest {
         last = last
             .iter()
-            .flat_map(|word: &Vec<u8>| {
-                alphabet
-                    .iter()
-                    .map(move |octet| [&word[..], &[*octet]].concat())
-            })
+            .flat_map(|word: &Vec<u8>| alphabet.iter().map(move |octet| [&word[..], &[*octet]].concat()))
             .collect();
         all.extend(last.iter().cloned());
     }
@@ -269,18 +256,14 @@ pub fn look_alikes(longest: usize) -> Result<usize, String> {
                 }
             }
             message.extend([0, 0, 1, 0, 1]);
-            let length =
-                proved::to_text(&message, &mut buffer).map_err(|refusal| format!("{refusal:?}"))?;
+            let length = proved::to_text(&message, &mut buffer).map_err(|refusal| format!("{refusal:?}"))?;
             texts.push(buffer[..length].to_vec());
         }
     }
     let count = texts.len();
     texts.sort();
     match texts.windows(2).find(|pair| pair[0] == pair[1]) {
-        Some(pair) => Err(format!(
-            "two names share {}",
-            String::from_utf8_lossy(&pair[0])
-        )),
+        Some(pair) => Err(format!("two names share {}", String::from_utf8_lossy(&pair[0]))),
         None => Ok(count),
     }
 }

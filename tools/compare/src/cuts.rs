@@ -2,6 +2,7 @@
 
 use crate::checks::{agree, agree_on_text};
 use crate::proved;
+use second::lines::octets_of_hex;
 use second::{cases, viable, Refusal};
 
 /// What the buffers hold before a call.
@@ -10,22 +11,10 @@ const LEFTOVERS: [u8; 4096] = [0xA5; 4096];
 /// At most so many texts of each kind are cut: those that are stored.
 const STORED: usize = 400;
 
-/// The octets of a line of hexadecimal digits, if it is one.
-fn octets(line: &[u8]) -> Option<Vec<u8>> {
-    let digit = |octet: &u8| (*octet as char).to_digit(16).map(|digit| digit as u8);
-    let digits: Vec<u8> = line.iter().map(digit).collect::<Option<_>>()?;
-    (digits.len() % 2 == 0).then(|| {
-        digits
-            .chunks(2)
-            .map(|pair| pair[0] << 4 | pair[1])
-            .collect()
-    })
-}
-
 /// Every message: both converters agree on each of its beginnings, and no place is larger than the beginning.
 pub fn messages() -> Result<usize, String> {
     let mut compared = 0;
-    for message in cases::totext().iter().filter_map(|line| octets(line)) {
+    for message in cases::totext().iter().filter_map(|line| octets_of_hex(line)) {
         for cut in 0..=message.len() {
             let beginning = &message[..cut];
             agree(beginning, &LEFTOVERS)?;
@@ -40,9 +29,9 @@ pub fn messages() -> Result<usize, String> {
     Ok(compared)
 }
 
-/// Every stored text. No text in the grammar is a proper beginning of another. So of the beginnings of a text only the
-/// whole of it, or the longest that begins a text in the grammar, can be anything but 20, and these the converters are
-/// compared on. Each other one is 20 at its length or, if it is longer, at the length of the longest such beginning.
+/// Every stored text. No text in the grammar is a proper beginning of another. So of the beginnings of a stored text
+/// only the longest one that begins a text in the grammar can be anything but 20, and on this one the converters are
+/// compared. Each other one is 20 at its own length or, if it is longer than that one, at the length of that one.
 pub fn texts() -> Result<usize, String> {
     let mut compared = 0;
     for text in cases::some_towire(STORED) {
@@ -53,25 +42,16 @@ pub fn texts() -> Result<usize, String> {
             if cut == longest {
                 agree_on_text(beginning, &LEFTOVERS)?;
             } else {
-                let expected = Refusal {
-                    number: 20,
-                    place: cut.min(longest) as u64,
-                };
+                let expected = Refusal { number: 20, place: cut.min(longest) as u64 };
                 let answer = proved::to_wire(beginning, &mut buffer);
                 if answer != Err(expected) {
-                    return Err(format!(
-                        "{}: {answer:?}, not {expected:?}",
-                        String::from_utf8_lossy(beginning)
-                    ));
+                    return Err(format!("{}: {answer:?}, not {expected:?}", String::from_utf8_lossy(beginning)));
                 }
             }
             compared += 1;
         }
         if buffer != LEFTOVERS {
-            return Err(format!(
-                "{}: a refusal changed the buffer",
-                String::from_utf8_lossy(&text)
-            ));
+            return Err(format!("{}: a refusal changed the buffer", String::from_utf8_lossy(&text)));
         }
     }
     Ok(compared)

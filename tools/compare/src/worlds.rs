@@ -1,7 +1,7 @@
 //! Small worlds, every message or text of which is compared: tails over a few octets at every cut, every pointer target
 //! against short messages, every label of one or two octets, RDATA of every listed type over a few octets, every RCODE,
-//! every name of one with its neighbours, all flags of the header, what may be mistaken for Z, for a name and for a TTL,
-//! and every octet at every place of a dozen texts.
+//! every name of one with its neighbours, all flags of the header, what may be mistaken for Z, for a name and for a
+//! TTL, and every octet at every place of a dozen texts.
 
 use crate::checks::{agree, agree_on_text, words};
 use crate::proved;
@@ -60,10 +60,7 @@ pub fn every_target() -> Result<usize, String> {
                 (proved::to_text(&pool[..length], &mut text), text)
             });
             if first != second {
-                return Err(format!(
-                    "{message:02X?}: {:?} and {:?} with different leftovers",
-                    first.0, second.0
-                ));
+                return Err(format!("{message:02X?}: {:?} and {:?} with different leftovers", first.0, second.0));
             }
             compared += 1;
         }
@@ -99,10 +96,7 @@ pub fn every_rdata() -> Result<usize, String> {
             let length = rdata.len() as u16;
             for rdlength in [length, length.saturating_sub(1), length + 1] {
                 let fields = [0, 0, rtype, 0, 1, 0, 0, 0, 0];
-                agree(
-                    &[&header(0, 1)[..], &fields, &rdlength.to_be_bytes(), &rdata].concat(),
-                    &LEFTOVERS,
-                )?;
+                agree(&[&header(0, 1)[..], &fields, &rdlength.to_be_bytes(), &rdata].concat(), &LEFTOVERS)?;
                 compared += 1;
             }
         }
@@ -121,8 +115,7 @@ fn in_three_rooms(message: &[u8]) -> Result<usize, String> {
 }
 
 fn text_of(message: &[u8]) -> Result<String, String> {
-    let text =
-        second::text_of(message).map_err(|refusal| format!("{message:02X?}: {refusal:?}"))?;
+    let text = second::text_of(message).map_err(|refusal| format!("{message:02X?}: {refusal:?}"))?;
     String::from_utf8(text).map_err(|fault| format!("{message:02X?}: {fault}"))
 }
 
@@ -151,17 +144,12 @@ pub fn every_rcode() -> Result<usize, String> {
 /// belongs to it, cut short at each place, with each octet in place of one of its own, and with each octet inserted.
 pub fn every_rcode_name() -> Result<usize, String> {
     let text = text_of(&extended(0, 0))?;
-    let (start, end) = text
-        .split_once("NoError")
-        .ok_or("the text of RCODE 0 has another name")?;
+    let (start, end) = text.split_once("NoError").ok_or("the text of RCODE 0 has another name")?;
     let mut compared = 0;
     let mut compare = |rcode: u64, name: &[u8]| {
         let start = start.replacen("\"RCODE\":0", &format!("\"RCODE\":{rcode}"), 1);
         compared += 1;
-        agree_on_text(
-            &[start.as_bytes(), name, end.as_bytes()].concat(),
-            &LEFTOVERS,
-        )
+        agree_on_text(&[start.as_bytes(), name, end.as_bytes()].concat(), &LEFTOVERS)
     };
     for (name, number) in generate::RCODES.into_iter().chain([("BADSIG", 16)]) {
         for rcode in 0..=16 {
@@ -223,21 +211,16 @@ pub fn every_name_and_ttl() -> Result<usize, String> {
         (record, "7", &b"\"0-1,"[..], 5),
     ] {
         let text = text_of(&message)?;
-        let (before, after) = text
-            .rsplit_once(&format!(":{value},"))
-            .ok_or("the text has no such value")?;
+        let (before, after) = text.rsplit_once(&format!(":{value},")).ok_or("the text has no such value")?;
         for word in words(octets, most) {
-            agree_on_text(
-                &[before.as_bytes(), b":", &word, b",", after.as_bytes()].concat(),
-                &LEFTOVERS,
-            )?;
+            agree_on_text(&[before.as_bytes(), b":", &word, b",", after.as_bytes()].concat(), &LEFTOVERS)?;
             compared += 1;
         }
     }
     Ok(compared)
 }
 
-/// A dozen texts that use every member, with each octet in turn replaced by every other.
+/// A dozen texts that use every member, with every octet value at every place.
 pub fn every_octet() -> Result<usize, String> {
     let mut compared = 0;
     for mut text in second::cases::texts_with_every_member() {

@@ -141,7 +141,7 @@ fn all_short_escapes_in_strings() {
 }
 
 /// An octet changed in the texts with every member: where the place says that no text goes on,
-/// no ending of these texts completes it; where the place is farther on, the reader takes more.
+/// no ending of these texts completes it.
 #[test]
 fn no_ending_completes_what_is_no_beginning() {
     let texts = cases::texts_with_every_member();

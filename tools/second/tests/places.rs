@@ -1,5 +1,5 @@
-//! The places of refusals by change request A1: the rows of its readings and of the format's
-//! tables, written down by hand.
+//! The places of refusals by change request A1: the rows of the format's tables and more of
+//! their kind, written down by hand.
 
 use std::collections::{BTreeMap, BTreeSet};
 

@@ -42,7 +42,7 @@ fn one_rdata(rtype: u16, rdata: &[u8]) -> Vec<u8> {
     one_answer(&record(&[0], rtype, 1, 0, rdata))
 }
 
-/// The numbers of the request's readings, and what is near them.
+/// The numbers that the format and its tables name, and what is near them.
 fn octets_at_fault() -> Messages {
     let mut messages = Vec::new();
     // Length octets, labels, TYPE and CLASS of a question.

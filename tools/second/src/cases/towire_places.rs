@@ -287,7 +287,7 @@ fn put_and_cut(text: &str, part: &str, put: &str) -> Texts {
     vec![whole, cut]
 }
 
-// The rows of the readings and of the format's table: texts that are wrong
+// The rows of the format's table and more of their kind: texts that are wrong
 // where it is said, texts that end there, and texts that are right there and
 // wrong behind it.
 
