@@ -9,7 +9,7 @@ use Prim.Native.Nat.{ℕ, _+_, _-_, _≤_, _<_}
 use native.Mathlib.Omega.{arith}
 use lib.ListN.{length, take, drop, length-append, take-append-drop}
 use lib.Seq.{take-append-seam, length-take-le}
-use Rattle.octets.proofs.LookAhead.{Viable}
+use Rattle.octets.proofs.LookAhead.{Viable, viable}
 use Rattle.octets.specs.Parsed.{Parsed, parsed, failed, parsed≢failed}
 use Rattle.octets.specs.Answer.{Output, output, refused, success, refusal, reported, delivered-room}
 use Rattle.octets.specs.Calls.{Call, writtenBy}
@@ -51,7 +51,7 @@ viable-begins : {u : List ℕ} → Viable DocumentIn documentText u → Begins u
 viable-begins v = (v .value, v .in-range, v .rest, v .same)
 
 begins-viable : {u : List ℕ} → Begins u → Viable DocumentIn documentText u
-begins-viable (d, i, r, e) = record { value = d; in-range = i; rest = r; same = e }
+begins-viable (d, i, r, e) = viable d r i e
 
 stops-longest : (t w : List ℕ) → parse t ≡ failed w → LongestBeginning t (length t - length w)
 stops-longest t w e =

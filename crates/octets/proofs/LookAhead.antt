@@ -33,19 +33,21 @@ pub record Viable {A : Type 0} (I : A → Type 0) (f : A → List ℕ) (u : List
   pub in-range : I value
   pub same : f value ≡ u ++ rest
 
+pub viable : {A : Type 0} {I : A → Type 0} {f : A → List ℕ} {u : List ℕ} (a : A) (r : List ℕ) → I a → f a ≡ u ++ r
+    → Viable I f u
+viable a r i e = record { value = a; rest = r; in-range = i; same = e }
+
+-- a parser stops after u wherever the first octet of w comes next
+abbrev pub StopsAt : {A : Type 0} → (List ℕ → Parsed A) → List ℕ → List ℕ → Type 0
+StopsAt p u w = (s : List ℕ) → front s ≡ front w → p (u ++ s) ≡ failed s
+
 -- what a parser answers for a text t: it takes the text of a value, or it stops after a viable prefix; and it answers
 -- so for every text that has the same octets up to there and the same next one
 pub data Sees {A : Type 0} (I : A → Type 0) (f : A → List ℕ) (p : List ℕ → Parsed A) (t : List ℕ) : Parsed A
     → Type 0 where
   takes : {a : A} {r : List ℕ} → I a → f a ++ r ≡ t → ((s : List ℕ) → front s ≡ front r → p (f a ++ s) ≡ parsed a s)
       → Sees I f p t (parsed a r)
-  stops : {w : List ℕ} (u : List ℕ) → Viable I f u → u ++ w ≡ t
-      → ((s : List ℕ) → front s ≡ front w → p (u ++ s) ≡ failed s) → Sees I f p t (failed w)
-
--- how one is given
-pub viable : {A : Type 0} {I : A → Type 0} {f : A → List ℕ} {u : List ℕ} (a : A) (r : List ℕ) → I a → f a ≡ u ++ r
-    → Viable I f u
-viable a r i e = record { value = a; rest = r; in-range = i; same = e }
+  stops : {w : List ℕ} (u : List ℕ) → Viable I f u → u ++ w ≡ t → StopsAt p u w → Sees I f p t (failed w)
 
 -- a parser with a look-ahead of one octet, over a range that is not empty
 pub record OneAhead {A : Type 0} (I : A → Type 0) (f : A → List ℕ) (p : List ℕ → Parsed A) : Type 0 where
@@ -54,10 +56,10 @@ pub record OneAhead {A : Type 0} (I : A → Type 0) (f : A → List ℕ) (p : Li
   pub sees : (t : List ℕ) → Sees I f p t (p t)
 
 -- ---- fixed octets
+-- what `strip` answers for a text t: it takes the octets l, or stops after the first of them
 pub data Strips (l t : List ℕ) : Parsed (Unit {0}) → Type 0 where
   strips : {r : List ℕ} → l ++ r ≡ t → Strips l t (parsed tt r)
-  halts : {w : List ℕ} (u v : List ℕ) → l ≡ u ++ v → u ++ w ≡ t
-      → ((s : List ℕ) → front s ≡ front w → strip l (u ++ s) ≡ failed s) → Strips l t (failed w)
+  halts : {w : List ℕ} (u v : List ℕ) → l ≡ u ++ v → u ++ w ≡ t → StopsAt (strip l) u w → Strips l t (failed w)
 
 pub front-none : (s : List ℕ) → front s ≡ none → s ≡ []
 front-none [] e = refl
@@ -203,11 +205,7 @@ parted (a ∷ u) [] w x e h = absurd (omega (arith, ap length e, length-append u
 parted (a ∷ u) (b ∷ v) w x e h = let (y, p, q) = parted u v w x (tail-eq-of-cons-eq e) h in
     (y, ap₂ _∷_ (sym (head-eq-of-cons-eq e)) p, q)
 
--- a parser stops after u wherever the first octet of w comes next
-abbrev pub StopsAt : {A : Type 0} → (List ℕ → Parsed A) → List ℕ → List ℕ → Type 0
-StopsAt p u w = (s : List ℕ) → front s ≡ front w → p (u ++ s) ≡ failed s
-
--- it stops there too where more octets are looked at
+-- a parser that stops after u stops there too where more octets are known
 stops-before : {A : Type 0} (p : List ℕ → Parsed A) (u y v w x : List ℕ) → v ≡ u ++ y → w ≡ y ++ x → StopsAt p u w
     → (s : List ℕ) → front s ≡ front x → p (v ++ s) ≡ failed (y ++ s)
 stops-before p u y v w x c d f s k = rw (c, append-assoc u y s) (f (y ++ s) (front-behind y s x k ∙ ap front (sym d)))
