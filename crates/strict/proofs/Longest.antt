@@ -32,7 +32,8 @@ use Rattle.json.specs.Document.{ordinary, edns, Document, questionText, recordT
 use Rattle.json.specs.Document.{adTitles, headText, documentText}
 use Rattle.strict.specs.Grammar.{Number, Label, Labels, SignedNumber, StringIn, Maybe, QuestionIn, RecordIn}
 use Rattle.strict.specs.Grammar.{ValueIn, MemberIn, EdnsIn, ItemIn, DocumentIn}
-use Rattle.strict.specs.Parser.{maybe, numbered, maybeText, expiryNumber, endText, padding-same, error-same}
+use Rattle.strict.specs.Parser.{maybe, numbered, maybeText, expiry-same, expiryNumber, endText, padding-same}
+use Rattle.strict.specs.Parser.{error-same}
 use Rattle.strict.specs.Parser.{value, members-distinct, knownMember, otherMember, members-apart, member}
 use Rattle.strict.specs.Parser.{questionFrom, recordFrom, questionCodec, recordCodec, flags-distinct}
 use Rattle.strict.specs.Parser.{rcodes-distinct, membersEndText, optionMembers, ednsFrom, ednsElement, item-apart}
@@ -134,12 +135,8 @@ ahead-maybe {A} {I} {f} l p apart h = ahead-kinds (λ (u : Unit {0}). none) some
 
 ahead-expiry : OneAhead (Maybe Number) expiryText (expiryNumber .parse)
 unfolding expiryNumber
-ahead-expiry = ahead-text same (ahead-maybe "\"NONE\"" number
+ahead-expiry = ahead-text expiry-same (ahead-maybe "\"NONE\"" number
     (λ a r s h e. decimal-avoids 34 tt a s _ (sym e)) ahead-number)
-  where
-    same : (n : Option ℕ) → expiryText n ≡ maybeText "\"NONE\"" decimal n
-    same none = refl
-    same (some n) = refl
 
 -- a number, and the brace or one more member
 ahead-numbered : {A : Type 0} {I : A → Type 0} {f : A → List ℕ} {g : Option A → List ℕ} (l : String)

@@ -8,14 +8,13 @@ use native.Mathlib.Omega.{arith}
 use borrow.Author.Tests.{eqb-true}
 use lib.Dec.{T, eqb, ltb}
 use Rattle.octets.specs.Lists.{ascii}
-use Rattle.octets.specs.Bits.{is-true, is-false, both, and-left, and-right}
+use Rattle.octets.specs.Bits.{is-true, is-false, and-left, and-right}
 use Rattle.octets.specs.Parsed.{Parsed, parsed, failed, and-then, then-then, strip}
-use Rattle.octets.specs.Decimal.{digit?, digit-in, digit-test}
 use Rattle.octets.proofs.LookAhead.{OneAhead, bothParse, octetIf, ahead-octetIf, ahead-pair, ahead-on, ahead-lit}
 use Rattle.octets.proofs.LookAhead.{ahead-like, ahead-by, ahead-only}
 use Rattle.spelling.specs.Spelling.{plain?, three-digits, spelled}
 use Rattle.strict.specs.Spelt.{coded?, coded-from?, coded-among, leads?, ddd, escape, spelledAt, coded-out}
-use Rattle.strict.specs.Spelt.{coded-alone, plain-in, spelled-plain}
+use Rattle.strict.specs.Spelt.{coded-alone, plain-in, spelled-plain, leads-digit, leads-in, three-back}
 
 -- ---- three digits of an octet that is written so
 -- one of the numbers is such an octet
@@ -29,18 +28,6 @@ coded-found lo (suc n) h = go (coded? lo) refl h (coded-found (suc lo) n)
         → (x : ℕ) × T (coded? x) × (lo ≤ x) × (x < lo + suc n)
     go true e k f = (lo, subst T (sym e) tt, omega arith, omega arith)
     go false e k f = let (x, c, a, b) = f k in (x, c, omega arith, omega arith)
-
--- a digit that leads to an octet of which the digits are known
-leads-digit : (k n d : ℕ) → d < 10 → T (coded-from? ((n * 10 + d) * 10 ^ k) (10 ^ k)) → T (leads? k n (48 + d))
-unfolding leads?
-leads-digit k n d h c =
-    let z : 48 + d - 48 ≡ d = omega arith in
-    both (digit? (48 + d)) _ (digit-test (48 + d) (omega arith) (omega arith)) (rw z c)
-
-leads-in : (k n c : ℕ) → T (leads? k n c) → (48 ≤ c) × (c ≤ 57) × T
-    (coded-from? ((n * 10 + (c - 48)) * 10 ^ k) (10 ^ k))
-unfolding leads?
-leads-in k n c h = let (a, b) = digit-in c (and-left (digit? c) _ h) in (a, b, and-right (digit? c) _ h)
 
 -- the second digit after the first, the third after both
 second : ℕ → ℕ → Bool
@@ -118,10 +105,6 @@ ddd-digits t = ddd-step 2 0 t ∙ (λ i. and-then (octetIf (leads? 2 0) t) λ a 
     pairs a r = then-then (bothParse (octetIf (second a)) (λ b. octetIf (third a b)) r) _ _
         ∙ then-then (octetIf (second a) r) _ _ ∙ λ i. and-then (octetIf (second a) r) λ b w. then-then
         (octetIf (third a b) w) (pair b) (λ u v. parsed (valueOf (a, u)) v) i
-
-three-back : (a b c : ℕ) → a < 10 → b < 10 → c < 10 → let x = ((0 * 10 + a) * 10 + b) * 10 + c in
-    (x / 100 ≡ a) × (x / 10 % 10 ≡ b) × (x % 10 ≡ c)
-three-back a b c h k j = (omega arith, omega arith, omega arith)
 
 ahead-ddd : OneAhead (λ x. T (coded? x)) three-digits (ddd 3 0)
 unfolding valueOf second third

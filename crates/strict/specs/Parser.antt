@@ -52,12 +52,12 @@ maybe {A} l p apart = sum (λ u. none) some presence whole (λ u. refl) (λ a. r
     whole (some a) = refl
 
 -- `"NONE"` or a number
+pub expiry-same : (n : Option ℕ) → expiryText n ≡ maybeText "\"NONE\"" decimal n
+expiry-same none = refl
+expiry-same (some n) = refl
+
 unfoldable pub expiryNumber : Codec (Maybe Number) expiryText NoDigit
-expiryNumber = retext same (maybe "\"NONE\"" number (λ a r s h e. decimal-avoids 34 tt a s _ (sym e)))
-  where
-    same : (n : Option ℕ) → expiryText n ≡ maybeText "\"NONE\"" decimal n
-    same none = refl
-    same (some n) = refl
+expiryNumber = retext expiry-same (maybe "\"NONE\"" number (λ a r s h e. decimal-avoids 34 tt a s _ (sym e)))
 
 -- the end of an object: its brace, or one more member and the brace
 abbrev pub endText : {A : Type 0} → String → (A → List ℕ) → Option A → List ℕ

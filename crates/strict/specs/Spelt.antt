@@ -118,18 +118,30 @@ coded-alone x h = go (coded? x) h
     go true t = tt
     go false t = t
 
+-- a digit that leads to an octet, by its value; and what is known of a digit that leads to one
+pub leads-digit : (k n d : ℕ) → d < 10 → T (coded-from? ((n * 10 + d) * 10 ^ k) (10 ^ k)) → T (leads? k n (48 + d))
+unfolding leads?
+leads-digit k n d h c =
+    let z : 48 + d - 48 ≡ d = omega arith in
+    both (digit? (48 + d)) _ (digit-test (48 + d) (omega arith) (omega arith)) (rw z c)
+
+pub leads-in : (k n c : ℕ) → T (leads? k n c)
+    → (48 ≤ c) × (c ≤ 57) × T (coded-from? ((n * 10 + (c - 48)) * 10 ^ k) (10 ^ k))
+unfolding leads?
+leads-in k n c h = let (a, b) = digit-in c (and-left (digit? c) _ h) in (a, b, and-right (digit? c) _ h)
+
+-- the digits of a number of three digits
+pub three-back : (a b c : ℕ) → a < 10 → b < 10 → c < 10
+    → let x = ((0 * 10 + a) * 10 + b) * 10 + c in (x / 100 ≡ a) × (x / 10 % 10 ≡ b) × (x % 10 ≡ c)
+three-back a b c h k j = (omega arith, omega arith, omega arith)
+
 -- one digit, where it leads to an octet
 ddd-digit : (k n d : ℕ) (t : List ℕ) → d < 10 → T (coded-from? ((n * 10 + d) * 10 ^ k) (10 ^ k))
     → ddd (suc k) n ((48 + d) ∷ t) ≡ ddd k (n * 10 + d) t
-unfolding ddd leads?
+unfolding ddd
 ddd-digit k n d t h c =
     let z : 48 + d - 48 ≡ d = omega arith in
-    rw (
-      is-true (leads? k n (48 + d)) (both (digit? (48 + d)) _ (digit-test (48 + d) (omega arith) (omega arith))
-          (rw z c)),
-      ddd,
-      z,
-    )
+    rw (is-true (leads? k n (48 + d)) (leads-digit k n d h c), ddd, z)
 
 -- three digits of an octet that is written so
 ddd-back : (x : ℕ) (r : List ℕ) → T (coded? x) → x < 256 → ddd 3 0 (three-digits x ++ r) ≡ parsed x r
@@ -145,16 +157,15 @@ ddd-back x r c h =
 ddd-holds : {P : ℕ → List ℕ → Type 0} (k n : ℕ) (t : List ℕ)
     → ((d : ℕ) (u : List ℕ) → d < 10 → T (coded-from? ((n * 10 + d) * 10 ^ k) (10 ^ k)) → (48 + d) ∷ u ≡ t
     → Holds P (ddd k (n * 10 + d) u)) → Holds P (ddd (suc k) n t)
-unfolding ddd leads?
+unfolding ddd
 ddd-holds k n [] f = missed []
 ddd-holds {P} k n (d ∷ t) f = go (leads? k n d) refl
   where
     go : (b : Bool) → leads? k n d ≡ b → Holds P (ddd (suc k) n (d ∷ t))
     go true e =
-        let h : T (leads? k n d) = subst T (sym e) tt in
-        let z = digit-in d (and-left (digit? d) _ h) in
+        let (u, v, h) = leads-in k n d (subst T (sym e) tt) in
         let y : 48 + (d - 48) ≡ d = omega arith in
-        rw (e, ddd) (f (d - 48) t (omega arith) (and-right (digit? d) _ h) (ap (λ c. c ∷ t) y))
+        rw (e, ddd) (f (d - 48) t (omega arith) h (ap (λ c. c ∷ t) y))
     go false e = rw (e, ddd) (missed (d ∷ t))
 
 -- what three digits give is an octet that is written so
@@ -171,10 +182,7 @@ ddd-sound t = ddd-holds 2 0 t λ a u ha la ea. ddd-holds 1 _ u λ b v hb lb eb. 
     digits : (a b c : ℕ) {v : List ℕ} (w : List ℕ) → a < 10 → b < 10 → c < 10 → (48 + c) ∷ w ≡ v
         → three-digits (((0 * 10 + a) * 10 + b) * 10 + c) ++ w ≡ (48 + a) ∷ (48 + b) ∷ v
     digits a b c w ha hb hc e =
-        let x = ((0 * 10 + a) * 10 + b) * 10 + c in
-        let p : x / 100 ≡ a = omega arith in
-        let q : x / 10 % 10 ≡ b = omega arith in
-        let r : x % 10 ≡ c = omega arith in
+        let (p, q, r) = three-back a b c ha hb hc in
         rw (p, q, r) (ap (λ z. (48 + a) ∷ (48 + b) ∷ z) e)
 
 -- what is coded is none of the other three, and below 256
