@@ -1,4 +1,5 @@
 // Reads texts, one per line, and writes each message in hexadecimal, or its refusal.
+#![tactic(auto)]
 use lines::Program;
 
 fn main() {

@@ -1,4 +1,5 @@
 // The two conversions as functions for programs in C, and the versions of the library and of the format.
+#![tactic(auto)]
 ghost use Rattle.std.specs.Prelude.{◌≡◌};
 ghost use Rattle.json_text.specs.Converted.{Converts};
 ghost use Rattle.strict.specs.Reading.{Reads};
