@@ -16,7 +16,7 @@ use rdata::{RdataEnd, put_rdata};
 use records::{Question, Record, RecordFields, question_at, record_at};
 
 // The offset after an entry, the next place of the form and the entry's TYPE, or the entry's fault.
-#[derive(Drop)]
+#[derive(Clone, Copy)]
 enum EntryEnd {
     To(usize, usize, u32),
     Faulty(Fault),
@@ -24,7 +24,7 @@ enum EntryEnd {
 
 // The offset after a section, the next place of the form and the number of entries of TYPE 41, or the faulty entry's
 // offset with its fault.
-#[derive(Drop)]
+#[derive(Clone, Copy)]
 enum SectionEnd {
     To(usize, usize, usize),
     Stopped(usize, Fault),
@@ -188,7 +188,7 @@ fn put_message(s: &[u8], out: &mut [u8]) -> SectionEnd
 }
 
 // The length of the form or the refusal, and the number of TYPE 41 records of the additional section.
-#[derive(Drop)]
+#[derive(Clone, Copy)]
 pub struct Scan {
     pub outcome: Outcome,
     pub opts: usize,

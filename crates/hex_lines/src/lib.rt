@@ -5,7 +5,7 @@ ghost use Rattle.octets.specs.Overlay.{Wrote};
 ghost use Rattle.hex_lines.specs.Hex.{hex_value, unhexed, value_or_16, hex?, octets_found, Unhexed, OctetsWithin};
 
 // The number of octets that a line spells, or that it is not hexadecimal.
-#[derive(Drop)]
+#[derive(Clone, Copy)]
 pub enum Hex {
     Octets(usize),
     Bad,

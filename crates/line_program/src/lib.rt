@@ -11,7 +11,7 @@ use streams::{
 };
 
 // How much of a line is kept after a piece, and whether all answers were written.
-#[derive(Drop)]
+#[derive(Clone, Copy)]
 struct Progress {
     used: usize,
     written: bool,

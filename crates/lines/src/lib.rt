@@ -10,7 +10,7 @@ use line_answers::{text_line, wire_line};
 use octets::put_all;
 
 // The line programs.
-#[derive(Drop)]
+#[derive(Clone, Copy)]
 pub enum Program {
     ToText,
     ToWire,
@@ -92,7 +92,7 @@ fn waits(end: usize, length: usize, room: usize) -> bool
 }
 
 // How many octets of the piece were taken, how many of the line are kept, how many were written.
-#[derive(Drop)]
+#[derive(Clone, Copy)]
 pub struct Answered {
     pub taken: usize,
     pub used: usize,

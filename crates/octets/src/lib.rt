@@ -8,7 +8,7 @@ ghost use Rattle.octets.specs.Overlay.{Wrote};
 ghost use Rattle.octets.specs.Lists.{each};
 
 // What a conversion answers: the length of its output, or the refusal's number and place.
-#[derive(Drop)]
+#[derive(Clone, Copy)]
 pub enum Outcome {
     Length(usize),
     Refused(u32, usize),

@@ -9,7 +9,7 @@ use octets::wide;
 use parse_tokens::octet_at;
 
 // An octet that was read, and the place after it; or the place at which nothing goes on.
-#[derive(Drop)]
+#[derive(Clone, Copy)]
 pub struct Letter {
     pub at: usize,
     pub found: bool,

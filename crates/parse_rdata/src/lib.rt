@@ -32,7 +32,7 @@ pub fn put_octets(hex: &[u8], out: &mut [u8], to: usize) -> usize
 
 // ---- RDATA
 // The place after a name, or that there is none.
-#[derive(Drop)]
+#[derive(Clone, Copy)]
 enum Skipped {
     To(usize),
     Unfit,

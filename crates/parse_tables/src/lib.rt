@@ -14,7 +14,7 @@ use octets::wide;
 use parse_tokens::{Cursor, fail_at, furthest_failure, literal};
 
 // A title of a table that was read, and its key. On a stop the key is 0.
-#[derive(Drop)]
+#[derive(Clone, Copy)]
 pub struct Row {
     pub cursor: Cursor,
     pub key: u32,

@@ -19,7 +19,7 @@ use octets::put_all;
 // Where the reader is in a text. `grammatical`: all before `at` is within the grammar; if not, nothing more is read,
 // and `at` is the first octet at which no text goes on. `meaningful`: a message can have the text so far, limits of
 // size aside. `bounded`: the message so far is within its limit. `to`: where its next octet goes.
-#[derive(Drop)]
+#[derive(Clone, Copy)]
 pub struct Cursor {
     pub at: usize,
     pub to: usize,
@@ -177,7 +177,7 @@ pub fn either(a: bool, b: bool) -> bool
 }
 
 // A number that was read; one above 2^63 counts as 2^63.
-#[derive(Drop)]
+#[derive(Clone, Copy)]
 pub struct Amount {
     pub cursor: Cursor,
     pub value: u64,
@@ -298,7 +298,7 @@ pub fn number_then(text: &[u8], c: Cursor, title: &[u8]) -> Amount
 }
 
 // A TTL that was read: whether it is within 32 bits with a sign, and if so its bits, else 0.
-#[derive(Drop)]
+#[derive(Clone, Copy)]
 pub struct Ttl {
     pub cursor: Cursor,
     pub bits: u32,
@@ -365,7 +365,7 @@ pub fn signed(text: &[u8], c: Cursor) -> Ttl
 }
 
 // Hexadecimal digits that were read, two for an octet: they are from `from` to `end`.
-#[derive(Drop)]
+#[derive(Clone, Copy)]
 pub struct Span {
     pub cursor: Cursor,
     pub from: usize,

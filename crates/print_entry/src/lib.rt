@@ -15,7 +15,7 @@ use records::{Question, Record, RecordFields, question_at, record_at};
 use spelling::{put_name, put_signed};
 
 // An offset of the message and a place of the text.
-#[derive(Drop)]
+#[derive(Clone, Copy)]
 pub struct Position {
     pub at: usize,
     pub to: usize,
@@ -23,7 +23,7 @@ pub struct Position {
 
 // An element of an array: a question; or a record, with whether its section is the additional one and has one TYPE 41
 // record, which can then show as an EDNS element.
-#[derive(Drop)]
+#[derive(Clone, Copy)]
 pub enum Element {
     Question,
     Record(bool),

@@ -10,7 +10,7 @@ use octets::{put_all, put_hex};
 use records::{Step, rdata_step};
 
 // The place after RDATA, or RDATA's fault.
-#[derive(Drop)]
+#[derive(Clone, Copy)]
 pub enum RdataEnd {
     To(usize),
     Misfit(Fault),

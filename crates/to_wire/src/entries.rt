@@ -24,7 +24,7 @@ use parse_tokens::{
 
 // What was read of an entry: whether it is of TYPE 41, whether it is an EDNS element, whether it is an ordinary record
 // that could be one.
-#[derive(Drop)]
+#[derive(Clone, Copy)]
 struct Entry {
     cursor: Cursor,
     opt: bool,
@@ -182,7 +182,7 @@ fn additional_element(text: &[u8], c: Cursor, rcode: u32, out: &mut [u8]) -> Ent
 }
 
 // What an array holds: questions, records, or elements of the additional section.
-#[derive(Drop)]
+#[derive(Clone, Copy)]
 pub enum Element {
     Question,
     Record,
@@ -191,7 +191,7 @@ pub enum Element {
 
 // The entries of an array: how many, how many of TYPE 41 (65,536 counts for every number above), whether an EDNS
 // element is there, whether a record that could be one is.
-#[derive(Drop)]
+#[derive(Clone, Copy)]
 pub struct Section {
     pub cursor: Cursor,
     pub count: u64,

@@ -8,14 +8,14 @@ use parse_tables::ad_title;
 use parse_tokens::{Cursor, both, demand, emit, literal, number, number_then, put_u16};
 
 // The flags of an octet of the header: the octet, and whether each is in range.
-#[derive(Drop)]
+#[derive(Clone, Copy)]
 pub struct Flags {
     pub cursor: Cursor,
     pub octet: u8,
     pub fits: bool,
 }
 
-#[derive(Drop)]
+#[derive(Clone, Copy)]
 pub struct Counts {
     pub cursor: Cursor,
     pub questions: u64,
@@ -25,7 +25,7 @@ pub struct Counts {
 }
 
 // The numbers of the head.
-#[derive(Drop)]
+#[derive(Clone, Copy)]
 struct HeadNumbers {
     id: u64,
     high: Flags,
@@ -34,7 +34,7 @@ struct HeadNumbers {
 }
 
 // What the rest needs of the head: RCODE and the counts.
-#[derive(Drop)]
+#[derive(Clone, Copy)]
 pub struct Header {
     pub cursor: Cursor,
     pub rcode: u32,

@@ -11,7 +11,7 @@ use parse_octets::{char_at, octet};
 use parse_tokens::{Cursor, advance, demand, emit, fail_at, literal, octet_at, reserve};
 
 // What was read, the place after it, and its size; or the place at which nothing goes on.
-#[derive(Drop)]
+#[derive(Clone, Copy)]
 struct Part {
     at: usize,
     found: bool,

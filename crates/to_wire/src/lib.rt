@@ -37,7 +37,7 @@ fn array(
     read_section(text, start, element, rcode, out)
 }
 
-#[derive(Drop)]
+#[derive(Clone, Copy)]
 struct TwoSections {
     first: Section,
     second: Section,

@@ -340,7 +340,7 @@ fn option_value(text: &[u8], c: Cursor, code: u32, out: &mut [u8]) -> Cursor
 
 // ---- members
 // A member that was read, and its option's code.
-#[derive(Drop)]
+#[derive(Clone, Copy)]
 struct Coded {
     cursor: Cursor,
     code: u32,
@@ -521,7 +521,7 @@ fn full_rcode(text: &[u8], c: Cursor) -> Row
 }
 
 // What was read of the element before its options; `full` is its RCODE.
-#[derive(Drop)]
+#[derive(Clone, Copy)]
 struct EdnsHead {
     cursor: Cursor,
     version: u64,
