@@ -9,7 +9,7 @@ use Rattle.print_head.proofs.put_ad_title.Goals as goal
 pub returns-then-z-eq0 : goal.returns-then-z-eq0
 unfolding row_text ad_titles
 returns-then-z-eq0 c = record {
-  wrote = wrote_row 0 ad_titles c.if-z-eq0.true c.put_all_lem.ensures;
+  wrote = wrote_row 0 ad_titles c.if-z-eq0.true c.put_all.ensures;
   upper_bound = search rules
 }
 
