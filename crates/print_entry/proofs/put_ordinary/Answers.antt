@@ -6,8 +6,7 @@ use Rattle.print_entry.proofs.Showing.{ordinary_faultless, ordinary_prints}
 use Rattle.print_entry.proofs.put_ordinary.Goals as goal
 
 pub returns-in_default : goal.returns-in_default
-returns-in_default c =
-  let all = (absurd (search (ordinary_faultless, rules))) in record { prints = all.0; upper_bound = all.1 }
+returns-in_default c = absurd (search (ordinary_faultless, rules))
 
 pub put_all-requires : goal.put_all-requires
 put_all-requires c =

@@ -5,8 +5,7 @@ use Rattle.print_entry.proofs.Writing.{question_faultless, question_prints, ques
 use Rattle.print_entry.proofs.put_question.Goals as goal
 
 pub returns-in_default : goal.returns-in_default
-returns-in_default c =
-  let all = (absurd (search (question_faultless, rules))) in record { prints = all.0; within = all.1 }
+returns-in_default c = absurd (search (question_faultless, rules))
 
 pub slice_bounds-put_start-end : goal.slice_bounds-put_start-end
 slice_bounds-put_start-end c = search (question_room, rules)

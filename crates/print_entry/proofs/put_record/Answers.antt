@@ -6,8 +6,7 @@ use Rattle.print_entry.proofs.Writing.{record_fits, record_later, record_place}
 use Rattle.print_entry.proofs.put_record.Goals as goal
 
 pub returns-in_default : goal.returns-in_default
-returns-in_default c =
-  let all = (absurd (search (record_faultless, rules))) in record { prints = all.0; within = all.1 }
+returns-in_default c = absurd (search (record_faultless, rules))
 
 pub slice_bounds-put_shown-end : goal.slice_bounds-put_shown-end
 slice_bounds-put_shown-end c = search (record_room, rules)

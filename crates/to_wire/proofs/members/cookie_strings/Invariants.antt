@@ -1,0 +1,11 @@
+-- `members::cookie_strings` meets its contract: a string a turn.
+use Prim.Native.Nat.{◌-◌}
+use lib.ListN.{length}
+use Rattle.to_wire.specs.Values.{Cookies}
+use Rattle.to_wire.proofs.members.cookie_strings.Given as goal
+
+abbrev pub invariant-loop-d : goal.invariant-loop-d
+invariant-loop-d l = Cookies l.text l.initial.d l.initial.out l.d l.first l.i l.out
+
+abbrev pub decreases-loop-d : goal.decreases-loop-d
+decreases-loop-d l = length l.text - l.d.at
