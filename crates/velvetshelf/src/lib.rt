@@ -1,5 +1,7 @@
-// The two conversions as functions for programs in C, and the versions of the library and of the format.
+// The two conversions as programs in C see them, and the versions of the library and of the format. velvetshelf_c exports
+// them.
 #![tactic(auto)]
+
 ghost use Rattle.std.specs.Prelude.{◌≡◌};
 ghost use Rattle.json_text.specs.Converted.{Converts};
 ghost use Rattle.strict.specs.Reading.{Reads};
@@ -31,8 +33,7 @@ fn value_of(outcome: Outcome) -> u64
 
 // Converts the message to its text: 0, and the text's length in `value`; or the refusal's number, and its place in
 // `value`.
-#[unsafe(no_mangle)]
-pub extern "C" fn velvetshelf_to_text(message: &[u8], text: &mut [u8], value: &mut u64) -> u32
+pub fn velvetshelf_to_text(message: &[u8], text: &mut [u8], value: &mut u64) -> u32
     ensures { Converts
         (record {
           input = message.now;
@@ -48,8 +49,7 @@ pub extern "C" fn velvetshelf_to_text(message: &[u8], text: &mut [u8], value: &m
 
 // Converts the text to its message: 0, and the message's length in `value`; or the refusal's number, and its place in
 // `value`.
-#[unsafe(no_mangle)]
-pub extern "C" fn velvetshelf_to_wire(text: &[u8], message: &mut [u8], value: &mut u64) -> u32
+pub fn velvetshelf_to_wire(text: &[u8], message: &mut [u8], value: &mut u64) -> u32
     ensures { Reads
         (record {
           input = text.now;
@@ -64,16 +64,14 @@ pub extern "C" fn velvetshelf_to_wire(text: &[u8], message: &mut [u8], value: &m
 }
 
 // VELVETSHELF_VERSION_NUMBER of the header: major * 10000 + minor * 100 + patch.
-#[unsafe(no_mangle)]
-pub extern "C" fn velvetshelf_version() -> u32
+pub fn velvetshelf_version() -> u32
     ensures { result ≡ 10300 }
 {
     10300
 }
 
 // VELVETSHELF_FORMAT of the header.
-#[unsafe(no_mangle)]
-pub extern "C" fn velvetshelf_format() -> u32
+pub fn velvetshelf_format() -> u32
     ensures { result ≡ 4 }
 {
     4
