@@ -1,4 +1,4 @@
-//! Links the static library that `rt staticlib velvetshelf` writes.
+//! Links the static library that `tools/build` writes.
 
 fn main() {
     let root = std::env::var("CARGO_MANIFEST_DIR").expect("cargo says where the project stands");
