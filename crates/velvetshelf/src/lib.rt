@@ -1,5 +1,5 @@
-// The two conversions as programs in C see them, and the versions of the library and of the format. velvetshelf_c exports
-// them.
+// The two conversions as programs in C see them, and the versions of the library and of the format; velvetshelf_c
+// exports them.
 #![tactic(auto)]
 
 ghost use Rattle.std.specs.Prelude.{◌≡◌};

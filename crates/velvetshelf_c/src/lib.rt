@@ -1,5 +1,5 @@
-// The static library for programs in C: the functions of velvetshelf under the names of include/velvetshelf.h, with their
-// clauses.
+// The static library for programs in C: the functions of velvetshelf, with their clauses, under the names that
+// include/velvetshelf.h declares.
 #![tactic(auto)]
 
 ghost use Rattle.std.specs.Prelude.{◌≡◌};
