@@ -9,7 +9,7 @@ pub put_octets-end-requires : goal.put_octets-end-requires
 put_octets-end-requires c =
     (
       c.requires.0.digits,
-      hex-room c.type_size.ensures c.reserve-r.ensures c.requires.0
+      hex-room c.size_of.ensures c.reserve-r.ensures c.requires.0
           c.if-not-r.false,
     )
 
