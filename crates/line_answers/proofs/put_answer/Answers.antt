@@ -1,0 +1,30 @@
+-- `line_answers::put_answer` meets its contract: one way for each kind of line.
+use borrow.Author.Rules.{rules}
+use native.Mathlib.Omega.{arith}
+use Rattle.hex_lines.proofs.Steps.{within}
+use Rattle.line_answers.specs.Answers.{text_line, text_left}
+use Rattle.line_answers.proofs.Limits.{over_limit, over_left}
+use Rattle.line_answers.proofs.Answering.{read_left, bad_answer, read_answer}
+use Rattle.line_answers.proofs.put_answer.Goals as goal
+
+pub returns-then-line-gt8192 : goal.returns-then-line-gt8192
+unfolding text_line text_left
+returns-then-line-gt8192 c =
+  let all = ((over_limit _ _ _ long c.put_refusal.ensures.wrote, (search rules, over_left _ _ _ _ long))) in record { wrote = all.0; upper_bound = all.1; message_after = all.2 }
+
+pub returns-in_default : goal.returns-in_default
+returns-in_default c =
+  let all = ((bad_answer _ short hex c.in_default.is wrote, (search rules, read_left _ short hex))) in record { wrote = all.0; upper_bound = all.1; message_after = all.2 }
+
+pub slice_bounds-put_message-end : goal.slice_bounds-put_message-end
+slice_bounds-put_message-end c =
+    omega (arith, within _ c.unhex.ensures.octets_within c.in-Octets.is)
+
+pub put_message-requires : goal.put_message-requires
+put_message-requires c =
+    let hex = c.unhex.ensures in
+    (omega (arith, within _ hex.octets_within c.in-Octets.is), search rules)
+
+pub returns : goal.returns
+returns c =
+  let all = ((read_answer _ short hex c.in-Octets.is wrote, (search rules, read_left _ short hex))) in record { wrote = all.0; upper_bound = all.1; message_after = all.2 }
