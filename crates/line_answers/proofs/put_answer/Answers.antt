@@ -10,11 +10,21 @@ use Rattle.line_answers.proofs.put_answer.Goals as goal
 pub returns-then-line-gt8192 : goal.returns-then-line-gt8192
 unfolding text_line text_left
 returns-then-line-gt8192 c =
-  let all = ((over_limit _ _ _ long c.put_refusal.ensures.wrote, (search rules, over_left _ _ _ _ long))) in record { wrote = all.0; upper_bound = all.1; message_after = all.2 }
+    let long = c.if-line-gt8192.true in record {
+  wrote = over_limit _ _ _ long c.put_refusal.ensures.wrote;
+  upper_bound = search rules;
+  message_after = over_left _ _ _ _ long
+}
 
 pub returns-in_default : goal.returns-in_default
 returns-in_default c =
-  let all = ((bad_answer _ short hex c.in_default.is wrote, (search rules, read_left _ short hex))) in record { wrote = all.0; upper_bound = all.1; message_after = all.2 }
+    let short = c.if-line-gt8192.false in
+    let hex = c.unhex.ensures.unhexed in
+    let wrote = c.put_refusal-in_default.ensures.wrote in record {
+  wrote = bad_answer _ short hex c.in_default.is wrote;
+  upper_bound = search rules;
+  message_after = read_left _ short hex
+}
 
 pub slice_bounds-put_message-end : goal.slice_bounds-put_message-end
 slice_bounds-put_message-end c =
@@ -27,4 +37,10 @@ put_message-requires c =
 
 pub returns : goal.returns
 returns c =
-  let all = ((read_answer _ short hex c.in-Octets.is wrote, (search rules, read_left _ short hex))) in record { wrote = all.0; upper_bound = all.1; message_after = all.2 }
+    let short = c.if-line-gt8192.false in
+    let hex = c.unhex.ensures.unhexed in
+    let wrote = c.put_message.ensures.wrote in record {
+  wrote = read_answer _ short hex c.in-Octets.is wrote;
+  upper_bound = search rules;
+  message_after = read_left _ short hex
+}

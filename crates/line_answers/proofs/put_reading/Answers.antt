@@ -7,9 +7,18 @@ use Rattle.line_answers.proofs.put_reading.Goals as goal
 pub returns-then-line-gt65536 : goal.returns-then-line-gt65536
 unfolding wire_line wire_left
 returns-then-line-gt65536 c =
-  let all = ((over_limit _ _ _ long c.put_refusal.ensures.wrote, (search rules, over_left _ _ _ _ long))) in record { wrote = all.0; upper_bound = all.1; message_after = all.2 }
+    let long = c.if-line-gt65536.true in record {
+  wrote = over_limit _ _ _ long c.put_refusal.ensures.wrote;
+  upper_bound = search rules;
+  message_after = over_left _ _ _ _ long
+}
 
 pub returns : goal.returns
 unfolding wire_line wire_left
 returns c =
-  let all = ((in_limit _ _ _ short answer.wrote, (search rules, in_left _ _ _ _ short answer.upper_bound.1))) in record { wrote = all.0; upper_bound = all.1; message_after = all.2 }
+    let short = c.if-line-gt65536.false in
+    let answer = c.put_wire.ensures in record {
+  wrote = in_limit _ _ _ short answer.wrote;
+  upper_bound = search rules;
+  message_after = in_left _ _ _ _ short answer.message_after
+}

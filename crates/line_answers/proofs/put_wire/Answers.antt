@@ -2,7 +2,7 @@
 use borrow.Author.Rules.{rules}
 use native.Mathlib.Omega.{arith}
 use Rattle.line_answers.proofs.Places.{text_place}
-use Rattle.line_answers.proofs.Wire.{message_within, refused_answer}
+use Rattle.line_answers.proofs.Wire.{message_within, message_answer, refused_answer}
 use Rattle.line_answers.proofs.put_wire.Goals as goal
 
 pub slice_bounds-put_hex-end : goal.slice_bounds-put_hex-end
@@ -22,8 +22,21 @@ overflow_cast-place c =
 
 pub returns-in-Length : goal.returns-in-Length
 returns-in-Length c =
-  let all = ((answer, (omega (arith, message_within _ _ room gives told), gives.leaves))) in record { wrote = all.0; upper_bound = all.1; message_after = all.2 }
+    let room = c.requires.0 in
+    let gives = c.read.ensures in
+    let told = c.in-Length.is in
+    let answer = message_answer _ _ room gives told c.put_hex.ensures.wrote in record {
+  wrote = answer;
+  upper_bound = omega (arith, message_within _ _ room gives told);
+  message_after = gives.leaves
+}
 
 pub returns-in-Refused : goal.returns-in-Refused
 returns-in-Refused c =
-  let all = ((refused_answer _ _ room gives c.in-Refused.is wrote, (search rules, gives.leaves))) in record { wrote = all.0; upper_bound = all.1; message_after = all.2 }
+    let room = c.requires.0 in
+    let gives = c.read.ensures in
+    let wrote = c.put_refusal.ensures.wrote in record {
+  wrote = refused_answer _ _ room gives c.in-Refused.is wrote;
+  upper_bound = search rules;
+  message_after = gives.leaves
+}

@@ -7,4 +7,8 @@ use Rattle.line_answers.proofs.text_line.Goals as goal
 pub returns : goal.returns
 unfolding printed
 returns c =
-  let all = ((then answer.wrote c.put.ensures, (search rules, answer.upper_bound.1))) in record { wrote = all.0; upper_bound = all.1; message_after = all.2 }
+    let answer = c.put_answer-n.ensures in record {
+  wrote = then answer.wrote c.put.ensures;
+  upper_bound = search rules;
+  message_after = answer.message_after
+}
