@@ -11,7 +11,7 @@ use Rattle.std.proofs.Math.Dec.{leb}
 use Rattle.std.proofs.Math.ListN.{length}
 use Rattle.octets.specs.Answer.{Output, output, refused, Answer, success, refusal, Result, reported, overwritten}
 use Rattle.octets.specs.Answer.{delivered, delivered_same, delivered_stays}
-use Rattle.octets.specs.Calls.{Gives, Call, result_of, written_by}
+use Rattle.octets.specs.Calls.{Gives, Call, written_by}
 use Rattle.demands.specs.FrontPage.Words.{reply, room}
 
 -- ---- answers and outputs are told apart

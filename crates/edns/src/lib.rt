@@ -1,6 +1,7 @@
 // Whether a record is an EDNS element. Its RDATA is octets or hexadecimal digits: `hex` says which.
 // The definitions are in specs/.
 #![tactic(auto)]
+
 ghost use Rattle.std.specs.Prelude.{◌≡◌, ◌||◌, ◌<◌, eqb};
 ghost use Rattle.octets.specs.Lists.{key?};
 ghost use Rattle.hex_or_octets.specs.Either.{octets_in, Spelled};

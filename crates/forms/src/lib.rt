@@ -1,6 +1,7 @@
 // The uncompressed form of a message: each name is written without pointers, and RDLENGTH is adjusted. It is defined in
 // the specs/ of `records`; what its writers do is defined here.
 #![tactic(auto)]
+
 ghost use Rattle.std.specs.Prelude.{◌≡◌, ◌+◌, ◌*◌, ◌^◌, ◌≤◌, ◌<◌, true, false, ◌++◌, length};
 ghost use Rattle.octets.specs.Fields.{be16};
 ghost use Rattle.octets.specs.Overlay.{Wrote};

@@ -1,5 +1,6 @@
 // A line in hexadecimal to the octets that it spells. The definitions are in specs/.
 #![tactic(auto)]
+
 ghost use Rattle.std.specs.Prelude.{◌≡◌, true, ◌*◌, ◌≤◌, length};
 ghost use Rattle.octets.specs.Overlay.{Wrote};
 ghost use Rattle.hex_lines.specs.Hex.{hex_value, unhexed, value_or_16, hex?, octets_found, Unhexed, OctetsWithin};

@@ -1,5 +1,6 @@
 // Octets as they are, or as the hexadecimal digits of them in a text: `hex` says which. The definitions are in specs/.
 #![tactic(auto)]
+
 ghost use Rattle.std.specs.Prelude.{◌≡◌, ◌+◌, ◌*◌, ◌<◌, ◌≤◌, length, get_or};
 ghost use Rattle.octets.specs.Lists.{digit_value, paired};
 ghost use Rattle.octets.specs.Fields.{be16_at};

@@ -1,5 +1,6 @@
 // The answer of a line program to one line. The definitions are in specs/.
 #![tactic(auto)]
+
 ghost use Rattle.std.specs.Prelude.{◌≡◌, ◌+◌, ◌^◌, ◌≤◌, ◌<◌, length};
 ghost use Rattle.octets.specs.Overlay.{Wrote};
 ghost use Rattle.json_text.specs.Converted.{converted};

@@ -1,6 +1,7 @@
 // A run of a line program: pieces of standard input are read, `lines::answer_piece` answers the lines that end in them,
 // and its answers are written to standard output. The first call that fails ends the run and is told on standard error.
 #![tactic(auto)]
+
 ghost use Rattle.std.specs.Prelude.{◌≡◌, ◌≤◌, length};
 ghost use Rattle.lines.specs.Programs.{most_kept, answer_room};
 

@@ -1,5 +1,6 @@
 // The line programs: what is done with a piece of the input. The definitions are in specs/.
 #![tactic(auto)]
+
 ghost use Rattle.std.specs.Prelude.{◌≡◌, ◌||◌, ◌+◌, ◌≤◌, ◌++◌, ltb, leb, length, take, drop};
 ghost use Rattle.octets.specs.Overlay.{Wrote};
 ghost use Rattle.line_answers.specs.Answers.{printed};

@@ -1,6 +1,6 @@
 -- One step of the walk over a name, a law for each way that the length octet can go.
 use Rattle.std.specs.Prelude.{◌≡◌, refl, Bool, true, false, List, [], ℕ, suc, ◌+◌, ◌-◌, ◌*◌, ◌≤◌, ◌<◌, leb, ltb, get_or}
-use Rattle.std.proofs.Common.{sym, ap, ◌∙◌, arith}
+use Rattle.std.proofs.Common.{ap, arith}
 use borrow.Author.Tests.{le-leb, lt-leb, le-ltb, lt-ltb, ne_eqb, leb-true, leb-false, ltb-true, ltb-false}
 use Rattle.names.specs.Name.{reserved, target, long, Fault}
 use Rattle.names.specs.Walk.{part, Limit, message, end_of, past, Named, named, faulty, labelled, resumed, walk}

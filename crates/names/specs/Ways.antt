@@ -1,6 +1,6 @@
 -- The code's walk over a name, way by way: what is read from a length octet on gives the whole answer.
 use Rattle.std.specs.Prelude.{◌≡◌, refl, Bool, true, false, cond, List, [], ◌∷◌, ◌++◌, ℕ, zero, suc, ◌+◌, ◌-◌, ◌*◌, ◌≤◌, ◌<◌, eqb, length, get_or, drop, replicate}
-use Rattle.std.proofs.Common.{sym, ap, ◌∙◌, append_assoc, zero-add, arith, ne_eqb, eqb-true, length-append, length-drop, get_or-drop}
+use Rattle.std.proofs.Common.{sym, ap, ◌∙◌, append_assoc, zero-add, arith, ne_eqb, length-append, length-drop, get_or-drop}
 use Rattle.std.proofs.lemmas.List.{length-replicate}
 use Rattle.octets.specs.Lists.{each}
 use Rattle.octets.specs.Overlay.{overlay, overlay_join, overlay_first, Wrote, nothing, then, copy_step}

@@ -1,5 +1,6 @@
 // Octets, numbers and texts: what every layer above shares. The definitions are in specs/.
 #![tactic(auto)]
+
 ghost use Rattle.std.specs.Prelude.{◌≡◌, [], ◌∷◌, ◌+◌, ◌*◌, ◌^◌, ◌<◌, ◌≤◌, length};
 ghost use Rattle.octets.specs.Fields.{be16, be32, be16_at, be32_at};
 ghost use Rattle.octets.specs.Decimal.{decimal};

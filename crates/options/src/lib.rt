@@ -1,6 +1,7 @@
 // EDNS options: tests of their values, which are octets or hexadecimal digits: `hex` says which.
 // The definitions are in specs/.
 #![tactic(auto)]
+
 ghost use Rattle.std.specs.Prelude.{◌≡◌, drop};
 ghost use Rattle.octets.specs.Lists.{present?, all};
 ghost use Rattle.hex_or_octets.specs.Either.{octets_in, Spelled};

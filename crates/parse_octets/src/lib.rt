@@ -1,5 +1,6 @@
 // One octet of a label or of a string, as it is spelled in a text.
 #![tactic(auto)]
+
 ghost use Rattle.std.specs.Prelude.{◌≡◌, true, false, ◌+◌, ◌-◌, ◌*◌, ◌<◌, ◌≤◌, length};
 ghost use Rattle.spelling.specs.Spelling.{plain?};
 ghost use Rattle.strict.specs.Spelt.{coded?, ddd, escape, spelled_at, bare?, string_at};

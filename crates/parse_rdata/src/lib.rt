@@ -1,5 +1,6 @@
 // RDATA in hexadecimal in place in a text, judged and written without a buffer. The definitions are in specs/.
 #![tactic(auto)]
+
 ghost use Rattle.std.specs.Prelude.{◌≡◌, ◌+◌, ◌^◌, ◌<◌, length};
 ghost use Rattle.octets.specs.Lists.{paired};
 ghost use Rattle.octets.specs.Overlay.{Wrote};

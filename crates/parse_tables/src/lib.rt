@@ -1,5 +1,6 @@
 // The titles of a text that a table has, read as the definitions' parser of the table reads them.
 #![tactic(auto)]
+
 ghost use Rattle.std.specs.Prelude.{◌<◌};
 ghost use Rattle.octets.specs.Codec.{table_parser};
 ghost use Rattle.options.specs.Options.{members};

@@ -1,6 +1,7 @@
 // The tokens of a text. What each reader finds is what the parsers of the definitions find, and it stops where they
 // stop.
 #![tactic(auto)]
+
 ghost use Rattle.std.specs.Prelude.{◌≡◌, true, false, ◌&&◌, ◌||◌, ◌+◌, ◌-◌, ◌*◌, ◌<◌, ◌≤◌, [], ◌∷◌, length};
 ghost use Rattle.octets.specs.Lists.{u8?, u16?, u32?};
 ghost use Rattle.octets.specs.Fields.{be16, be32};

@@ -1,5 +1,6 @@
 // Writers of the EDNS element. The definitions are in `edns`.
 #![tactic(auto)]
+
 ghost use Rattle.std.specs.Prelude.{◌≡◌, true, ◌+◌, ◌*◌, ◌^◌, ◌<◌, ◌≤◌, length};
 ghost use Rattle.octets.specs.Lists.{row_text};
 ghost use Rattle.octets.specs.Overlay.{Wrote};

@@ -1,5 +1,6 @@
 // Members of the head of a message's text. Definitions and laws are in specs/.
 #![tactic(auto)]
+
 ghost use Rattle.std.specs.Prelude.{◌+◌, ◌^◌, ◌<◌, ◌≤◌, length};
 ghost use Rattle.octets.specs.Lists.{row_text};
 ghost use Rattle.octets.specs.Overlay.{Wrote};

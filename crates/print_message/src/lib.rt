@@ -1,5 +1,6 @@
 // The text of a message by its octets. Definitions and laws are in specs/.
 #![tactic(auto)]
+
 ghost use Rattle.std.specs.Prelude.{◌+◌, ◌*◌, ◌^◌, ◌<◌, ◌≤◌, length};
 ghost use Rattle.octets.specs.Fields.{be16_at};
 ghost use Rattle.octets.specs.Overlay.{Wrote};

@@ -2,14 +2,13 @@
 use Rattle.std.specs.Prelude.{◌≡◌, refl, Bool, true, false, not, ℕ, ◌-◌, ◌≤◌, length, take, drop}
 use Rattle.std.proofs.Common.{sym, ◌∙◌, arith, length-drop, take_all}
 use Rattle.std.proofs.Math.Option.{Option, none, some}
-use mathlib.Core.List.{List, [], ◌∷◌, ◌++◌, append_assoc}
+use mathlib.Core.List.{List, ◌++◌, append_assoc}
 use borrow.Author.Tests.{eq-eqb, ne_eqb, le-leb, not-true}
-use Rattle.octets.specs.Lists.{ascii, all, lookup, row_text, each, listed, present?}
+use Rattle.octets.specs.Lists.{ascii, all, lookup, row_text, listed, present?}
 use Rattle.octets.specs.Fields.{be16_at, be32_at}
 use Rattle.octets.specs.Decimal.{decimal}
-use Rattle.octets.specs.Hexadecimal.{hex_octet, hex_text}
-use Rattle.octets.specs.Overlay.{Wrote, then, each-ended}
-use Rattle.spelling.specs.Spelling.{string_text}
+use Rattle.octets.specs.Hexadecimal.{hex_text}
+use Rattle.octets.specs.Overlay.{Wrote, then}
 use Rattle.options.specs.Options.{Syntax, Value, rows, members, syntax_of, value_text, words, shape, zero?, present}
 use Rattle.options.specs.Options.{error_tail, other, member_of, member_text}
 use Rattle.octets.proofs.Arms.{Missed, arms_of}

@@ -1,5 +1,6 @@
 // Writers of the members of EDNS options. The definitions are in specs/ and in `options`.
 #![tactic(auto)]
+
 ghost use Rattle.std.specs.Prelude.{◌≡◌, ◌++◌, ◌+◌, ◌*◌, ◌^◌, ◌<◌, ◌≤◌, length};
 ghost use Rattle.octets.specs.Lists.{listed};
 ghost use Rattle.octets.specs.Decimal.{decimal};

@@ -1,5 +1,6 @@
 // Writers of the parts of option values: octets in hexadecimal, lists of numbers, the text of EDE.
 #![tactic(auto)]
+
 ghost use Rattle.std.specs.Prelude.{◌≡◌, ◌∷◌, ◌++◌, ◌+◌, ◌*◌, ◌^◌, ◌<◌, ◌≤◌, length};
 ghost use Rattle.octets.specs.Lists.{listed};
 ghost use Rattle.octets.specs.Decimal.{decimal};

@@ -1,6 +1,7 @@
 // RDATA without pointers, as octets or in hexadecimal: the one loop over its pieces that writes. Definitions and laws
 // are in specs/.
 #![tactic(auto)]
+
 ghost use Rattle.std.specs.Prelude.{◌+◌, ◌*◌, ◌^◌, ◌≤◌, ◌<◌, length};
 ghost use Rattle.octets.specs.Overlay.{Wrote};
 ghost use Rattle.rdata.specs.Written.{digits_if, PutsRdata, Ends};

@@ -7,15 +7,14 @@ use Prim.Native.Nat.{ℕ, zero, suc, ◌+◌, ◌-◌, ◌≤◌, ◌<◌}
 use native.Mathlib.Omega.{arith}
 use borrow.Author.Tests.{le-ltb, lt-ltb, ne_eqb, ltb-false}
 use lib.Dec.{ltb, eqb}
-use lib.ListN.{length, drop, replicate, length-drop, drop_of_length-le}
+use lib.ListN.{length, drop, length-drop, drop_of_length-le}
 use Rattle.octets.specs.Lists.{All, lookup}
 use Rattle.octets.proofs.Arms.{past-rows}
 use Rattle.names.specs.Name.{Name, name_form, short, surplus}
-use Rattle.names.specs.Name as name
 use Rattle.names.specs.Walk.{rdata, named, faulty, name_at}
 use Rattle.names.specs.Walk as walk
 use Rattle.names.specs.NameLaws.{read_sized}
-use Rattle.names.specs.Answer.{fault_of, name_read}
+use Rattle.names.specs.Answer.{name_read}
 use Rattle.names.specs.declared.Fault.{Fault}
 use Rattle.names.specs.declared.Fault.TheVariants.{Short, Surplus}
 use Rattle.names.specs.declared.Named.TheVariants.{Read, Faulty}

@@ -1,5 +1,5 @@
 -- The width of the spelling of an octet.
-use Rattle.std.specs.Prelude.{◌≡◌, refl, Bool, true, false, cond, List, [], ◌∷◌, ◌++◌, ℕ, ◌≤◌, eqb, length}
+use Rattle.std.specs.Prelude.{◌≡◌, refl, Bool, true, false, cond, [], ◌∷◌, ◌++◌, ℕ, ◌≤◌, eqb, length}
 use Rattle.std.proofs.Common.{arith}
 use Rattle.octets.specs.Lists.{ascii}
 use Rattle.spelling.specs.Spelling.{plain?, three_digits, spelled}

@@ -1,5 +1,6 @@
 // How names, signed numbers and strings are spelled. The definitions are in specs/.
 #![tactic(auto)]
+
 ghost use Rattle.std.specs.Prelude.{◌≡◌, ◌∷◌, ◌+◌, ◌*◌, ◌^◌, ◌<◌, ◌≤◌, length};
 ghost use Rattle.octets.specs.Overlay.{Wrote};
 ghost use Rattle.spelling.specs.Spelling.{three_digits, spelled, label_text, signed, signed_text, string_octet};

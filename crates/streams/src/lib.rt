@@ -2,6 +2,7 @@
 // interrupted is tried again; one that would block has failed. Proved loops need a bound: those that try again end
 // after 2^64 - 1 turns.
 #![tactic(auto)]
+
 ghost use Rattle.std.specs.Prelude.{◌≡◌, ◌+◌, ◌≤◌, length};
 
 use libc::{EBADF, EINTR, STDERR_FILENO, STDIN_FILENO, STDOUT_FILENO};

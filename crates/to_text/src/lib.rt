@@ -1,5 +1,6 @@
 // Message to text: the public conversion. Definitions and laws are in specs/.
 #![tactic(auto)]
+
 ghost use Rattle.std.specs.Prelude.{◌+◌, ◌*◌, ◌≤◌, length};
 ghost use Rattle.octets.specs.Calls.{Gives, Call};
 ghost use Rattle.json_text.specs.Converted.{to_text, Converts};

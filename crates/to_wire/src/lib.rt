@@ -1,5 +1,6 @@
 // The strict reader: from a text to the message that it says. Definitions are in strict/specs, the promise in specs/.
 #![tactic(auto)]
+
 ghost use Rattle.std.specs.Prelude.{◌≡◌, ◌<◌};
 ghost use Rattle.to_wire.specs.Meant.{document_meant?, document_octets};
 ghost use Rattle.strict.specs.Parser.{document};

@@ -1,5 +1,6 @@
 // Reads messages in hexadecimal, one per line, and writes the text of each or its refusal.
 #![tactic(auto)]
+
 use lines::Program;
 
 fn main() {

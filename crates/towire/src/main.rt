@@ -1,5 +1,6 @@
 // Reads texts, one per line, and writes each message in hexadecimal, or its refusal.
 #![tactic(auto)]
+
 use lines::Program;
 
 fn main() {

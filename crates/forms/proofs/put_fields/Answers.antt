@@ -6,11 +6,11 @@ use Rattle.forms.proofs.put_fields.Goals as goal
 pub returns-in-Misfit : goal.returns-in-Misfit
 returns-in-Misfit c = record {
   writes_entry = search (fields_fault, rules);
-  entry_bound = tt
+  entry_bound = tt;
 }
 
 pub returns-in-To : goal.returns-in-To
 returns-in-To c = record {
   writes_entry = search (fields_put, rules);
-  entry_bound = (search rules, search (sized_place, rules))
+  entry_bound = (search rules, search (sized_place, rules));
 }

@@ -6,5 +6,5 @@ use Rattle.forms.proofs.put_named.Goals as goal
 pub returns : goal.returns
 returns c = record {
   wrote = search (then, rules);
-  value = search rules
+  value = search rules;
 }

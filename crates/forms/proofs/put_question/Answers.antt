@@ -18,11 +18,11 @@ put_named-end-requires c = (
 pub returns-in-Faulty : goal.returns-in-Faulty
 returns-in-Faulty c = record {
   writes_entry = search (question_faults, rules);
-  entry_bound = tt
+  entry_bound = tt;
 }
 
 pub returns-in-Read : goal.returns-in-Read
 returns-in-Read c = record {
   writes_entry = search (question_puts, rules);
-  entry_bound = (search (asks_inside, rules), search (question_place, rules))
+  entry_bound = (search (asks_inside, rules), search (question_place, rules));
 }

@@ -20,11 +20,11 @@ put_fields-requires c = (
 pub returns-in-Faulty : goal.returns-in-Faulty
 returns-in-Faulty c = record {
   writes_entry = search (record_faults, rules);
-  entry_bound = tt
+  entry_bound = tt;
 }
 
 pub returns-in-Read : goal.returns-in-Read
 returns-in-Read c = record {
   writes_entry = search (record_puts, rules);
-  entry_bound = search rules
+  entry_bound = search rules;
 }

@@ -14,7 +14,7 @@ put_entry-requires c = omega (arith, c.loop-left.invariant)
 pub returns-in-Faulty : goal.returns-in-Faulty
 returns-in-Faulty c = record {
   writes_section = search (section_stops, rules);
-  section_bound = tt
+  section_bound = tt;
 }
 
 pub loop-left-preserved : goal.loop-left-preserved
@@ -29,5 +29,5 @@ loop-left-preserved c = (
 pub returns : goal.returns
 returns c = record {
   writes_section = search (section_ends, rules);
-  section_bound = search rules
+  section_bound = search rules;
 }

@@ -7,7 +7,7 @@ use Rattle.forms.proofs.put_sized.Goals as goal
 pub returns-in_default : goal.returns-in_default
 returns-in_default c = record {
   puts_sized = search (sized_fault, rules);
-  sized_to = search (sized_none, rules)
+  sized_to = search (sized_none, rules);
 }
 
 pub overflow_sub-end : goal.overflow_sub-end
@@ -22,5 +22,5 @@ put_be16-length-requires c = (search rules, search (octets_few, rules))
 pub returns : goal.returns
 returns c = record {
   puts_sized = search (sized_puts, rules);
-  sized_to = search (sized_ends, rules)
+  sized_to = search (sized_ends, rules);
 }

@@ -13,12 +13,11 @@ pub returns-then-hex_value-ge16-2 : goal.returns-then-hex_value-ge16-2
 returns-then-hex_value-ge16-2 c = search (second_bad, rules)
 
 pub loop-i-preserved : goal.loop-i-preserved
-loop-i-preserved c =
-    (
-      search rules,
-      both_good _ _ c.loop-i.invariant.1 c.loop-i-test.true c.hex_value.ensures
-          c.hex_value-in-loop-i.ensures c.if-hex_value-ge16.false c.if-hex_value-ge16-2.false,
-    )
+loop-i-preserved c = (
+  search rules,
+  both_good _ _ c.loop-i.invariant.1 c.loop-i-test.true c.hex_value.ensures
+      c.hex_value-in-loop-i.ensures c.if-hex_value-ge16.false c.if-hex_value-ge16-2.false,
+)
 
 pub returns : goal.returns
 returns c = search (looked_end, rules)

@@ -23,5 +23,5 @@ loop-i-preserved c = (search rules, search rules, search rules, search (rest_mor
 pub returns : goal.returns
 returns c = record {
   wrote = search (rest_end, rules);
-  upper_bound = search rules
+  upper_bound = search rules;
 }

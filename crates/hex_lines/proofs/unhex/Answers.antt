@@ -10,12 +10,12 @@ put_octets-requires c = (sym c.is_hex.ensures ∙ c.if-is_hex.true, search rules
 pub returns-then-is_hex : goal.returns-then-is_hex
 returns-then-is_hex c =
     let hex = sym c.is_hex.ensures ∙ c.if-is_hex.true in record {
-  unhexed = unhexed_good hex (search rules) c.put_octets.ensures.wrote;
-  octets_within = search rules
-}
+      unhexed = unhexed_good hex (search rules) c.put_octets.ensures.wrote;
+      octets_within = search rules;
+    }
 
 pub returns : goal.returns
 returns c = record {
   unhexed = unhexed_bad (sym c.is_hex.ensures ∙ c.if-is_hex.false);
-  octets_within = search rules
+  octets_within = search rules;
 }

@@ -6,11 +6,11 @@ use Rattle.hex_or_octets.proofs.count.Goals as goal
 pub returns-then-hex : goal.returns-then-hex
 returns-then-hex c = record {
   value = search (count-hex, rules);
-  upper_bound = search rules
+  upper_bound = search rules;
 }
 
 pub returns : goal.returns
 returns c = record {
   value = search (count_plain, rules);
-  upper_bound = search rules
+  upper_bound = search rules;
 }

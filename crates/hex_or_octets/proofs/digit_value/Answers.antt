@@ -6,11 +6,11 @@ use Rattle.hex_or_octets.proofs.digit_value.Goals as goal
 pub returns-then-c-lt58 : goal.returns-then-c-lt58
 returns-then-c-lt58 c = record {
   value = rw (lt-ltb _ _ c.if-c-lt58.true);
-  upper_bound = search rules
+  upper_bound = search rules;
 }
 
 pub returns : goal.returns
 returns c = record {
   value = rw (le-ltb _ _ c.if-c-lt58.false);
-  upper_bound = search rules
+  upper_bound = search rules;
 }

@@ -11,20 +11,20 @@ pub returns-then-line-gt8192 : goal.returns-then-line-gt8192
 unfolding text_line text_left
 returns-then-line-gt8192 c =
     let long = c.if-line-gt8192.true in record {
-  wrote = over_limit _ _ _ long c.put_refusal.ensures.wrote;
-  upper_bound = search rules;
-  message_after = over_left _ _ _ _ long
-}
+      wrote = over_limit _ _ _ long c.put_refusal.ensures.wrote;
+      upper_bound = search rules;
+      message_after = over_left _ _ _ _ long;
+    }
 
 pub returns-in_default : goal.returns-in_default
 returns-in_default c =
     let short = c.if-line-gt8192.false in
     let hex = c.unhex.ensures.unhexed in
     let wrote = c.put_refusal-in_default.ensures.wrote in record {
-  wrote = bad_answer _ short hex c.in_default.is wrote;
-  upper_bound = search rules;
-  message_after = read_left _ short hex
-}
+      wrote = bad_answer _ short hex c.in_default.is wrote;
+      upper_bound = search rules;
+      message_after = read_left _ short hex;
+    }
 
 pub slice_bounds-put_message-end : goal.slice_bounds-put_message-end
 slice_bounds-put_message-end c =
@@ -40,7 +40,7 @@ returns c =
     let short = c.if-line-gt8192.false in
     let hex = c.unhex.ensures.unhexed in
     let wrote = c.put_message.ensures.wrote in record {
-  wrote = read_answer _ short hex c.in-Octets.is wrote;
-  upper_bound = search rules;
-  message_after = read_left _ short hex
-}
+      wrote = read_answer _ short hex c.in-Octets.is wrote;
+      upper_bound = search rules;
+      message_after = read_left _ short hex;
+    }

@@ -14,14 +14,14 @@ pub returns-in-Length : goal.returns-in-Length
 returns-in-Length c =
     let gives = c.convert.ensures.promise in
     let told = c.in-Length.is in record {
-  wrote = text_answer _ _ c.requires.1 gives told;
-  upper_bound = text-within _ c.args.text.now c.requires.1 gives told
-}
+      wrote = text_answer _ _ c.requires.1 gives told;
+      upper_bound = text-within _ c.args.text.now c.requires.1 gives told;
+    }
 
 pub returns-in-Refused : goal.returns-in-Refused
 returns-in-Refused c =
     let gives = c.convert.ensures.promise in
     let wrote = c.put_refusal.ensures.wrote in record {
-  wrote = refused_answer _ _ c.requires.1 gives c.in-Refused.is wrote;
-  upper_bound = search rules
-}
+      wrote = refused_answer _ _ c.requires.1 gives c.in-Refused.is wrote;
+      upper_bound = search rules;
+    }

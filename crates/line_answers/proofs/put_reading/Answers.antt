@@ -8,17 +8,17 @@ pub returns-then-line-gt65536 : goal.returns-then-line-gt65536
 unfolding wire_line wire_left
 returns-then-line-gt65536 c =
     let long = c.if-line-gt65536.true in record {
-  wrote = over_limit _ _ _ long c.put_refusal.ensures.wrote;
-  upper_bound = search rules;
-  message_after = over_left _ _ _ _ long
-}
+      wrote = over_limit _ _ _ long c.put_refusal.ensures.wrote;
+      upper_bound = search rules;
+      message_after = over_left _ _ _ _ long;
+    }
 
 pub returns : goal.returns
 unfolding wire_line wire_left
 returns c =
     let short = c.if-line-gt65536.false in
     let answer = c.put_wire.ensures in record {
-  wrote = in_limit _ _ _ short answer.wrote;
-  upper_bound = search rules;
-  message_after = in_left _ _ _ _ short answer.message_after
-}
+      wrote = in_limit _ _ _ short answer.wrote;
+      upper_bound = search rules;
+      message_after = in_left _ _ _ _ short answer.message_after;
+    }

@@ -8,6 +8,6 @@ pub returns : goal.returns
 unfolding refusal_line
 returns c =
     let number = then c.put_all-n.ensures c.put_decimal-n.ensures.wrote in record {
-  wrote = then (then number c.put_all-n-2.ensures) c.put_decimal.ensures.wrote;
-  upper_bound = search rules
-}
+      wrote = then (then number c.put_all-n-2.ensures) c.put_decimal.ensures.wrote;
+      upper_bound = search rules;
+    }

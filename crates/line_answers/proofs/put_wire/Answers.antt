@@ -26,17 +26,17 @@ returns-in-Length c =
     let gives = c.read.ensures in
     let told = c.in-Length.is in
     let answer = message_answer _ _ room gives told c.put_hex.ensures.wrote in record {
-  wrote = answer;
-  upper_bound = omega (arith, message_within _ _ room gives told);
-  message_after = gives.leaves
-}
+      wrote = answer;
+      upper_bound = omega (arith, message_within _ _ room gives told);
+      message_after = gives.leaves;
+    }
 
 pub returns-in-Refused : goal.returns-in-Refused
 returns-in-Refused c =
     let room = c.requires.0 in
     let gives = c.read.ensures in
     let wrote = c.put_refusal.ensures.wrote in record {
-  wrote = refused_answer _ _ room gives c.in-Refused.is wrote;
-  upper_bound = search rules;
-  message_after = gives.leaves
-}
+      wrote = refused_answer _ _ room gives c.in-Refused.is wrote;
+      upper_bound = search rules;
+      message_after = gives.leaves;
+    }

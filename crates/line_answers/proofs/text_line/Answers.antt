@@ -8,7 +8,7 @@ pub returns : goal.returns
 unfolding printed
 returns c =
     let answer = c.put_answer-n.ensures in record {
-  wrote = then answer.wrote c.put.ensures;
-  upper_bound = search rules;
-  message_after = answer.message_after
-}
+      wrote = then answer.wrote c.put.ensures;
+      upper_bound = search rules;
+      message_after = answer.message_after;
+    }

@@ -11,11 +11,11 @@ pub returns-then-more-le254 : goal.returns-then-more-le254
 unfolding overlay
 returns-then-more-le254 c = record {
   value = search rules;
-  kept_octets = record { wrote = λ h. search rules }
+  kept_octets = record { wrote = λ h. search rules };
 }
 
 pub returns-else-more-le254 : goal.returns-else-more-le254
 returns-else-more-le254 c = record {
   value = search rules;
-  kept_octets = record { wrote = λ h. absurd (omega (arith, h, c.if-more-le254.false)) }
+  kept_octets = record { wrote = λ h. absurd (omega (arith, h, c.if-more-le254.false)) };
 }

@@ -14,5 +14,5 @@ shape_of-out c = c.loop-i.invariant.2
 pub returns : goal.returns
 returns c = record {
   wrote = each_end _ _ c.loop-i-test.false c.loop-i.invariant.3;
-  value = search rules
+  value = search rules;
 }

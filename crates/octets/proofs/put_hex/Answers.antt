@@ -7,7 +7,7 @@ use Rattle.octets.proofs.put_hex.Goals as goal
 pub returns-then-to-out : goal.returns-then-to-out
 returns-then-to-out c = record {
   wrote = wrote_past _ _ _ c.if-to-out.true (omega (arith, each-hex-length c.args.src.now));
-  value = search rules
+  value = search rules;
 }
 
 pub loop-i-init : goal.loop-i-init
@@ -22,5 +22,5 @@ shape_of-out c = same_long c.loop-i.invariant.2
 pub returns : goal.returns
 returns c = record {
   wrote = each_end _ _ c.loop-i-test.false c.loop-i.invariant.2;
-  value = search rules
+  value = search rules;
 }

@@ -29,12 +29,11 @@ loop-n-smaller-in-Fixed c =
     search rules
 
 pub loop-n-preserved-in-Fixed : goal.loop-n-preserved-in-Fixed
-loop-n-preserved-in-Fixed c =
-    (
-      search rules,
-      fits_part c.loop-n.invariant.1 c.layout_piece.ensures c.in-Fixed.is
-          (search rules) c.if-size-at.false,
-    )
+loop-n-preserved-in-Fixed c = (
+  search rules,
+  fits_part c.loop-n.invariant.1 c.layout_piece.ensures c.in-Fixed.is
+      (search rules) c.if-size-at.false,
+)
 
 pub returns-in-Unfit : goal.returns-in-Unfit
 returns-in-Unfit c =

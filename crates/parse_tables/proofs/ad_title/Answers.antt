@@ -10,5 +10,5 @@ pub returns : goal.returns
 unfolding ad_titles each
 returns c = let x = row_of ad_titles refl c.row_of.ensures in record {
   row_read = x;
-  key_bound = title_bit x
+  key_bound = title_bit x;
 }

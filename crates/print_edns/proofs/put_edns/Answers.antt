@@ -9,5 +9,5 @@ put_options-next-requires c = (search rules, search rules, search (shows_rise, r
 pub returns : goal.returns
 returns c = record {
   wrote = wrote_element _ _ _ _ c.put_head-next.ensures.wrote c.put_all-next.ensures c.put_decimal-next.ensures.wrote c.put_options-next.ensures.wrote c.put_all.ensures;
-  upper_bound = search rules
+  upper_bound = search rules;
 }

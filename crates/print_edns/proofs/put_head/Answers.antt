@@ -6,5 +6,5 @@ use Rattle.print_edns.proofs.put_head.Goals as goal
 pub returns : goal.returns
 returns c = record {
   wrote = search (wrote_head, rules);
-  upper_bound = search rules
+  upper_bound = search rules;
 }

@@ -29,5 +29,5 @@ shape_of-out c = same_long (left_end c.loop-at.invariant.2 c.loop-at-test.false)
 pub returns : goal.returns
 returns c = record {
   wrote = left_end c.loop-at.invariant.2 c.loop-at-test.false;
-  upper_bound = search rules
+  upper_bound = search rules;
 }

@@ -10,7 +10,7 @@ pub returns-then-row-ge185 : goal.returns-then-row-ge185
 unfolding each rcodes
 returns-then-row-ge185 c = record {
   wrote = rcode_none _ c.rcode_names-table.ensures c.rcode_row-row.ensures c.if-row-ge185.true;
-  upper_bound = search rules
+  upper_bound = search rules;
 }
 
 pub bounds-table-row : goal.bounds-table-row
@@ -31,6 +31,6 @@ unfolding each rcodes
 returns c =
     let w = rcode_is _ c.rcode_names-table.ensures c.rcode_row-row.ensures c.if-row-ge185.false
     c.wide.ensures.0 c.put_all.ensures in record {
-  wrote = w;
-  upper_bound = rcode_short _ w
-}
+      wrote = w;
+      upper_bound = rcode_short _ w;
+    }

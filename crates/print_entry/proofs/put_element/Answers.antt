@@ -12,11 +12,11 @@ put_record-requires c = (search rules, search rules, search rules, search (recor
 pub returns-in-Question : goal.returns-in-Question
 returns-in-Question c = record {
   prints = search (element_question, rules);
-  within = search rules
+  within = search rules;
 }
 
 pub returns-in-Record : goal.returns-in-Record
 returns-in-Record c = record {
   prints = search (element_record, rules);
-  within = search rules
+  within = search rules;
 }

@@ -6,5 +6,5 @@ use Rattle.print_entry.proofs.put_fields.Goals as goal
 pub returns : goal.returns
 returns c = record {
   wrote = search (wrote_fields, rules);
-  upper_bound = search rules
+  upper_bound = search rules;
 }

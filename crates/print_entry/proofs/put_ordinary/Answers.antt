@@ -16,6 +16,6 @@ put_all-requires c =
 pub returns : goal.returns
 returns c =
     let k = rdata_digits_end _ _ c.put_rdata-rdata.ensures.ends c.in-To.is in record {
-  prints = ordinary_prints _ _ _ c.put_rdata-rdata.ensures.puts_rdata c.put_fields-fields.ensures.wrote c.put-open.ensures c.in-To.is c.put_all.ensures;
-  upper_bound = omega (arith, c.put_all.ensures.place, c.put-open.ensures.place, c.put_fields-fields.ensures.upper_bound)
-}
+      prints = ordinary_prints _ _ _ c.put_rdata-rdata.ensures.puts_rdata c.put_fields-fields.ensures.wrote c.put-open.ensures c.in-To.is c.put_all.ensures;
+      upper_bound = omega (arith, c.put_all.ensures.place, c.put-open.ensures.place, c.put_fields-fields.ensures.upper_bound);
+    }

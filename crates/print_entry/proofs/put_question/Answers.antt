@@ -16,5 +16,5 @@ put_start-end-requires c = (search rules, search (asks-name, rules))
 pub returns : goal.returns
 returns c = record {
   prints = search (question_prints, rules);
-  within = (search (question_later, rules), search (asks_inside, rules), search (question_place, rules))
+  within = (search (question_later, rules), search (asks_inside, rules), search (question_place, rules));
 }

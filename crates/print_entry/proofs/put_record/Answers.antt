@@ -27,5 +27,5 @@ overflow_add-result c = search (record_fits, rules)
 pub returns : goal.returns
 returns c = record {
   prints = search (record_prints, rules);
-  within = (search (record_later, rules), search (heads_inside, rules), search (record_place, rules))
+  within = (search (record_later, rules), search (heads_inside, rules), search (record_place, rules));
 }

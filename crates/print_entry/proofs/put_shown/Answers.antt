@@ -10,7 +10,7 @@ put_edns-requires c = (search rules, search rules, search (rdata_short, rules), 
 pub returns-then-is_element : goal.returns-then-is_element
 returns-then-is_element c = record {
   prints = search (shown_element, rules);
-  upper_bound = search (element_place, rules)
+  upper_bound = search (element_place, rules);
 }
 
 pub put_ordinary-requires : goal.put_ordinary-requires
@@ -19,5 +19,5 @@ put_ordinary-requires c = (search rules, search rules, search rules, search rule
 pub returns : goal.returns
 returns c = record {
   prints = search (shown_ordinary, rules);
-  upper_bound = search rules
+  upper_bound = search rules;
 }

@@ -6,5 +6,5 @@ use Rattle.print_entry.proofs.put_start.Goals as goal
 pub returns : goal.returns
 returns c = record {
   wrote = search (wrote_start, rules);
-  upper_bound = search rules
+  upper_bound = search rules;
 }

@@ -10,12 +10,12 @@ pub returns-then-z-eq0 : goal.returns-then-z-eq0
 unfolding row_text ad_titles
 returns-then-z-eq0 c = record {
   wrote = wrote_row 0 ad_titles c.if-z-eq0.true c.put_all.ensures;
-  upper_bound = search rules
+  upper_bound = search rules;
 }
 
 pub returns : goal.returns
 unfolding row_text ad_titles
 returns c = record {
   wrote = wrote_row 1 ad_titles {n = c.args.z} (omega arith) c.put_all-2.ensures;
-  upper_bound = search rules
+  upper_bound = search rules;
 }

@@ -9,5 +9,5 @@ pub returns : goal.returns
 unfolding with_high
 returns c = record {
   wrote = number_after _ refl (number_after _ refl (number_after _ refl (number_after _ refl (number_after _ refl (nothing _ _) c.put_number-qr.ensures.wrote) c.put_number-opcode.ensures.wrote) c.put_number-aa.ensures.wrote) c.put_number-tc.ensures.wrote) c.put_number.ensures.wrote;
-  upper_bound = search rules
+  upper_bound = search rules;
 }

@@ -9,5 +9,5 @@ pub returns : goal.returns
 unfolding with_low
 returns c = record {
   wrote = number_after _ refl (number_after _ refl (then (then (number_after _ refl (nothing _ _) c.put_number-ra.ensures.wrote) c.put_ad_title-title.ensures.wrote) c.put_decimal-ad.ensures.wrote) c.put_number-cd.ensures.wrote) c.put_number.ensures.wrote;
-  upper_bound = search rules
+  upper_bound = search rules;
 }

@@ -6,5 +6,5 @@ use Rattle.print_head.proofs.put_number.Goals as goal
 pub returns : goal.returns
 returns c = record {
   wrote = search (wrote_number, rules);
-  upper_bound = search rules
+  upper_bound = search rules;
 }

@@ -6,11 +6,11 @@ use Rattle.print_message.proofs.put_comma.Goals as goal
 pub returns-then-first : goal.returns-then-first
 returns-then-first c = record {
   wrote = search (comma_first, rules);
-  upper_bound = search rules
+  upper_bound = search rules;
 }
 
 pub returns : goal.returns
 returns c = record {
   wrote = search (comma-later, rules);
-  upper_bound = search rules
+  upper_bound = search rules;
 }

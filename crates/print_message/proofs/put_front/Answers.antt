@@ -26,5 +26,5 @@ put_section-requires c = (
 pub returns : goal.returns
 returns c = record {
   prints = search (front_prints, rules);
-  placed = search rules
+  placed = search rules;
 }

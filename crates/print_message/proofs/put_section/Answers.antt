@@ -9,5 +9,5 @@ put_array-requires c = (search rules, search rules, search rules, search rules, 
 pub returns : goal.returns
 returns c = record {
   prints = search (section_prints, rules);
-  placed = search rules
+  placed = search rules;
 }

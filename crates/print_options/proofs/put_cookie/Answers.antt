@@ -6,7 +6,7 @@ use Rattle.print_options.proofs.put_cookie.Goals as goal
 pub returns-then-value-eq8 : goal.returns-then-value-eq8
 returns-then-value-eq8 c = record {
   wrote = search (cookie_client, rules);
-  upper_bound = search rules
+  upper_bound = search rules;
 }
 
 pub slice_bounds-put_hex_text-end-3 : goal.slice_bounds-put_hex_text-end-3
@@ -21,5 +21,5 @@ slice_bounds-put_hex_text-start-2 c = search (cookie_room, rules)
 pub returns : goal.returns
 returns c = record {
   wrote = search (cookie_both, rules);
-  upper_bound = search rules
+  upper_bound = search rules;
 }

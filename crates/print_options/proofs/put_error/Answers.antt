@@ -15,5 +15,5 @@ slice_bounds-put_error_tail-start c = search (error_room, rules)
 pub returns : goal.returns
 returns c = record {
   wrote = search (error_is, rules);
-  upper_bound = search rules
+  upper_bound = search rules;
 }

@@ -6,7 +6,7 @@ use Rattle.print_options.proofs.put_expire.Goals as goal
 pub returns-then-value-eq0 : goal.returns-then-value-eq0
 returns-then-value-eq0 c = record {
   wrote = search (expire_none, rules);
-  upper_bound = search rules
+  upper_bound = search rules;
 }
 
 pub be32_at-requires : goal.be32_at-requires
@@ -15,5 +15,5 @@ be32_at-requires c = search (expire_room, rules)
 pub returns : goal.returns
 returns c = record {
   wrote = search (expire_is, rules);
-  upper_bound = search rules
+  upper_bound = search rules;
 }

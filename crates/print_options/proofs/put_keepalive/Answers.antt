@@ -9,5 +9,5 @@ be16_at-requires c = search (keepalive_room, rules)
 pub returns : goal.returns
 returns c = record {
   wrote = search (keepalive_is, rules);
-  upper_bound = search rules
+  upper_bound = search rules;
 }

@@ -7,5 +7,5 @@ use Rattle.print_options.proofs.put_keytag.Goals as goal
 pub returns : goal.returns
 returns c = record {
   wrote = keytag_is _ (search rules) (search (then, rules));
-  upper_bound = search rules
+  upper_bound = search rules;
 }

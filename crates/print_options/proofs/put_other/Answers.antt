@@ -6,5 +6,5 @@ use Rattle.print_options.proofs.put_other.Goals as goal
 pub returns : goal.returns
 returns c = record {
   wrote = search (other_is, rules);
-  upper_bound = search rules
+  upper_bound = search rules;
 }

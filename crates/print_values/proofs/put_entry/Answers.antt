@@ -6,11 +6,11 @@ use Rattle.print_values.proofs.put_entry.Goals as goal
 pub returns-then-width-eq2 : goal.returns-then-width-eq2
 returns-then-width-eq2 c = record {
   wrote = search (two_entry, rules);
-  upper_bound = search (two_short, rules)
+  upper_bound = search (two_short, rules);
 }
 
 pub returns : goal.returns
 returns c = record {
   wrote = search (one_entry, rules);
-  upper_bound = search (one_short, rules)
+  upper_bound = search (one_short, rules);
 }

@@ -6,5 +6,5 @@ use Rattle.print_values.proofs.put_hex_text.Goals as goal
 pub returns : goal.returns
 returns c = record {
   wrote = search (wrote_hex, rules);
-  value = search rules
+  value = search rules;
 }

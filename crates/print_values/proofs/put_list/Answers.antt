@@ -8,7 +8,7 @@ use Rattle.print_values.proofs.put_list.Goals as goal
 pub returns-then-value-width : goal.returns-then-value-width
 returns-then-value-width c = record {
   wrote = search (list_none, rules);
-  upper_bound = search rules
+  upper_bound = search rules;
 }
 
 pub loop-at-init : goal.loop-at-init
@@ -32,5 +32,5 @@ shape_of-out c =
 pub returns : goal.returns
 returns c = record {
   wrote = search (list_last, rules);
-  upper_bound = search rules
+  upper_bound = search rules;
 }

@@ -24,8 +24,8 @@ loop-end-preserved c = search (loop_name, rules)
 
 pub returns-in-Done : goal.returns-in-Done
 returns-in-Done c =
-  let all = (with_ends _ _ _ _ (search (loop_done, rules)) (search rules) (search rules)) in record { puts_rdata = all.0; ends = all.1 }
+    let all = (with_ends _ _ _ _ (search (loop_done, rules)) (search rules) (search rules)) in record { puts_rdata = all.0; ends = all.1 }
 
 pub returns-in-Misfit : goal.returns-in-Misfit
 returns-in-Misfit c =
-  let all = (with_ends _ _ _ _ (search (loop_misfit, rules)) (search rules) (search rules)) in record { puts_rdata = all.0; ends = all.1 }
+    let all = (with_ends _ _ _ _ (search (loop_misfit, rules)) (search rules) (search rules)) in record { puts_rdata = all.0; ends = all.1 }

@@ -5,7 +5,6 @@
 use borrow.Author.Tests.{le-leb, lt-leb, le-ltb}
 use mathlib.Core.Path.{◌≡◌, refl, ap}
 use mathlib.Core.Bool.{false, ◌&&◌, ◌||◌}
-use mathlib.Core.Logic.{⊎_elim}
 use mathlib.Core.Option.{none, some}
 use mathlib.Core.List.{List, [], ◌∷◌}
 use Prim.Native.Nat.{ℕ, ◌≤◌, ◌<◌}
@@ -73,9 +72,10 @@ pub returns-in_default : goal.returns-in_default
 returns-in_default c =
     let args = c.args in
     let out : (leb 2 args.rtype && ltb args.rtype 10) ≡ false =
-      elim c.in_default.branch [
-        in_default-via-then-rtype-lt2 w ↦ below args.rtype w.if-rtype-lt2-1.true
-      | in_default-via-else-rtype-lt2+else-rtype-lt10 w ↦ beyond args.rtype w.if-rtype-lt10-1.false ] in
+    elim c.in_default.branch [
+      | in_default-via-then-rtype-lt2 w ↦ below args.rtype w.if-rtype-lt2-1.true
+      | in_default-via-else-rtype-lt2+else-rtype-lt10 w ↦ beyond args.rtype w.if-rtype-lt10-1.false
+    ] in
     piece_free args.rtype args.size args.i (no-layout _ args.rtype c.in_default-1.rest out)
     c.if-size-eq0.false c.nth_piece-in_default.ensures
 
@@ -84,8 +84,9 @@ unfolding lookup layouts layout_of
 returns-in-2 c =
     let args = c.args in
     let one : layout_of args.rtype ≡ some (name ∷ []) =
-      elim c.in-2-1.branch [
-        in-12-1 w ↦ ap layout_of w.in-12-1.keys1
-      | in_default+else-rtype-lt2+then-rtype-lt10 w ↦ one_name args.rtype w.if-rtype-lt2-1.false w.if-rtype-lt10-1.true w.in_default-1.rest.0.0.1 ] in
+    elim c.in-2-1.branch [
+      | in-12-1 w ↦ ap layout_of w.in-12-1.keys1
+      | in_default+else-rtype-lt2+then-rtype-lt10 w ↦ one_name args.rtype w.if-rtype-lt2-1.false w.if-rtype-lt10-1.true w.in_default-1.rest.0.0.1
+    ] in
     piece_listed (name ∷ []) args.rtype args.size args.i one (omega arith) c.if-size-eq0.false
     c.nth_piece-in-2.ensures

@@ -6,9 +6,9 @@ use Rattle.records.proofs.owner_at.Goals as goal
 pub returns-in_default : goal.returns-in_default
 returns-in_default c = let p = c.name_at-read in let e =
     c.in_default.is in record {
-  value = begun_faulty _ _ _ p.ensures e;
-  begins = rw e tt
-}
+      value = begun_faulty _ _ _ p.ensures e;
+      begins = rw e tt;
+    }
 
 pub loop-i-init : goal.loop-i-init
 loop-i-init c = (
@@ -21,7 +21,7 @@ loop-i-init c = (
 pub returns-then-s-place : goal.returns-then-s-place
 returns-then-s-place c = record {
   value = search (begun_cut, rules);
-  begins = tt
+  begins = tt;
 }
 
 pub loop-i-preserved : goal.loop-i-preserved
@@ -34,5 +34,5 @@ loop-i-preserved c = (
 pub returns : goal.returns
 returns c = record {
   value = search (begun-whole, rules);
-  begins = search (begun_fits, rules)
+  begins = search (begun_fits, rules);
 }

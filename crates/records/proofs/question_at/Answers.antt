@@ -28,12 +28,12 @@ overflow_add-result c =
 pub returns-in-Faulty : goal.returns-in-Faulty
 returns-in-Faulty c = record {
   value = search (question_faulty, rules);
-  asks = tt
+  asks = tt;
 }
 
 pub returns-in-Read : goal.returns-in-Read
 returns-in-Read c =
     let p = begins _ (2 ∷ 2 ∷ []) c.owner_at-begun.ensures.begins c.in-Read.is in record {
-  value = question_whole _ _ c.owner_at-begun.ensures.value c.in-Read.is c.be16_at-rtype.ensures.value c.be16_at-class.ensures.value;
-  asks = omega arith
-}
+      value = question_whole _ _ c.owner_at-begun.ensures.value c.in-Read.is c.be16_at-rtype.ensures.value c.be16_at-class.ensures.value;
+      asks = omega arith;
+    }

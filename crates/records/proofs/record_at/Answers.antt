@@ -16,17 +16,17 @@ fields_at-requires c = (
 pub returns-in-Faulty-fields_at : goal.returns-in-Faulty-fields_at
 returns-in-Faulty-fields_at c = record {
   value = search (head_cut, rules);
-  heads = tt
+  heads = tt;
 }
 
 pub returns-in-Faulty : goal.returns-in-Faulty
 returns-in-Faulty c = record {
   value = search (head_faulty, rules);
-  heads = tt
+  heads = tt;
 }
 
 pub returns-in-Read-fields_at : goal.returns-in-Read-fields_at
 returns-in-Read-fields_at c = record {
   value = search (head-whole, rules);
-  heads = ( search (heads_size, rules), search (heads_kind, rules), search (heads_class, rules), search (rdata_after, rules), search (heads_inside, rules), search (heads_short, rules), )
+  heads = (search (heads_size, rules), search (heads_kind, rules), search (heads_class, rules), search (rdata_after, rules), search (heads_inside, rules), search (heads_short, rules));
 }

@@ -16,5 +16,5 @@ shape_of-out c = same_long
 pub returns : goal.returns
 returns c = record {
   wrote = search (wrote_label, rules);
-  upper_bound = search rules
+  upper_bound = search rules;
 }

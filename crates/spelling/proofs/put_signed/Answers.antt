@@ -6,11 +6,11 @@ use Rattle.spelling.proofs.put_signed.Goals as goal
 pub returns-then-n-lt2147483648 : goal.returns-then-n-lt2147483648
 returns-then-n-lt2147483648 c = record {
   wrote = search (wrote_plus, rules);
-  upper_bound = search rules
+  upper_bound = search rules;
 }
 
 pub returns : goal.returns
 returns c = record {
   wrote = search (wrote_minus, rules);
-  upper_bound = search rules
+  upper_bound = search rules;
 }

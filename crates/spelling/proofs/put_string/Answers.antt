@@ -15,5 +15,5 @@ shape_of-out c = search (same_long c.loop-i.invariant.2, rules)
 pub returns : goal.returns
 returns c = record {
   wrote = search (wrote_string, rules);
-  upper_bound = search rules
+  upper_bound = search rules;
 }

@@ -48,37 +48,37 @@ pub returns-in-46 : goal.returns-in-46
 unfolding width plain?
 returns-in-46 c = record {
   value = by_key c.in-46.is;
-  lower_bound = search rules
+  lower_bound = search rules;
 }
 
 pub returns-in-92 : goal.returns-in-92
 unfolding width plain?
 returns-in-92 c = record {
   value = by_key c.in-92.is;
-  lower_bound = search rules
+  lower_bound = search rules;
 }
 
 pub returns-in_default : goal.returns-in_default
 returns-in_default c = record {
   value = search (inside, rules);
-  lower_bound = search rules
+  lower_bound = search rules;
 }
 
 pub returns-in-34 : goal.returns-in-34
 unfolding width plain?
 returns-in-34 c = record {
   value = search (by_key, rules);
-  lower_bound = search rules
+  lower_bound = search rules;
 }
 
 pub returns-in-34-2 : goal.returns-in-34-2
 returns-in-34-2 c = record {
   value = search (below, rules);
-  lower_bound = search rules
+  lower_bound = search rules;
 }
 
 pub returns-in-34-3 : goal.returns-in-34-3
 returns-in-34-3 c = record {
   value = search (above, rules);
-  lower_bound = search rules
+  lower_bound = search rules;
 }

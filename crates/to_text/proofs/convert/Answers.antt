@@ -10,7 +10,7 @@ returns-in_default c =
 pub deliver-requires : goal.deliver-requires
 deliver-requires c =
     let l = convert_bounded _ [] _ c.uncompress-scan.auto.out c.uncompress-scan.ensures
-        (λ i. (c.type_inv.message i).fits) c.in-Length.is in
+    (λ i. (c.type_inv.message i).fits) c.in-Length.is in
     (convert_accepted _ [] _ c.uncompress-scan.auto.out c.uncompress-scan.ensures c.in-Length.is, l.0, l.1)
 
 pub returns : goal.returns

@@ -9,5 +9,5 @@ pub returns : goal.returns
 unfolding with_counts
 returns c = record {
   wrote = number_after _ c.be16_at-4.ensures.value (number_after _ c.be16_at-3.ensures.value (number_after _ c.be16_at-2.ensures.value (number_after _ c.be16_at.ensures.value (nothing _ _) c.put_number-questions.ensures.wrote) c.put_number-answers.ensures.wrote) c.put_number-authority.ensures.wrote) c.put_number.ensures.wrote;
-  upper_bound = search rules
+  upper_bound = search rules;
 }

@@ -5,5 +5,5 @@ use Rattle.to_wire.proofs.head.head.Goals as goal
 pub returns : goal.returns
 returns c = record {
   head_read = search (head_read_lem, rules);
-  rcode_bound = search rules
+  rcode_bound = search rules;
 }
