@@ -25,11 +25,10 @@ leaves = both.leaves
 pub stays : (c : Call) → Made c → drop (reported (reply c)) c.after ≡ drop (reported (reply c)) c.before
 stays = both.stays
 
--- Demand 2. Success exactly for an accepted message, given room: its text is written and its length reported. A refusal
--- exactly when `decode` says so; 10 exactly without room. VELVETSHELF_LONGEST_TEXT octets are enough. Places: 1, 4, 5
--- and 6 at the octet at fault: the length octet, the pointer's first octet, the first octet of the field that doesn't
--- fit, or the message's end if nothing of it is there; 7 at RDATA's first octet; 11 and 8 at the first octet left over;
--- under 12 octets, and all else, at 0.
+-- Demand 2. Success exactly for an accepted message, given room: its text and its length. A refusal exactly when
+-- `decode` says so; 10 exactly without room. VELVETSHELF_LONGEST_TEXT octets are enough. Places: 1, 4, 5 and 6 at the
+-- octet at fault: the length octet, the first octet of the pointer or of the field that doesn't fit, or the message's
+-- end if nothing of it is there; 7 at RDATA's first octet; 11 and 8 at the first octet left over; else, as under 12, 0.
 module _ (c : Call) (made : Converts c) where
   pub text_success : (n : ℕ) → (reply c ≡ success n) ↔ ((m : Message) × Accepts c m × Length c n (text m))
   text_success = converter.accepts c made
@@ -75,7 +74,8 @@ module _ (c : Call) (made : Reads c) where
 
 -- Demand 2. Both round trips: a text read back gives the uncompressed form, and that written again gives the text.
 pub there_and_back : (c d : Call) → Converts c → Reads d → (m : Message) → Accepts c m → length (text m) ≤ room c
-    → d.input ≡ written_by c → length (form m) ≤ room d → (reply d ≡ success (length (form m))) × (written_by d ≡ form m)
+    → d.input ≡ written_by c → length (form m) ≤ room d
+    → (reply d ≡ success (length (form m))) × (written_by d ≡ form m)
 there_and_back = reader.there_and_back
 
 pub back_and_there : (d c : Call) → Reads d → Converts c → (n : ℕ) → reply d ≡ success n → c.input ≡ written_by d
