@@ -27,8 +27,8 @@ stays = both.stays
 
 -- Demand 2. Success exactly for an accepted message, given room: its text and its length. A refusal exactly when
 -- `decode` says so; 10 exactly without room. VELVETSHELF_LONGEST_TEXT octets are enough. Places: 1, 4, 5 and 6 at the
--- octet at fault: the length octet, the first octet of the pointer or of the field that doesn't fit, or the message's
--- end if nothing of it is there; 7 at RDATA's first octet; 11 and 8 at the first octet left over; else, as under 12, 0.
+-- octet at fault: the length octet, the first octet of the pointer or of a field that doesn't fit, or the message's end
+-- if nothing is there; 7 at RDATA's first octet; 11 and 8 at the first left over; 1 under 12 octets and all else at 0.
 module _ (c : Call) (made : Converts c) where
   pub text_success : (n : ℕ) → (reply c ≡ success n) ↔ ((m : Message) × Accepts c m × Length c n (text m))
   text_success = converter.accepts c made
