@@ -1,135 +1,213 @@
-// A run of a line program: pieces of standard input are read, `lines::answer_piece` answers the lines that end in them,
-// and its answers are written to standard output. The first call that fails ends the run and is told on standard error.
+// A run of a line program: pieces of the input are read, `lines::answer_piece` answers the lines that end in them, and
+// its answers are written to the output. The first call that fails ends the run and is told on standard error.
 #![tactic(auto)]
 
-ghost use Rattle.std.specs.Prelude.{◌≡◌, ◌≤◌, length};
-ghost use Rattle.lines.specs.Programs.{most_kept, answer_room};
+ghost use Rattle.std.specs.Prelude.{◌≡◌, ◌≤◌, ◌<◌, List, ℕ, [], ◌∷◌, length, take, IfOk, IfErr, OnErr, OnOk};
+ghost use Rattle.std.specs.Io.KnownBytes.{Appends, Consumes, IsAtEnd};
+ghost use Rattle.lines.specs.Lines.{program_output};
+ghost use Rattle.lines.specs.Programs.{answer_to, most_kept, answer_room};
+ghost use Rattle.lines.specs.Reading.{printed_last, printed_over, so_far};
+ghost use Rattle.line_program.specs.Written.{AppendsPart, WrittenAt};
 
 use lines::{Program, answer_piece};
+use std::env::Env;
+use std::io;
+use std::io::{Error, ErrorKind, Read, Write};
 use streams::{
-    close_output, is_argument, print_line, read_piece, tell_line, tell_read, tell_write,
-    write_first,
+    close_output, has_argument, is_argument, print_line, read_piece, tell_failure, tell_read,
+    tell_write, write_first,
 };
 
-// How much of a line is kept after a piece, and whether all answers were written.
+// The call that failed, and why.
 #[derive(Clone, Copy)]
-struct Progress {
-    used: usize,
-    written: bool,
+enum Failure {
+    Read(Error),
+    Write(Error),
+    Close(Error),
 }
 
-// Answers the lines that end in a piece, in as many calls as the room for answers asks for. A write that fails is told.
-fn answer(
+// Answers the lines that end in a piece, in as many calls as the room for answers asks for, and returns how much of a
+// line is kept.
+fn answer<W: Write>(
     program: Program,
-    name: &[u8],
     line: &mut [u8],
     used: usize,
     input: &[u8],
     out: &mut [u8],
-) -> Progress
-    requires used_in_bounds { (used ≤ length line.old) × (length line.old ≡ most_kept) × (answer_room ≤ length out.old) }
-    requires name_len_bound { length name.now ≤ 1000 }
-    ensures { result.used ≤ most_kept }
+    writer: &mut W,
+) -> io::Result<usize>
+    requires { (used ≤ length line.old) × (length line.old ≡ most_kept) × (answer_room ≤ length out.old) }
+    ensures bound { IfOk result (λ n. n ≤ most_kept) }
+    ensures kept { IfOk result (λ n. take most_kept (take n line.new)
+        ≡ take most_kept (so_far (take used line.old) input.now)) }
+    ensures written { OnOk result (Appends (W.contents writer.old) (W.contents writer.new)
+        (printed_over (answer_to program) (take used line.old) input.now)) }
+    ensures part { OnErr result (AppendsPart (W.contents writer.old) (W.contents writer.new)
+        (printed_over (answer_to program) (take used line.old) input.now)) }
 {
     let mut used = used;
     let mut from = 0;
     while from < input.len() {
         let step = answer_piece(program, line, used, &input[from..input.len()], out);
-        if !write_first(out, step.size) {
-            tell_write(name);
-            return Progress {
-                used: 0,
-                written: false,
-            };
-        }
+        write_first(writer, out, step.size)?;
         used = step.used;
         from += step.taken;
     }
-    Progress {
-        used,
-        written: true,
-    }
+    Ok(used)
 }
 
-// The end of the input: a last line without newline is answered if it isn't empty. Whether all was written.
-fn answer_last(program: Program, name: &[u8], line: &mut [u8], used: usize, out: &mut [u8]) -> bool
-    requires used_in_bounds { (used ≤ length line.old) × (length line.old ≡ most_kept) × (answer_room ≤ length out.old) }
-    requires name_len_bound { length name.now ≤ 1000 }
+// The end of the input: a last line without newline is answered if it isn't empty.
+fn answer_last<W: Write>(
+    program: Program,
+    line: &mut [u8],
+    used: usize,
+    out: &mut [u8],
+    writer: &mut W,
+) -> io::Result<()>
+    requires { (used ≤ length line.old) × (length line.old ≡ most_kept) × (answer_room ≤ length out.old) }
+    ensures written { OnOk result (Appends (W.contents writer.old) (W.contents writer.new)
+        (printed_last (answer_to program) (take used line.old))) }
+    ensures part { OnErr result (AppendsPart (W.contents writer.old) (W.contents writer.new)
+        (printed_last (answer_to program) (take used line.old))) }
 {
     if used == 0 {
-        return true;
+        return Ok(());
     }
-    let progress = answer(program, name, line, used, b"\n", out);
-    progress.written
+    answer(program, line, used, b"\n", out, writer)?;
+    Ok(())
 }
 
-// Answers the lines of standard input, up to its end or the first call that fails. After a read that fails the line
-// that had not ended is not answered.
-fn answer_all(program: Program, name: &[u8])
-    requires { length name.now ≤ 1000 }
+// Answers the lines of the input in pieces as long as `input`, up to its end or the first call that fails. After a read
+// that fails the line that had not ended is not answered.
+fn answer_pieces<R: Read, W: Write>(
+    program: Program,
+    line: &mut [u8],
+    input: &mut [u8],
+    out: &mut [u8],
+    reader: &mut R,
+    writer: &mut W,
+) -> Result<(), Failure>
+    requires { (length line.old ≡ most_kept) × (0 < length input.old) × (answer_room ≤ length out.old) }
+    ensures all { OnOk result ((taken : List ℕ)
+        × Consumes (R.remaining reader.old) (R.remaining reader.new) taken
+        × IsAtEnd (R.remaining reader.new)
+        × Appends (W.contents writer.old) (W.contents writer.new) (program_output (answer_to program) taken)) }
+    ensures part { IfErr result (λ failure. (taken : List ℕ)
+        × Consumes (R.remaining reader.old) (R.remaining reader.new) taken
+        × WrittenAt (W.contents writer.old) (W.contents writer.new) (answer_to program) taken failure) }
 {
-    let mut line = [0; 65537];
-    let mut out = [0; 262144];
-    let mut buffer = io::large_buffer();
-    let input: &mut [u8] = &mut buffer;
     let mut used = 0;
     let mut turns = u64::MAX;
     while turns > 0 {
-        let got = read_piece(input);
-        if got < 0 {
-            tell_read(name);
-            return;
-        }
+        let got = match read_piece(reader, input) {
+            Ok(got) => got,
+            Err(error) => return Err(Failure::Read(error)),
+        };
         if got == 0 {
-            if answer_last(program, name, &mut line, used, &mut out) {
-                close_output(name);
+            if let Err(error) = answer_last(program, line, used, out, writer) {
+                return Err(Failure::Write(error));
             }
-            return;
+            if let Err(error) = close_output(writer) {
+                return Err(Failure::Close(error));
+            }
+            return Ok(());
         }
-        let n = io::count(got, input);
-        let progress = answer(program, name, &mut line, used, &input[0..n], &mut out);
-        if !progress.written {
-            return;
-        }
-        used = progress.used;
+        used = match answer(program, line, used, &input[..got], out, writer) {
+            Ok(kept) => kept,
+            Err(error) => return Err(Failure::Write(error)),
+        };
         turns -= 1;
     }
+    Err(Failure::Read(Error::from(ErrorKind::TimedOut)))
+}
+
+// Answers the lines of the input, with room for a line, a piece of the input, and its answers.
+fn answer_all<R: Read, W: Write>(
+    program: Program,
+    reader: &mut R,
+    writer: &mut W,
+) -> Result<(), Failure>
+    ensures all { OnOk result ((taken : List ℕ)
+        × Consumes (R.remaining reader.old) (R.remaining reader.new) taken
+        × IsAtEnd (R.remaining reader.new)
+        × Appends (W.contents writer.old) (W.contents writer.new) (program_output (answer_to program) taken)) }
+    ensures part { IfErr result (λ failure. (taken : List ℕ)
+        × Consumes (R.remaining reader.old) (R.remaining reader.new) taken
+        × WrittenAt (W.contents writer.old) (W.contents writer.new) (answer_to program) taken failure) }
+{
+    let mut line = [0; 65537];
+    let mut input = [0; 65536];
+    let mut out = [0; 262144];
+    answer_pieces(program, &mut line, &mut input, &mut out, reader, writer)
+}
+
+// Tells of a failure. Where that fails too, nothing is left to tell it to.
+fn tell<W: Write>(errors: &mut W, name: &str, failure: &Failure)
+    requires { length name.now ≤ 1000 }
+{
+    let _ = match failure {
+        Failure::Read(error) => tell_read(errors, name, error),
+        Failure::Write(error) => tell_write(errors, name, error),
+        Failure::Close(error) => tell_failure(errors, name, "close", error),
+    };
 }
 
 // What the program does with its only argument.
-fn answer_argument(name: &[u8], about: &[u8])
+fn answer_argument<W: Write, E: Write>(
+    env: &impl Env,
+    writer: &mut W,
+    errors: &mut E,
+    name: &str,
+    about: &str,
+) -> Result<(), Failure>
     requires { (length name.now ≤ 1000) × (length about.now ≤ 1000) }
 {
-    if is_argument(b"--help") {
-        print_line(b"usage: ", name, about);
-        return;
+    if is_argument(env, "--help") {
+        return printed(print_line(writer, "usage: ", name, about));
     }
-    if is_argument(b"--version") {
-        print_line(b"", name, b" (Velvetshelf) 1.3.0, format 4\n");
-        return;
+    if is_argument(env, "--version") {
+        return printed(print_line(writer, "", name, " (Velvetshelf) 1.3.0, format 4\n"));
     }
-    tell_usage(name);
+    tell_usage(errors, name);
+    Ok(())
+}
+
+// A line that could not be printed.
+fn printed(line: io::Result<()>) -> Result<(), Failure> {
+    match line {
+        Ok(()) => Ok(()),
+        Err(error) => Err(Failure::Write(error)),
+    }
 }
 
 // How the program is used.
-fn tell_usage(name: &[u8])
+fn tell_usage<W: Write>(errors: &mut W, name: &str)
     requires { length name.now ≤ 1000 }
 {
-    tell_line(b"usage: ", name, b" < FILE\n");
+    let _ = print_line(errors, "usage: ", name, " < FILE\n");
 }
 
 // Runs the program; `about` is what `--help` prints after its name. The versions are those of include/velvetshelf.h.
-pub fn run(program: Program, name: &[u8], about: &[u8])
+pub fn run<R: Read, W: Write, E: Write>(
+    env: &impl Env,
+    reader: &mut R,
+    writer: &mut W,
+    errors: &mut E,
+    program: Program,
+    name: &str,
+    about: &str,
+)
     requires { (length name.now ≤ 1000) × (length about.now ≤ 1000) }
 {
-    let count = os::arg_count();
-    if count < 2 {
-        answer_all(program, name);
-        return;
+    let ended = if has_argument(env, 2) {
+        tell_usage(errors, name);
+        Ok(())
+    } else if has_argument(env, 1) {
+        answer_argument(env, writer, errors, name, about)
+    } else {
+        answer_all(program, reader, writer)
+    };
+    if let Err(failure) = ended {
+        tell(errors, name, &failure);
     }
-    if count == 2 {
-        answer_argument(name, about);
-        return;
-    }
-    tell_usage(name);
 }

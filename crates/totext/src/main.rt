@@ -3,10 +3,14 @@
 
 use lines::Program;
 
-fn main() {
+fn main(rt: HostRuntime) {
     line_program::run(
+        &rt,
+        &mut rt.stdin(),
+        &mut rt.stdout(),
+        &mut rt.stderr(),
         Program::ToText,
-        b"totext",
-        b" < FILE\nReads DNS messages in hexadecimal, one per line, and writes the JSON text of each, or its refusal.\n",
+        "totext",
+        " < FILE\nReads DNS messages in hexadecimal, one per line, and writes the JSON text of each, or its refusal.\n",
     );
 }

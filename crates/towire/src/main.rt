@@ -3,10 +3,14 @@
 
 use lines::Program;
 
-fn main() {
+fn main(rt: HostRuntime) {
     line_program::run(
+        &rt,
+        &mut rt.stdin(),
+        &mut rt.stdout(),
+        &mut rt.stderr(),
         Program::ToWire,
-        b"towire",
-        b" < FILE\nReads texts from totext, one per line, and writes each message in hexadecimal, or its refusal.\n",
+        "towire",
+        " < FILE\nReads texts from totext, one per line, and writes each message in hexadecimal, or its refusal.\n",
     );
 }

@@ -1,0 +1,2 @@
+-- The proofs' own lemmas.
+pub mod Writing
