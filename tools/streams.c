@@ -5,8 +5,6 @@
    positive number is the most octets that the call moves, 0 makes it return 0, and -N makes it fail with errno N. With
    * after the last number the plan begins again; without it later calls are left as they are.
 
-   STREAMS_CLOSE is the errno with which a close fails.
-
    Each call adds five numbers of 32 bits to the descriptor in STREAMS_CALLS: 0 for read, 1 for write or 2 for close, the
    descriptor, the octets asked, what was returned, and errno if that was below 0, otherwise 0. */
 
@@ -83,12 +81,11 @@ ssize_t write(int fd, const void *octets, size_t asked)
 
 int close(int fd)
 {
-    const char *fails = getenv("STREAMS_CLOSE");
     int error = errno;
-    int returned = fails ? -1 : (int)syscall(SYS_close, fd);
+    int returned = (int)syscall(SYS_close, fd);
 
     if (returned < 0)
-        error = fails ? atoi(fails) : errno;
+        error = errno;
     if (fd >= 0 && fd < PLANS)
         record(2, fd, 0, returned, returned < 0 ? error : 0);
     errno = error;

@@ -2,17 +2,21 @@
 // its answers are written to the output. The first call that fails ends the run and is told on standard error.
 #![tactic(auto)]
 
-ghost use Rattle.std.specs.Prelude.{◌≡◌, ◌≤◌, ◌<◌, List, ℕ, [], ◌∷◌, length, take, IfOk, IfErr, OnErr, OnOk};
+ghost use Rattle.std.specs.Prelude.{◌≡◌, ◌⊎◌, ◌↔◌, IsTrue, ◌≤◌, ◌<◌, List, ℕ, [], ◌∷◌, length, take, IfOk, IfErr, OnErr, OnOk};
 ghost use Rattle.std.specs.Io.KnownBytes.{Appends, Consumes, IsAtEnd};
 ghost use Rattle.lines.specs.Lines.{program_output};
 ghost use Rattle.lines.specs.Programs.{answer_to, most_kept, answer_room};
 ghost use Rattle.lines.specs.Reading.{printed_last, printed_over, so_far};
 ghost use Rattle.line_program.specs.Written.{AppendsPart, WrittenAt};
+ghost use Rattle.line_program.specs.Ended.{call_of, error_of, IsReaderGone};
+ghost use Rattle.std.specs.Process.{exit_status};
+ghost use Rattle.streams.specs.Failures.{Tells};
 
 use lines::{Program, answer_piece};
 use std::env::Env;
 use std::io;
 use std::io::{Error, ErrorKind, Read, Write};
+use std::process::ExitCode;
 use streams::{
     close_output, has_argument, is_argument, print_line, read_piece, tell_failure, tell_read,
     tell_write, write_first,
@@ -141,15 +145,43 @@ fn answer_all<R: Read, W: Write>(
     answer_pieces(program, &mut line, &mut input, &mut out, reader, writer)
 }
 
-// Tells of a failure. Where that fails too, nothing is left to tell it to.
-fn tell<W: Write>(errors: &mut W, name: &str, failure: &Failure)
+// Tells of a failure.
+fn tell<W: Write>(errors: &mut W, name: &str, failure: &Failure) -> io::Result<()>
     requires { length name.now ≤ 1000 }
+    ensures { OnOk result (Tells (W.contents errors.old) (W.contents errors.new) name.now
+        (call_of failure.now) (error_of failure.now)) }
 {
-    let _ = match failure {
+    match failure {
         Failure::Read(error) => tell_read(errors, name, error),
         Failure::Write(error) => tell_write(errors, name, error),
         Failure::Close(error) => tell_failure(errors, name, "close", error),
-    };
+    }
+}
+
+// Whether the reader of the output went away.
+fn is_reader_gone(failure: &Failure) -> bool
+    ensures { IsTrue result ↔ IsReaderGone failure.now }
+{
+    match failure {
+        Failure::Write(error) => error.kind() == ErrorKind::BrokenPipe,
+        Failure::Read(_) => false,
+        Failure::Close(_) => false,
+    }
+}
+
+// Ends a run that failed. The failure is told, and the status is 0; where the line can't be written, nothing is left to
+// tell it to. A reader of the output that went away is not told: std ignores SIGPIPE, which would end the program, and
+// the status is what a shell shows then.
+fn end<W: Write>(errors: &mut W, name: &str, failure: &Failure) -> ExitCode
+    requires { length name.now ≤ 1000 }
+    ensures gone { IsReaderGone failure.now → exit_status result ≡ 141 }
+    ensures told { ¬ IsReaderGone failure.now → exit_status result ≡ 0 }
+{
+    if is_reader_gone(failure) {
+        return ExitCode::from(141);
+    }
+    let _ = tell(errors, name, failure);
+    ExitCode::SUCCESS
 }
 
 // What the program does with its only argument.
@@ -196,8 +228,9 @@ pub fn run<R: Read, W: Write, E: Write>(
     program: Program,
     name: &str,
     about: &str,
-)
+) -> ExitCode
     requires { (length name.now ≤ 1000) × (length about.now ≤ 1000) }
+    ensures { (exit_status result ≡ 0) ⊎ (exit_status result ≡ 141) }
 {
     let ended = if has_argument(env, 2) {
         tell_usage(errors, name);
@@ -207,7 +240,8 @@ pub fn run<R: Read, W: Write, E: Write>(
     } else {
         answer_all(program, reader, writer)
     };
-    if let Err(failure) = ended {
-        tell(errors, name, &failure);
+    match ended {
+        Ok(()) => ExitCode::SUCCESS,
+        Err(failure) => end(errors, name, &failure),
     }
 }

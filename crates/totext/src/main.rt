@@ -2,8 +2,9 @@
 #![tactic(auto)]
 
 use lines::Program;
+use std::process::ExitCode;
 
-fn main(rt: HostRuntime) {
+fn main(rt: HostRuntime) -> ExitCode {
     line_program::run(
         &rt,
         &mut rt.stdin(),
@@ -12,5 +13,5 @@ fn main(rt: HostRuntime) {
         Program::ToText,
         "totext",
         " < FILE\nReads DNS messages in hexadecimal, one per line, and writes the JSON text of each, or its refusal.\n",
-    );
+    )
 }

@@ -2,8 +2,9 @@
 #![tactic(auto)]
 
 use lines::Program;
+use std::process::ExitCode;
 
-fn main(rt: HostRuntime) {
+fn main(rt: HostRuntime) -> ExitCode {
     line_program::run(
         &rt,
         &mut rt.stdin(),
@@ -12,5 +13,5 @@ fn main(rt: HostRuntime) {
         Program::ToWire,
         "towire",
         " < FILE\nReads texts from totext, one per line, and writes each message in hexadecimal, or its refusal.\n",
-    );
+    )
 }

@@ -16,19 +16,19 @@ loop-turns-init g c =
 pub returns-in-Err-answer_last-clause-part : goal.returns-in-Err-answer_last-clause-part
 returns-in-Err-answer_last-clause-part g c =
     let (seen, used, long, room, piece, kept, consumed, written) = c.loop-turns.invariant in (
-        seen,
-        consumed_end _ _ _ seen _ _ c.if-got-eq0.true consumed c.in-Ok.ensures.bytes.0,
-        same_part _ _ (output_ended c.args.program _ seen kept)
-        (part_after _ _ _ _ _ written c.in-Err-answer_last.ensures.part),
+      seen,
+      consumed_end _ _ _ seen _ _ c.if-got-eq0.true consumed c.in-Ok.ensures.bytes.0,
+      same_part _ _ (output_ended c.args.program _ seen kept)
+          (part_after _ _ _ _ _ written c.in-Err-answer_last.ensures.part),
     )
 
 pub returns-in-Err-close_output-clause-part : goal.returns-in-Err-close_output-clause-part
 returns-in-Err-close_output-clause-part g c =
     let (seen, used, long, room, piece, kept, consumed, written) = c.loop-turns.invariant in
     let all = Appends-trans _ _ _ _ _ written c.in_default.ensures.written in (
-        seen,
-        consumed_end _ _ _ seen _ _ c.if-got-eq0.true consumed c.in-Ok.ensures.bytes.0,
-        subst (Appends _ _) (output_ended c.args.program _ seen kept) (Appends-kept _ _ _ _ all c.close_output.ensures),
+      seen,
+      consumed_end _ _ _ seen _ _ c.if-got-eq0.true consumed c.in-Ok.ensures.bytes.0,
+      subst (Appends _ _) (output_ended c.args.program _ seen kept) (Appends-kept _ _ _ _ all c.close_output.ensures),
     )
 
 pub returns-then-got-eq0-clause-all : goal.returns-then-got-eq0-clause-all
@@ -36,10 +36,10 @@ returns-then-got-eq0-clause-all g c =
     let (seen, used, long, room, piece, kept, consumed, written) = c.loop-turns.invariant in
     let all = Appends-trans _ _ _ _ _ written c.in_default.ensures.written in
     let some : 0 < length c.read_piece.new.input = search rules in (
-        seen,
-        consumed_end _ _ _ seen _ _ c.if-got-eq0.true consumed c.in-Ok.ensures.bytes.0,
-        c.in-Ok.ensures.bytes.1 c.if-got-eq0.true some,
-        subst (Appends _ _) (output_ended c.args.program _ seen kept) (Appends-kept _ _ _ _ all c.close_output.ensures),
+      seen,
+      consumed_end _ _ _ seen _ _ c.if-got-eq0.true consumed c.in-Ok.ensures.bytes.0,
+      c.in-Ok.ensures.bytes.1 c.if-got-eq0.true some,
+      subst (Appends _ _) (output_ended c.args.program _ seen kept) (Appends-kept _ _ _ _ all c.close_output.ensures),
     )
 
 pub returns-in-Err-answer-clause-part : goal.returns-in-Err-answer-clause-part
@@ -49,9 +49,9 @@ returns-in-Err-answer-clause-part g c =
     let t = take c.in-Ok.got c.read_piece.new.input in
     let part = part_after _ _ _ _ _ written c.in-Err-answer.ensures.part in
     let more = same_part _ _ (more_printed c.args.program [] _ seen t kept) part in (
-        seen ++ t,
-        Consumes-trans _ _ _ _ _ consumed c.in-Ok.ensures.bytes.0,
-        same_part _ _ (sym (output_steps answer (seen ++ t))) (part_before _ _ _ _ more),
+      seen ++ t,
+      Consumes-trans _ _ _ _ _ consumed c.in-Ok.ensures.bytes.0,
+      same_part _ _ (sym (output_steps answer (seen ++ t))) (part_before _ _ _ _ more),
     )
 
 pub loop-turns-preserved : goal.loop-turns-preserved
@@ -59,12 +59,12 @@ loop-turns-preserved g c =
     let (seen, used, long, room, piece, kept, consumed, written) = c.loop-turns.invariant in
     let t = take c.in-Ok.got c.read_piece.new.input in
     let all = Appends-trans _ _ _ _ _ written c.in-Ok-answer.ensures.written in (
-        seen ++ t,
-        c.in-Ok-answer.ensures.bound,
-        search rules,
-        search rules,
-        search rules,
-        more_kept c.args.program [] _ seen t _ kept c.in-Ok-answer.ensures.kept,
-        Consumes-trans _ _ _ _ _ consumed c.in-Ok.ensures.bytes.0,
-        subst (Appends _ _) (more_printed c.args.program [] _ seen t kept) all,
+      seen ++ t,
+      c.in-Ok-answer.ensures.bound,
+      search rules,
+      search rules,
+      search rules,
+      more_kept c.args.program [] _ seen t _ kept c.in-Ok-answer.ensures.kept,
+      Consumes-trans _ _ _ _ _ consumed c.in-Ok.ensures.bytes.0,
+      subst (Appends _ _) (more_printed c.args.program [] _ seen t kept) all,
     )
