@@ -190,3 +190,6 @@ pub fn is_argument(env: &impl Env, word: &str) -> bool {
         Err(_) => false,
     }
 }
+
+#[cfg(test)]
+mod tests;
