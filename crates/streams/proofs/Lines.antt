@@ -6,6 +6,7 @@ use Rattle.std.specs.Prelude.{Option}
 use Rattle.std.specs.IoError.{raw_os_error}
 use Rattle.std.specs.Io.KnownBytes.{Appends}
 use Rattle.std.specs.declared.io.Error.{Error}
+use Rattle.std.specs.declared.io.ErrorKind.TheVariants.{Interrupted, Uncategorized}
 use Rattle.octets.specs.Overlay.{Wrote, overlay_first}
 use Rattle.streams.specs.Failures.{number_of, failure_line, Tells}
 
@@ -33,3 +34,7 @@ pub told : {X E : Type 0} (r : Result X E) (a b : Option (List ℕ)) (error : Er
     → OnOk r (Appends a b xs) → OnOk r (Tells a b name call error)
 told (Ok x) a b error name call reason e h = (reason, subst (Appends a b) e h)
 told (Err x) a b error name call reason e h = tt
+
+-- an error that has no kind of its own is no interruption
+pub other_kind : Uncategorized ≡ Interrupted → ⊥
+other_kind e = grind arith

@@ -64,6 +64,7 @@ pub fn write_first<W: Write>(writer: &mut W, out: &[u8], size: usize) -> io::Res
     ensures all { OnOk result (Appends (W.contents writer.old) (W.contents writer.new) (take size out.now)) }
     ensures some { OnErr result ((n : ℕ) × (n < size)
         × Appends (W.contents writer.old) (W.contents writer.new) (take n out.now)) }
+    ensures retried { IfErr result (λ e. error_kind e ≢ ErrorKind.Interrupted) }
 {
     let mut done = 0;
     while done < size {
