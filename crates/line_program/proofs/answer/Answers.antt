@@ -1,5 +1,5 @@
 -- Each call prints over the octets that it takes, of which there is one at least.
-use Rattle.std.proofs.Common.{◌≡◌, refl, ◌+◌, ◌-◌, ◌<◌, ◌≤◌, arith, rules, sym, ap, ◌∙◌, subst, length, take, drop}
+use Rattle.std.proofs.Common.{refl, ◌+◌, ◌-◌, ◌<◌, ◌≤◌, arith, rules, sym, ap, ◌∙◌, subst, length, take, drop}
 use Rattle.std.specs.Io.KnownBytes.{Appends}
 use Rattle.std.proofs.KnownBytes.{Appends-nil, Appends-trans}
 use Rattle.lines.specs.Programs.{answer_to, most_kept}

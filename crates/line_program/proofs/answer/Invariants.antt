@@ -1,5 +1,5 @@
 -- What was written is what is printed over the octets that were taken, and of their line what may be needed is kept.
-use Rattle.std.proofs.Common.{length, ◌-◌, ◌≡◌, ◌≤◌, ℕ, take}
+use Rattle.std.proofs.Common.{length, ◌-◌, ◌≡◌, ◌≤◌, take}
 use Rattle.std.specs.Io.KnownBytes.{Appends}
 use Rattle.lines.specs.Programs.{answer_to, most_kept, answer_room}
 use Rattle.lines.specs.Reading.{printed_over, so_far}

@@ -1,5 +1,5 @@
 -- A newline ends the line that is left, and nothing is printed where none is.
-use Rattle.std.proofs.Common.{◌≡◌, ◌<◌, [], arith, rules, sym, ap, ◌∙◌, subst, length, take, length-take-le}
+use Rattle.std.proofs.Common.{◌≡◌, ◌<◌, [], rules, sym, ap, ◌∙◌, subst, length, take, length-take-le}
 use Rattle.std.specs.Io.KnownBytes.{Appends}
 use Rattle.std.proofs.KnownBytes.{Appends-nil}
 use Rattle.lines.specs.Programs.{answer_to}

@@ -1,6 +1,6 @@
 -- What is printed over the octets that were read is written in turn.
-use Rattle.std.proofs.Common.{◌≡◌, refl, ◌<◌, [], ◌++◌, arith, rules, sym, ap, ◌∙◌, subst, length, take}
-use Rattle.std.specs.Io.KnownBytes.{Appends, Consumes, IsAtEnd}
+use Rattle.std.proofs.Common.{refl, ◌<◌, [], ◌++◌, arith, rules, sym, subst, length, take}
+use Rattle.std.specs.Io.KnownBytes.{Appends}
 use Rattle.std.proofs.KnownBytes.{Appends-kept, Appends-nil, Appends-trans, Consumes-nil, Consumes-trans}
 use Rattle.lines.specs.Programs.{answer_to}
 use Rattle.lines.specs.Reading.{printed_over, so_far, output_steps}
