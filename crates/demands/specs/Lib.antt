@@ -1,7 +1,3 @@
--- What is promised: open FrontPage first. The other files prove it.
+-- The words of what is promised, and the short examples. The promises are in proofs/: open FrontPage there first.
 pub mod FrontPage
 pub mod Examples
-pub mod Delivered
-pub mod Converter
-pub mod Reader
-pub mod Both

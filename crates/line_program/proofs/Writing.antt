@@ -9,7 +9,8 @@ use Rattle.octets.specs.Overlay.{Wrote, overlay_first}
 use Rattle.lines.specs.Lines.{program_output}
 use Rattle.lines.specs.Reading.{printed_at, so_far, printed_over, printed_last, output_steps, printed-pieces}
 use Rattle.lines.specs.Reading.{so_far_pieces, kept_alike, printed_alike, kept_last}
-use Rattle.lines.specs.Programs.{answer_to, answer_kept, most_kept}
+use Rattle.lines.specs.Programs.{answer_to, most_kept}
+use Rattle.lines.proofs.Keeping.{answer_kept}
 use Rattle.lines.specs.Pieces.{Answers}
 use Rattle.lines.specs.declared.Program.{Program}
 use Rattle.line_program.specs.Written.{AppendsPart}

@@ -7,8 +7,35 @@ use lib.ListN.{length, take, drop, length-append, length-drop, take-append-drop}
 use lib.Seq.{take_all, take_at, take-append-add, length-take-le, drop-append-le, drop-drop}
 use Rattle.octets.specs.Overlay.{Wrote, overlay_fits, overlay_first}
 use Rattle.line_answers.specs.Answers.{printed}
-use Rattle.lines.specs.Programs.{answer_to, answer_kept, most_kept}
+use Rattle.lines.specs.Programs.{answer_to, most_kept}
 use Rattle.lines.specs.declared.Program.{Program}
+use Rattle.std.specs.Prelude.{refl, Bool, true, false, leb}
+use Rattle.std.proofs.Common.{lt-ltb, leb-true, leb-false}
+use Rattle.strict.specs.Reading.{reading}
+use Rattle.hex_lines.specs.Hex.{unhexed}
+use Rattle.line_answers.specs.Answers.{refusal_line, as_hex, answer_text, within_line, message_line, text_line, wire_line}
+use Rattle.lines.specs.declared.Program.TheVariants.{ToText, ToWire}
+
+-- ---- the octets after those that are kept don't matter
+limited_kept : (most cap : ℕ) (answer : List ℕ → List ℕ) (s : List ℕ) → most < cap
+    → within_line most answer (take cap s) ≡ within_line most answer s
+unfolding within_line
+limited_kept most cap answer s k = go (leb (length s) cap) refl
+  where
+    over : (l : List ℕ) → most < length l → within_line most answer l ≡ refusal_line 31 0
+    over l h = rw (lt-ltb most (length l) h)
+
+    go : (b : Bool) → leb (length s) cap ≡ b → within_line most answer (take cap s) ≡ within_line most answer s
+    go true e = rw (take_all cap s (leb-true _ _ e))
+    go false e =
+        let h : cap < length s = leb-false (length s) cap e in
+        let n : length (take cap s) ≡ cap = length-take-le cap s (omega arith) in
+        over (take cap s) (omega arith) ∙ sym (over s (omega arith))
+
+pub answer_kept : (program : Program) (s : List ℕ) → answer_to program (take most_kept s) ≡ answer_to program s
+unfolding text_line wire_line
+answer_kept ToText s = limited_kept 8192 most_kept (λ line. message_line (unhexed line)) s (omega arith)
+answer_kept ToWire s = limited_kept 65536 most_kept (λ line. answer_text as_hex 4096 23 (reading line)) s (omega arith)
 
 -- ---- octets that join a line
 module _ (line : List ℕ) (used most : ℕ) (h : used ≤ length line) (n : length line ≡ most) where

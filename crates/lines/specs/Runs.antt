@@ -1,18 +1,10 @@
 -- A run of a line program: calls that take its input piece by piece. Together they write what the program is to print.
-use Rattle.std.specs.Prelude.{◌≡◌, refl, false, ℕ, ◌≤◌, length, drop}
-use Rattle.std.proofs.Common.{sym, ◌∙◌, arith, take-take}
-use Rattle.std.proofs.Math.Path.{ap}
-use mathlib.Core.List.{List, [], ◌∷◌, ◌++◌, append-nil}
-use borrow.Author.Tests.{le-ltb}
+use Rattle.std.specs.Prelude.{◌≡◌, false, ℕ, ◌≤◌, length}
+use mathlib.Core.List.{List, [], ◌∷◌}
 use Rattle.std.proofs.Math.ListN.{take}
-use Rattle.std.proofs.Math.Seq.{take-append_seam}
 use Rattle.octets.specs.Lists.{none?, each}
-use Rattle.octets.specs.Overlay.{Wrote, overlay_first}
-use Rattle.lines.specs.Lines.{program_output}
-use Rattle.lines.specs.Reading.{printed_at, so_far, printed_over, printed_last, output_steps, printed-pieces}
-use Rattle.lines.specs.Reading.{so_far_pieces, kept_alike, printed_alike, kept_last}
-use Rattle.lines.specs.Programs.{answer_to, answer_kept, most_kept, answer_room}
-use Rattle.lines.specs.Pieces.{taken_of, Answers}
+use Rattle.lines.specs.Programs.{answer_room}
+use Rattle.lines.specs.Pieces.{Answers}
 use Rattle.lines.specs.declared.Program.{Program}
 
 -- a call: the line kept before it, its piece of the input and its buffer; the line and the buffer after it; how many
@@ -46,67 +38,3 @@ abbrev pub Ended : Program → List ℕ → List PieceCall → Type 0
 Ended program line [] = line ≡ []
 Ended program line (c ∷ cs) = (none? line ≡ false) × (line ≡ c.line) × (c.piece ≡ 10 ∷ [])
     × (answer_room ≤ length c.out) × Meets program c × (cs ≡ [])
-
--- ---- what a call writes
-first_octets : {b b' xs : List ℕ} {r : ℕ} → Wrote b 0 xs b' r → r ≤ length b → take r b' ≡ xs
-first_octets {b} {b'} {xs} {r} w h =
-    let n : r ≡ length xs = omega (arith, w.place) in
-    rw (w.text, n, overlay_first b xs (omega arith)) (take-append_seam xs (drop (length xs) b))
-
-module _ (program : Program) (c : PieceCall) (m : Meets program c) where
-  call_output : take c.size c.out' ≡ printed_over (answer_to program) c.line (take c.taken c.piece)
-  call_output = first_octets m.wrote m.fits
-
-  -- what is kept begins as the line does
-  module _ (line : List ℕ) (k : take most_kept c.line ≡ take most_kept line) where
-    call_printed : take c.size c.out' ≡ printed_over (answer_to program) line (take c.taken c.piece)
-    call_printed = call_output
-        ∙ printed_alike most_kept (answer_to program) (answer_kept program) c.line line (take c.taken c.piece) k
-
-    call_kept : take most_kept c.line' ≡ take most_kept (so_far line (take c.taken c.piece))
-    call_kept =
-        let s = take c.taken c.piece in
-        ap (take most_kept) m.kept ∙ take-take most_kept most_kept (so_far c.line s) (omega arith)
-        ∙ kept_alike most_kept c.line line s k
-
--- ---- what calls write
-module _ (program : Program) where
-  written : (cs : List PieceCall) (before line line' : List ℕ) → take most_kept before ≡ take most_kept line
-      → Chained program before cs line' → output_of cs ≡ printed_over (answer_to program) line (input_of cs)
-      × (take most_kept line' ≡ take most_kept (so_far line (input_of cs)))
-  unfolding each printed_over so_far
-  written [] before line line' k p = (refl, ap (take most_kept) (sym p) ∙ k)
-  written (c ∷ cs) before line line' k (e, m, p) =
-      let s = take c.taken c.piece in
-      let k' : take most_kept c.line ≡ take most_kept line = ap (take most_kept) (sym e) ∙ k in
-      let (w, l) = written cs c.line' (so_far line s) line' (call_kept program c m line k') p in (
-        rw (call_printed program c m line k', w) (sym (printed-pieces (answer_to program) line s (input_of cs))),
-        l ∙ ap (take most_kept) (sym (so_far_pieces line s (input_of cs))),
-      )
-
-  -- a newline ends a line and is taken, given room
-  newline_taken : (c : PieceCall) → c.piece ≡ 10 ∷ [] → answer_room ≤ length c.out → Meets program c
-      → take c.taken c.piece ≡ 10 ∷ []
-  unfolding taken_of
-  newline_taken c e room m =
-      let t : c.taken ≡ 1 = m.took ∙ rw (e, le-ltb (length c.out) answer_room room) in
-      rw (t, e)
-
-  last_written : (line : List ℕ) (last : List PieceCall) → Ended program line last
-      → output_of last ≡ printed_last (answer_to program) line
-  unfolding each printed_last printed_over printed_at
-  last_written line [] e = rw e
-  last_written line (c ∷ cs) (n, l, e, room, m, none) =
-      rw (none, call_output program c m, newline_taken c e room m, ← l, n) (append-nil _ ∙ append-nil _)
-
-  -- A run writes what the program is to print for the input that it took, whatever the pieces were and the buffers
-  -- held.
-  pub right_output : (cs last : List PieceCall) (line : List ℕ) → Chained program [] cs line → Ended program line last
-      → output_of cs ++ output_of last ≡ program_output (answer_to program) (input_of cs)
-  right_output cs last line p e =
-      let (w, l) = written cs [] [] line refl p in
-      let q : (s : List ℕ) → printed_last (answer_to program) (take most_kept s) ≡ printed_last (answer_to program) s =
-      kept_last most_kept (answer_to program) (answer_kept program) (omega arith) in
-      let z : output_of last ≡ printed_last (answer_to program) (so_far [] (input_of cs)) =
-      last_written line last e ∙ sym (q line) ∙ ap (printed_last (answer_to program)) l ∙ q (so_far [] (input_of cs)) in
-      rw (w, z) (sym (output_steps (answer_to program) (input_of cs)))

@@ -30,8 +30,8 @@ use Rattle.strict.proofs.Longest.{parse-stops}
 use Rattle.strict.proofs.ReadingLaws.{means_text, means_one, reads_text, read_only}
 use Rattle.demands.specs.FrontPage.Words.{reply, room, Length, Accepted, Spells, InGrammar, Begins}
 use Rattle.demands.specs.FrontPage.Words.{LongestBeginning, HasText, NoMessage}
-use Rattle.demands.specs.Delivered.{call_succeeds, call_refuses, call_leaves, call_stays, calls_same}
-use Rattle.demands.specs.Converter as converter
+use Rattle.demands.proofs.Delivered.{call_succeeds, call_refuses, call_leaves, call_stays, calls_same}
+use Rattle.demands.proofs.Converter as converter
 
 -- ---- demand 1
 pub same : (c d : Call) → Reads c → Reads d → c.input ≡ d.input → room c ≡ room d

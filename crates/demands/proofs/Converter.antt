@@ -18,7 +18,7 @@ use Rattle.json_text.proofs.Bound.{text_short}
 use Rattle.json_text.specs.Converted.{output_of, converted, to_text, Converts}
 use Rattle.strict.proofs.ReadingLaws.{Whole, text_splits, text-filled, text_visible}
 use Rattle.demands.specs.FrontPage.Words.{reply, room, Accepted, Length, FitsIn, Room, stream, add_form, forms_of}
-use Rattle.demands.specs.Delivered.{call_succeeds, call_refuses, call_leaves, call_stays, calls_same}
+use Rattle.demands.proofs.Delivered.{call_succeeds, call_refuses, call_leaves, call_stays, calls_same}
 
 -- ---- demand 1
 pub same : (c d : Call) → Converts c → Converts d → c.input ≡ d.input → room c ≡ room d

@@ -5,9 +5,9 @@ use Rattle.octets.specs.Answer.{success, refusal, reported}
 use Rattle.octets.specs.Calls.{Call, answer_of, written_by}
 use Rattle.velvetshelf.specs.Calls.{outcome_of}
 use Rattle.demands.specs.FrontPage.Words.{reply, room, Made, Both}
-use Rattle.demands.specs.Delivered.{length_or_number, not_success}
-use Rattle.demands.specs.Converter as converter
-use Rattle.demands.specs.Reader as reader
+use Rattle.demands.proofs.Delivered.{length_or_number, not_success}
+use Rattle.demands.proofs.Converter as converter
+use Rattle.demands.proofs.Reader as reader
 
 pub c_success : (n v k : ℕ) → (answer_of (outcome_of n v) ≡ success k) ↔ ((n ≡ 0) × (v ≡ k))
 c_success zero v k = (λ e. (refl, ap length_or_number e), λ h. rw h.1)
