@@ -18,8 +18,8 @@ use std::io;
 use std::io::{Error, ErrorKind, Read, Write};
 use std::process::ExitCode;
 use streams::{
-    close_output, has_argument, is_argument, print_line, read_piece, tell_failure, tell_read,
-    tell_write, write_first,
+    close_output, has_argument, is_argument, print_line, read_piece, tell_failure, tell_line,
+    tell_read, tell_write, write_first,
 };
 
 // The call that failed, and why.
@@ -146,7 +146,7 @@ fn answer_all<R: Read, W: Write>(
 }
 
 // Tells of a failure.
-fn tell<W: Write>(errors: &mut W, name: &str, failure: &Failure) -> io::Result<()>
+fn tell<W: Write>(errors: &mut W, name: &[u8], failure: &Failure) -> io::Result<()>
     requires { length name.now ≤ 1000 }
     ensures { OnOk result (Tells (W.contents errors.old) (W.contents errors.new) name.now
         (call_of failure.now) (error_of failure.now)) }
@@ -154,7 +154,7 @@ fn tell<W: Write>(errors: &mut W, name: &str, failure: &Failure) -> io::Result<(
     match failure {
         Failure::Read(error) => tell_read(errors, name, error),
         Failure::Write(error) => tell_write(errors, name, error),
-        Failure::Close(error) => tell_failure(errors, name, "close", error),
+        Failure::Close(error) => tell_failure(errors, name, b"close", error),
     }
 }
 
@@ -172,7 +172,7 @@ fn is_reader_gone(failure: &Failure) -> bool
 // Ends a run that failed. The failure is told, and the status is 0; where the line can't be written, nothing is left to
 // tell it to. A reader of the output that went away is not told: std ignores SIGPIPE, which would end the program, and
 // the status is what a shell shows then.
-fn end<W: Write>(errors: &mut W, name: &str, failure: &Failure) -> ExitCode
+fn end<W: Write>(errors: &mut W, name: &[u8], failure: &Failure) -> ExitCode
     requires { length name.now ≤ 1000 }
     ensures gone { IsReaderGone failure.now → exit_status result ≡ 141 }
     ensures told { ¬ IsReaderGone failure.now → exit_status result ≡ 0 }
@@ -189,16 +189,16 @@ fn answer_argument<W: Write, E: Write>(
     env: &impl Env,
     writer: &mut W,
     errors: &mut E,
-    name: &str,
-    about: &str,
+    name: &[u8],
+    about: &[u8],
 ) -> Result<(), Failure>
     requires { (length name.now ≤ 1000) × (length about.now ≤ 1000) }
 {
-    if is_argument(env, "--help") {
-        return printed(print_line(writer, "usage: ", name, about));
+    if is_argument(env, b"--help") {
+        return printed(print_line(writer, b"usage: ", name, about));
     }
-    if is_argument(env, "--version") {
-        return printed(print_line(writer, "", name, " (Velvetshelf) 1.3.0, format 4\n"));
+    if is_argument(env, b"--version") {
+        return printed(print_line(writer, b"", name, b" (Velvetshelf) 1.3.0, format 4\n"));
     }
     tell_usage(errors, name);
     Ok(())
@@ -213,10 +213,10 @@ fn printed(line: io::Result<()>) -> Result<(), Failure> {
 }
 
 // How the program is used.
-fn tell_usage<W: Write>(errors: &mut W, name: &str)
+fn tell_usage<W: Write>(errors: &mut W, name: &[u8])
     requires { length name.now ≤ 1000 }
 {
-    let _ = print_line(errors, "usage: ", name, " < FILE\n");
+    tell_line(errors, b"usage: ", name, b" < FILE\n");
 }
 
 // Runs the program; `about` is what `--help` prints after its name. The versions are those of include/velvetshelf.h.
@@ -226,8 +226,8 @@ pub fn run<R: Read, W: Write, E: Write>(
     writer: &mut W,
     errors: &mut E,
     program: Program,
-    name: &str,
-    about: &str,
+    name: &[u8],
+    about: &[u8],
 ) -> ExitCode
     requires { (length name.now ≤ 1000) × (length about.now ≤ 1000) }
     ensures { (exit_status result ≡ 0) ⊎ (exit_status result ≡ 141) }

@@ -1,5 +1,5 @@
 -- What is written of a line that was put together in a buffer.
-use Rattle.std.specs.Prelude.{◌≡◌, ℕ, ◌≤◌, ◌++◌, List, length, take, drop}
+use Rattle.std.specs.Prelude.{◌≡◌, ℕ, ◌≤◌, List, length, take, drop}
 use Rattle.std.proofs.Common.{arith, Result, Ok, Err, OnOk, subst}
 use Rattle.std.proofs.Math.Seq.{take-append_seam}
 use Rattle.std.specs.Prelude.{Option}
@@ -20,13 +20,10 @@ line_octets {b} {b'} {xs} {r} w h =
 pub same_octets : {X E : Type 0} (r : Result X E) (P : List ℕ → Type 0) {xs ys : List ℕ} → xs ≡ ys → OnOk r (P xs) → OnOk r (P ys)
 same_octets r P e h = subst (λ l. OnOk r (P l)) e h
 
--- the same parts make the same line
-pub same_parts : {a a' b b' c c' : List ℕ} → a ≡ a' → b ≡ b' → c ≡ c' → a ++ b ++ c ≡ a' ++ b' ++ c'
-same_parts p q r = rw (p, q, r)
-
-pub same_failure : (reason : List ℕ) {name name' call call' : List ℕ} {number number' : ℕ} → name ≡ name'
-    → call ≡ call' → number ≡ number' → failure_line name call number reason ≡ failure_line name' call' number' reason
-same_failure reason p q r = rw (p, q, r)
+-- the same number makes the same line
+pub same_failure : (name call reason : List ℕ) {number number' : ℕ} → number ≡ number'
+    → failure_line name call number reason ≡ failure_line name call number' reason
+same_failure name call reason e = rw e
 
 -- a line that was written tells of the failure
 pub told : {X E : Type 0} (r : Result X E) (a b : Option (List ℕ)) (error : Error)

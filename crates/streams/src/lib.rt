@@ -86,16 +86,28 @@ pub fn close_output<W: Write>(writer: &mut W) -> io::Result<()>
 }
 
 // Writes a line with the program's name in it, by one call if the stream takes it whole.
-pub fn print_line<W: Write>(writer: &mut W, before: &str, name: &str, after: &str) -> io::Result<()>
+pub fn print_line<W: Write>(
+    writer: &mut W,
+    before: &[u8],
+    name: &[u8],
+    after: &[u8],
+) -> io::Result<()>
     requires { (length before.now ≤ 1000) × (length name.now ≤ 1000) × (length after.now ≤ 1000) }
     ensures { OnOk result (Appends (W.contents writer.old) (W.contents writer.new)
         (before.now ++ name.now ++ after.now)) }
 {
     let mut line = [0; 4096];
-    let n = put_all(before.as_bytes(), &mut line, 0);
-    let n = put_all(name.as_bytes(), &mut line, n);
-    let n = put_all(after.as_bytes(), &mut line, n);
+    let n = put_all(before, &mut line, 0);
+    let n = put_all(name, &mut line, n);
+    let n = put_all(after, &mut line, n);
     write_first(writer, &line, n)
+}
+
+// Writes such a line where failures are told. One that can't be written is told to nobody.
+pub fn tell_line<W: Write>(writer: &mut W, before: &[u8], name: &[u8], after: &[u8])
+    requires { (length before.now ≤ 1000) × (length name.now ≤ 1000) × (length after.now ≤ 1000) }
+{
+    let _ = print_line(writer, before, name, after);
 }
 
 // The system's number of an error, or 0 where it has none.
@@ -138,17 +150,17 @@ fn put_reason(error: &Error, out: &mut [u8], to: usize) -> usize
 // Tells which call failed, and why, in one line.
 pub fn tell_failure<W: Write>(
     writer: &mut W,
-    name: &str,
-    call: &str,
+    name: &[u8],
+    call: &[u8],
     error: &Error,
 ) -> io::Result<()>
     requires { (length name.now ≤ 1000) × (length call.now ≤ 1000) }
     ensures { OnOk result (Tells (W.contents writer.old) (W.contents writer.new) name.now call.now error.now) }
 {
     let mut line = [0; 4096];
-    let n = put_all(name.as_bytes(), &mut line, 0);
+    let n = put_all(name, &mut line, 0);
     let n = put_all(b": ", &mut line, n);
-    let n = put_all(call.as_bytes(), &mut line, n);
+    let n = put_all(call, &mut line, n);
     let n = put_all(b" failed (errno ", &mut line, n);
     let n = put_decimal(error_number(error), &mut line, n);
     let n = put_all(b"): ", &mut line, n);
@@ -158,19 +170,19 @@ pub fn tell_failure<W: Write>(
 }
 
 // Tells of a read that failed.
-pub fn tell_read<W: Write>(writer: &mut W, name: &str, error: &Error) -> io::Result<()>
+pub fn tell_read<W: Write>(writer: &mut W, name: &[u8], error: &Error) -> io::Result<()>
     requires { length name.now ≤ 1000 }
     ensures { OnOk result (Tells (W.contents writer.old) (W.contents writer.new) name.now (codes "read") error.now) }
 {
-    tell_failure(writer, name, "read", error)
+    tell_failure(writer, name, b"read", error)
 }
 
 // Tells of a write that failed.
-pub fn tell_write<W: Write>(writer: &mut W, name: &str, error: &Error) -> io::Result<()>
+pub fn tell_write<W: Write>(writer: &mut W, name: &[u8], error: &Error) -> io::Result<()>
     requires { length name.now ≤ 1000 }
     ensures { OnOk result (Tells (W.contents writer.old) (W.contents writer.new) name.now (codes "write") error.now) }
 {
-    tell_failure(writer, name, "write", error)
+    tell_failure(writer, name, b"write", error)
 }
 
 // Whether the program has an argument of this number; those after its name begin at 1.
@@ -184,10 +196,10 @@ pub fn has_argument(env: &impl Env, number: usize) -> bool {
 }
 
 // Whether the program's first argument is this word.
-pub fn is_argument(env: &impl Env, word: &str) -> bool {
+pub fn is_argument(env: &impl Env, word: &[u8]) -> bool {
     let mut argument = [0; 4096];
     match env.arg(1, &mut argument) {
-        Ok(n) => &argument[..n] == word.as_bytes(),
+        Ok(n) => &argument[..n] == word,
         Err(_) => false,
     }
 }

@@ -95,10 +95,10 @@ fn reads_up_to_a_failure(rt: HostRuntime) -> io::Result<()> {
 #[test]
 fn tells_and_prints(rt: HostRuntime) -> io::Result<()> {
     let mut told = Vec::new(rt.alloc());
-    tell_write(&mut told, "p", &Error::from_raw_os_error(28))?;
-    tell_read(&mut told, "p", &Error::from_raw_os_error(21))?;
-    tell_failure(&mut told, "p", "close", &Error::from(ErrorKind::TimedOut))?;
-    print_line(&mut told, "usage: ", "p", " < FILE\n")?;
+    tell_write(&mut told, b"p", &Error::from_raw_os_error(28))?;
+    tell_read(&mut told, b"p", &Error::from_raw_os_error(21))?;
+    tell_failure(&mut told, b"p", b"close", &Error::from(ErrorKind::TimedOut))?;
+    print_line(&mut told, b"usage: ", b"p", b" < FILE\n")?;
     close_output(&mut told)?;
     let want = "p: write failed (errno 28): No space left on device\n\
         p: read failed (errno 21): Is a directory\n\
@@ -144,7 +144,7 @@ fn knows_its_arguments(rt: HostRuntime) {
         ("--helpx", false),
     ] {
         let env = Only(word);
-        assert_eq!(rt; is_argument(&env, "--help"), want, "at {word}");
+        assert_eq!(rt; is_argument(&env, b"--help"), want, "at {word}");
         assert!(rt; has_argument(&env, 1) && !has_argument(&env, 2));
     }
 }

@@ -11,7 +11,7 @@ fn main(rt: HostRuntime) -> ExitCode {
         &mut rt.stdout(),
         &mut rt.stderr(),
         Program::ToText,
-        "totext",
-        " < FILE\nReads DNS messages in hexadecimal, one per line, and writes the JSON text of each, or its refusal.\n",
+        b"totext",
+        b" < FILE\nReads DNS messages in hexadecimal, one per line, and writes the JSON text of each, or its refusal.\n",
     )
 }

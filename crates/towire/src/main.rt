@@ -11,7 +11,7 @@ fn main(rt: HostRuntime) -> ExitCode {
         &mut rt.stdout(),
         &mut rt.stderr(),
         Program::ToWire,
-        "towire",
-        " < FILE\nReads texts from totext, one per line, and writes each message in hexadecimal, or its refusal.\n",
+        b"towire",
+        b" < FILE\nReads texts from totext, one per line, and writes each message in hexadecimal, or its refusal.\n",
     )
 }

@@ -1,12 +1,11 @@
 -- The three parts stand in the buffer one after another.
-use Rattle.std.proofs.Common.{rules, ◌∙◌}
+use Rattle.std.proofs.Common.{rules}
 use Rattle.std.specs.Io.KnownBytes.{Appends}
 use Rattle.octets.specs.Overlay.{then}
-use Rattle.streams.proofs.Lines.{line_octets, same_octets, same_parts}
+use Rattle.streams.proofs.Lines.{line_octets, same_octets}
 use Rattle.streams.proofs.print_line.Goals as goal
 
 pub returns : goal.returns
 returns g c =
     let all = then (then c.put_all-n.ensures c.put_all-n-2.ensures) c.put_all-n-3.ensures in
-    let parts = same_parts c.as_bytes.ensures.value c.as_bytes-2.ensures.value c.as_bytes-3.ensures.value in
-    same_octets _ (Appends _ _) (line_octets all (search rules) ∙ parts) c.write_first.ensures.all
+    same_octets _ (Appends _ _) (line_octets all (search rules)) c.write_first.ensures.all

@@ -11,5 +11,5 @@ returns g c =
     let call = then (then name c.put_all-n-3.ensures) c.put_all-n-4.ensures in
     let number = then (then call c.put_decimal-n.ensures.wrote) c.put_all-n-5.ensures in
     let all = then (then number put) c.put_all-n-6.ensures in
-    let parts = same_failure reason c.as_bytes.ensures.value c.as_bytes-2.ensures.value c.error_number.ensures in
+    let parts = same_failure _ _ reason c.error_number.ensures in
     told _ _ _ c.args.error.now c.args.name.now c.args.call.now reason (line_octets all (search rules) ∙ parts) c.write_first.ensures.all
