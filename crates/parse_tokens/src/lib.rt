@@ -466,6 +466,7 @@ pub fn put_u8(c: Cursor, value: u64, out: &mut [u8]) -> Cursor
 }
 
 // A number of two octets.
+#[tactic(auto, using(crate::specs::Fields::word_out))]
 pub fn put_u16(c: Cursor, value: u64, out: &mut [u8]) -> Cursor
     requires { c.to ≤ 65535 }
     ensures { NumberPut value u16? be16 c out.old result out.new }
