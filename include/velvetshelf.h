@@ -12,8 +12,8 @@
    the length is 0; input, buffer and `*value` must not overlap. Nothing is allocated, no state is kept, nothing outside
    the input is read: calls from several threads are safe if each call has its own buffer and value.
 
-   The library is for x86-64 with the System V calling convention. It needs nothing from the C library but memcpy, and
-   a call needs at most VELVETSHELF_STACK octets of stack. */
+   The library is for x86-64 with the System V calling convention. It needs nothing from the C library but memcpy and
+   memset, and a call needs at most VELVETSHELF_STACK octets of stack. */
 
 #ifndef VELVETSHELF_H
 #define VELVETSHELF_H
@@ -69,8 +69,8 @@ enum {
 #define VELVETSHELF_LONGEST_MESSAGE 65535
 
 /* No call uses more octets of stack than this: an upper bound, checked for each release by adding up the frames of the
-   compiled functions. What memcpy uses is not in it, nor what a dynamic linker uses that binds memcpy at its first call
-   (the shared library binds it when it is loaded). */
+   compiled functions. What memcpy and memset use is not in it, nor what a dynamic linker uses that binds them at the first
+   call (the shared library binds them when it is loaded). */
 #define VELVETSHELF_STACK 8192
 
 /* Writes the text of a message. */
