@@ -2,10 +2,10 @@
 use Rattle.std.specs.Prelude.{◌≡◌, refl, ℕ, ◌+◌, ◌-◌, ◌≤◌, ◌<◌, List, [], ◌∷◌, ◌++◌, length, take, drop, Option, Result, Ok, Err, OnErr}
 use Rattle.std.proofs.Common.{sym, ap, ◌∙◌, subst, arith, append-nil, length-append, length-drop, length-take-le, take-append-drop, take-take}
 use Rattle.std.proofs.lemmas.List.{take-append-le}
-use Rattle.std.proofs.Math.Seq.{take-append_seam, take-append-add, take-add}
+use Rattle.std.proofs.Math.Seq.{take-append-add, take-add}
 use Rattle.std.specs.Io.KnownBytes.{Appends, Consumes}
 use Rattle.std.proofs.KnownBytes.{Appends-trans, Consumes-trans}
-use Rattle.octets.specs.Overlay.{Wrote, overlay_first}
+use Rattle.octets.specs.Overlay.{first_written}
 use Rattle.lines.specs.Lines.{program_output}
 use Rattle.lines.specs.Reading.{printed_at, so_far, printed_over, printed_last, output_steps, printed-pieces}
 use Rattle.lines.specs.Reading.{so_far_pieces, kept_alike, printed_alike, kept_last}
@@ -13,7 +13,7 @@ use Rattle.lines.specs.Programs.{answer_to, most_kept}
 use Rattle.lines.proofs.Keeping.{answer_kept}
 use Rattle.lines.specs.Pieces.{Answers}
 use Rattle.lines.specs.declared.Program.{Program}
-use Rattle.line_program.specs.Written.{AppendsPart}
+use Rattle.streams.specs.Parts.{AppendsPart}
 
 -- ---- known octets
 pub same_part : (a b : Option (List ℕ)) {xs ys : List ℕ} → xs ≡ ys → AppendsPart a b xs → AppendsPart a b ys
@@ -36,25 +36,11 @@ part_before a b xs ys (n, h, p) = (
   subst (Appends a b) (sym (take-append-le n xs ys (omega (arith, h)))) p,
 )
 
--- a part of the first octets of a buffer
-pub part_of_first : (a b : Option (List ℕ)) (out : List ℕ) (size n : ℕ) → size ≤ length out → n < size
-    → Appends a b (take n out) → AppendsPart a b (take size out)
-part_of_first a b out size n fits h p = (
-  n,
-  subst (λ m. n < m) (sym (length-take-le size out fits)) h,
-  subst (Appends a b) (sym (take-take n size out (omega (arith, h)))) p,
-)
-
 pub any_err : {X E : Type 0} (r : Result X E) (P : Type 0) → P → OnErr r P
 any_err (Ok x) P h = tt
 any_err (Err x) P h = h
 
 -- ---- a call of `answer_piece`
-first_octets : {b b' xs : List ℕ} {r : ℕ} → Wrote b 0 xs b' r → r ≤ length b → take r b' ≡ xs
-first_octets {b} {b'} {xs} {r} w h =
-    let n : r ≡ length xs = omega (arith, w.place) in
-    rw (w.text, n, overlay_first b xs (omega arith)) (take-append_seam xs (drop (length xs) b))
-
 -- the part of the input that a call is given
 pub part_length : (from : ℕ) (input : List ℕ)
     → length (take (length input - from) (drop from input)) ≡ length input - from
@@ -69,29 +55,7 @@ seen_more from taken input h =
     ∙ ap (λ l. take from input ++ l) (sym (take-take taken (length input - from) (drop from input) h))
 
 module _ (program : Program) (line kept : List ℕ) where
-  -- what a call writes, where what is kept begins as the line does
-  pub call_printed : (seen : List ℕ) {piece out line' out' : List ℕ} {taken size : ℕ}
-      → take most_kept kept ≡ take most_kept (so_far line seen)
-      → Answers program kept piece out line' out' taken size
-      → printed_over (answer_to program) line seen ++ take size out'
-      ≡ printed_over (answer_to program) line (seen ++ take taken piece)
-  call_printed seen {piece} {taken = taken} k m =
-      let answer = answer_to program in
-      let t = take taken piece in
-      ap (λ l. printed_over answer line seen ++ l) (first_octets m.wrote m.fits
-      ∙ printed_alike most_kept answer (answer_kept program) kept (so_far line seen) t k)
-      ∙ sym (printed-pieces answer line seen t)
-
-  pub call_kept : (seen : List ℕ) {piece out line' out' : List ℕ} {taken size : ℕ}
-      → take most_kept kept ≡ take most_kept (so_far line seen)
-      → Answers program kept piece out line' out' taken size
-      → take most_kept line' ≡ take most_kept (so_far line (seen ++ take taken piece))
-  call_kept seen {piece} {taken = taken} k m =
-      let t = take taken piece in
-      ap (take most_kept) m.kept ∙ take-take most_kept most_kept (so_far kept t) (omega arith)
-      ∙ kept_alike most_kept kept (so_far line seen) t k ∙ ap (take most_kept) (sym (so_far_pieces line seen t))
-
-  -- the same of a piece that is taken whole
+  -- what is printed over octets that follow those seen, where what is kept begins as the line does
   pub more_printed : (seen t : List ℕ) → take most_kept kept ≡ take most_kept (so_far line seen)
       → printed_over (answer_to program) line seen ++ printed_over (answer_to program) kept t
       ≡ printed_over (answer_to program) line (seen ++ t)
@@ -106,6 +70,24 @@ module _ (program : Program) (line kept : List ℕ) where
       → take most_kept line' ≡ take most_kept (so_far line (seen ++ t))
   more_kept seen t line' k e =
       e ∙ kept_alike most_kept kept (so_far line seen) t k ∙ ap (take most_kept) (sym (so_far_pieces line seen t))
+
+  -- the same of a call
+  pub call_printed : (seen : List ℕ) {piece out line' out' : List ℕ} {taken size : ℕ}
+      → take most_kept kept ≡ take most_kept (so_far line seen)
+      → Answers program kept piece out line' out' taken size
+      → printed_over (answer_to program) line seen ++ take size out'
+      ≡ printed_over (answer_to program) line (seen ++ take taken piece)
+  call_printed seen {piece} {taken = taken} k m =
+      ap (λ l. printed_over (answer_to program) line seen ++ l) (first_written m.wrote m.fits)
+      ∙ more_printed seen (take taken piece) k
+
+  pub call_kept : (seen : List ℕ) {piece out line' out' : List ℕ} {taken size : ℕ}
+      → take most_kept kept ≡ take most_kept (so_far line seen)
+      → Answers program kept piece out line' out' taken size
+      → take most_kept line' ≡ take most_kept (so_far line (seen ++ take taken piece))
+  call_kept seen {piece} {line' = line'} {taken = taken} k m =
+      let t = take taken piece in
+      more_kept seen t line' k (ap (take most_kept) m.kept ∙ take-take most_kept most_kept (so_far kept t) (omega arith))
 
 -- what is printed over the first octets comes first
 pub printed_first : (answer : List ℕ → List ℕ) (line input : List ℕ) (n : ℕ)

@@ -3,14 +3,14 @@
 #![tactic(auto)]
 
 ghost use Rattle.std.specs.Prelude.{◌≡◌, ◌⊎◌, ◌↔◌, IsTrue, ◌≤◌, ◌<◌, List, ℕ, [], ◌∷◌, length, take, IfOk, IfErr, OnErr, OnOk};
-ghost use Rattle.std.specs.Io.KnownBytes.{Appends, Consumes, IsAtEnd};
-ghost use Rattle.lines.specs.Lines.{program_output};
+ghost use Rattle.std.specs.Io.KnownBytes.{Appends};
 ghost use Rattle.lines.specs.Programs.{answer_to, most_kept, answer_room};
 ghost use Rattle.lines.specs.Reading.{printed_last, printed_over, so_far};
-ghost use Rattle.line_program.specs.Written.{AppendsPart, WrittenAt};
+ghost use Rattle.streams.specs.Parts.{AppendsPart};
+ghost use Rattle.line_program.specs.Written.{WritesAll, WritesPart};
 ghost use Rattle.line_program.specs.Ended.{call_of, error_of, IsReaderGone};
 ghost use Rattle.std.specs.Process.{exit_status};
-ghost use Rattle.streams.specs.Failures.{Tells};
+ghost use Rattle.streams.specs.Failures.{Tells, TellsPart};
 
 use lines::{Program, answer_piece};
 use std::env::Env;
@@ -92,13 +92,10 @@ fn answer_pieces<R: Read, W: Write>(
     writer: &mut W,
 ) -> Result<(), Failure>
     requires { (length line.old ≡ most_kept) × (0 < length input.old) × (answer_room ≤ length out.old) }
-    ensures all { OnOk result ((taken : List ℕ)
-        × Consumes (R.remaining reader.old) (R.remaining reader.new) taken
-        × IsAtEnd (R.remaining reader.new)
-        × Appends (W.contents writer.old) (W.contents writer.new) (program_output (answer_to program) taken)) }
-    ensures part { IfErr result (λ failure. (taken : List ℕ)
-        × Consumes (R.remaining reader.old) (R.remaining reader.new) taken
-        × WrittenAt (W.contents writer.old) (W.contents writer.new) (answer_to program) taken failure) }
+    ensures all { OnOk result (WritesAll (R.remaining reader.old) (R.remaining reader.new)
+        (W.contents writer.old) (W.contents writer.new) (answer_to program)) }
+    ensures part { IfErr result (WritesPart (R.remaining reader.old) (R.remaining reader.new)
+        (W.contents writer.old) (W.contents writer.new) (answer_to program)) }
 {
     let mut used = 0;
     let mut turns = u64::MAX;
@@ -131,13 +128,10 @@ fn answer_all<R: Read, W: Write>(
     reader: &mut R,
     writer: &mut W,
 ) -> Result<(), Failure>
-    ensures all { OnOk result ((taken : List ℕ)
-        × Consumes (R.remaining reader.old) (R.remaining reader.new) taken
-        × IsAtEnd (R.remaining reader.new)
-        × Appends (W.contents writer.old) (W.contents writer.new) (program_output (answer_to program) taken)) }
-    ensures part { IfErr result (λ failure. (taken : List ℕ)
-        × Consumes (R.remaining reader.old) (R.remaining reader.new) taken
-        × WrittenAt (W.contents writer.old) (W.contents writer.new) (answer_to program) taken failure) }
+    ensures all { OnOk result (WritesAll (R.remaining reader.old) (R.remaining reader.new)
+        (W.contents writer.old) (W.contents writer.new) (answer_to program)) }
+    ensures part { IfErr result (WritesPart (R.remaining reader.old) (R.remaining reader.new)
+        (W.contents writer.old) (W.contents writer.new) (answer_to program)) }
 {
     let mut line = [0; 65537];
     let mut input = [0; 65536];
@@ -148,7 +142,9 @@ fn answer_all<R: Read, W: Write>(
 // Tells of a failure.
 fn tell<W: Write>(errors: &mut W, name: &[u8], failure: &Failure) -> io::Result<()>
     requires { length name.now ≤ 1000 }
-    ensures { OnOk result (Tells (W.contents errors.old) (W.contents errors.new) name.now
+    ensures all { OnOk result (Tells (W.contents errors.old) (W.contents errors.new) name.now
+        (call_of failure.now) (error_of failure.now)) }
+    ensures some { OnErr result (TellsPart (W.contents errors.old) (W.contents errors.new) name.now
         (call_of failure.now) (error_of failure.now)) }
 {
     match failure {

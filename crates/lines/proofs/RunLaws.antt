@@ -1,13 +1,12 @@
 -- What calls in turn write: what the program is to print for the input that they took.
-use Rattle.std.specs.Prelude.{◌≡◌, refl, ℕ, ◌≤◌, length, drop}
+use Rattle.std.specs.Prelude.{◌≡◌, refl, ℕ, ◌≤◌, length}
 use Rattle.std.proofs.Common.{sym, ◌∙◌, arith, take-take}
 use Rattle.std.proofs.Math.Path.{ap}
 use mathlib.Core.List.{List, [], ◌∷◌, ◌++◌, append-nil}
 use borrow.Author.Tests.{le-ltb}
 use Rattle.std.proofs.Math.ListN.{take}
-use Rattle.std.proofs.Math.Seq.{take-append_seam}
 use Rattle.octets.specs.Lists.{each}
-use Rattle.octets.specs.Overlay.{Wrote, overlay_first}
+use Rattle.octets.specs.Overlay.{first_written}
 use Rattle.lines.specs.Lines.{program_output}
 use Rattle.lines.specs.Reading.{printed_at, so_far, printed_over, printed_last, output_steps, printed-pieces}
 use Rattle.lines.specs.Reading.{so_far_pieces, kept_alike, printed_alike, kept_last}
@@ -18,14 +17,9 @@ use Rattle.lines.specs.Pieces.{taken_of}
 use Rattle.lines.specs.declared.Program.{Program}
 
 -- ---- what a call writes
-first_octets : {b b' xs : List ℕ} {r : ℕ} → Wrote b 0 xs b' r → r ≤ length b → take r b' ≡ xs
-first_octets {b} {b'} {xs} {r} w h =
-    let n : r ≡ length xs = omega (arith, w.place) in
-    rw (w.text, n, overlay_first b xs (omega arith)) (take-append_seam xs (drop (length xs) b))
-
 module _ (program : Program) (c : PieceCall) (m : Meets program c) where
   call_output : take c.size c.out' ≡ printed_over (answer_to program) c.line (take c.taken c.piece)
-  call_output = first_octets m.wrote m.fits
+  call_output = first_written m.wrote m.fits
 
   -- what is kept begins as the line does
   module _ (line : List ℕ) (k : take most_kept c.line ≡ take most_kept line) where

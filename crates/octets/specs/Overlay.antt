@@ -6,7 +6,7 @@ use mathlib.Core.List.{List, [], ◌∷◌, ◌++◌, append_assoc, append-nil}
 use Prim.Native.String.{String}
 use Rattle.std.proofs.lemmas.List.{set_comm}
 use Rattle.std.proofs.lemmas.List.Edits.{sets, sets-eq}
-use Rattle.std.proofs.Math.Seq.{set_out}
+use Rattle.std.proofs.Math.Seq.{set_out, take-append_seam}
 use Rattle.octets.specs.Lists.{row_text, ended, each}
 use Rattle.octets.specs.Answer.{overwritten}
 
@@ -88,6 +88,12 @@ then {b} {b₁} {b₂} {at} {r₁} {r₂} {xs} {ys} p q =
       place = omega (arith, length-append xs ys, p.place, q.place);
       text = q.text ∙ rw (p.text, p.place) (overlay_join b at xs ys);
     }
+
+-- what was written from the first place on, with room for it, is what the buffer begins with
+pub first_written : {b b' xs : List ℕ} {r : ℕ} → Wrote b 0 xs b' r → r ≤ length b → take r b' ≡ xs
+first_written {b} {b'} {xs} {r} w h =
+    let n : r ≡ length xs = omega (arith, w.place) in
+    rw (w.text, n, overlay_first b xs (omega arith)) (take-append_seam xs (drop (length xs) b))
 
 -- no octet is written
 pub nothing : (b : List ℕ) (at : ℕ) → Wrote b at [] b at

@@ -2,6 +2,7 @@
 use Rattle.std.specs.Prelude.{ℕ, ℤ, List, ◌++◌, codes, unsigned_abs, Option, None, Some}
 use Rattle.std.specs.IoError.{raw_os_error}
 use Rattle.std.specs.Io.KnownBytes.{Appends}
+use Rattle.streams.specs.Parts.{AppendsPart}
 use Rattle.std.specs.declared.io.Error.{Error}
 use Rattle.octets.specs.Decimal.{decimal}
 
@@ -19,3 +20,8 @@ failure_line name call number reason =
 abbrev pub Tells : Option (List ℕ) → Option (List ℕ) → List ℕ → List ℕ → Error → Type 0
 Tells old new name call error =
     (reason : List ℕ) × Appends old new (failure_line name call (number_of (raw_os_error error)) reason)
+
+-- such a line is added, but not whole
+abbrev pub TellsPart : Option (List ℕ) → Option (List ℕ) → List ℕ → List ℕ → Error → Type 0
+TellsPart old new name call error =
+    (reason : List ℕ) × AppendsPart old new (failure_line name call (number_of (raw_os_error error)) reason)

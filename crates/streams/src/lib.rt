@@ -3,12 +3,13 @@
 // that would block has failed. Proved loops need a bound: those that try again end after 2^64 - 1 turns.
 #![tactic(auto)]
 
-ghost use Rattle.std.specs.Prelude.{◌≡◌, ◌≢◌, ℕ, List, ◌^◌, ◌+◌, ◌≤◌, ◌<◌, ◌++◌, codes, length, take, IfErr, OnErr, OnOk};
+ghost use Rattle.std.specs.Prelude.{◌≡◌, ◌≢◌, ◌⊎◌, ℕ, List, ◌^◌, ◌+◌, ◌≤◌, ◌<◌, ◌++◌, codes, length, take, IfErr, OnErr, OnOk};
 ghost use Rattle.std.specs.IoError.{error_kind, raw_os_error};
 ghost use Rattle.std.specs.Io.{ReadsAtMost, WritesAtMost};
 ghost use Rattle.std.specs.Io.KnownBytes.{Appends, Keeps, ReadConsumes, WriteAppends};
 ghost use Rattle.octets.specs.Overlay.{Wrote};
-ghost use Rattle.streams.specs.Failures.{number_of, Tells};
+ghost use Rattle.streams.specs.Parts.{AppendsPart};
+ghost use Rattle.streams.specs.Failures.{number_of, Tells, TellsPart};
 
 use octets::{put_all, put_decimal};
 use std::env::{Env, FillError};
@@ -62,8 +63,7 @@ fn write_some<W: Write>(writer: &mut W, part: &[u8]) -> io::Result<usize>
 pub fn write_first<W: Write>(writer: &mut W, out: &[u8], size: usize) -> io::Result<()>
     requires { size ≤ length out.now }
     ensures all { OnOk result (Appends (W.contents writer.old) (W.contents writer.new) (take size out.now)) }
-    ensures some { OnErr result ((n : ℕ) × (n < size)
-        × Appends (W.contents writer.old) (W.contents writer.new) (take n out.now)) }
+    ensures some { OnErr result (AppendsPart (W.contents writer.old) (W.contents writer.new) (take size out.now)) }
     ensures retried { IfErr result (λ e. error_kind e ≢ ErrorKind.Interrupted) }
 {
     let mut done = 0;
@@ -93,7 +93,9 @@ pub fn print_line<W: Write>(
     after: &[u8],
 ) -> io::Result<()>
     requires { (length before.now ≤ 1000) × (length name.now ≤ 1000) × (length after.now ≤ 1000) }
-    ensures { OnOk result (Appends (W.contents writer.old) (W.contents writer.new)
+    ensures all { OnOk result (Appends (W.contents writer.old) (W.contents writer.new)
+        (before.now ++ name.now ++ after.now)) }
+    ensures some { OnErr result (AppendsPart (W.contents writer.old) (W.contents writer.new)
         (before.now ++ name.now ++ after.now)) }
 {
     let mut line = [0; 4096];
@@ -106,6 +108,8 @@ pub fn print_line<W: Write>(
 // Writes such a line where failures are told. One that can't be written is told to nobody.
 pub fn tell_line<W: Write>(writer: &mut W, before: &[u8], name: &[u8], after: &[u8])
     requires { (length before.now ≤ 1000) × (length name.now ≤ 1000) × (length after.now ≤ 1000) }
+    ensures { Appends (W.contents writer.old) (W.contents writer.new) (before.now ++ name.now ++ after.now)
+        ⊎ AppendsPart (W.contents writer.old) (W.contents writer.new) (before.now ++ name.now ++ after.now) }
 {
     let _ = print_line(writer, before, name, after);
 }
@@ -155,7 +159,8 @@ pub fn tell_failure<W: Write>(
     error: &Error,
 ) -> io::Result<()>
     requires { (length name.now ≤ 1000) × (length call.now ≤ 1000) }
-    ensures { OnOk result (Tells (W.contents writer.old) (W.contents writer.new) name.now call.now error.now) }
+    ensures all { OnOk result (Tells (W.contents writer.old) (W.contents writer.new) name.now call.now error.now) }
+    ensures some { OnErr result (TellsPart (W.contents writer.old) (W.contents writer.new) name.now call.now error.now) }
 {
     let mut line = [0; 4096];
     let n = put_all(name, &mut line, 0);
@@ -172,7 +177,8 @@ pub fn tell_failure<W: Write>(
 // Tells of a read that failed.
 pub fn tell_read<W: Write>(writer: &mut W, name: &[u8], error: &Error) -> io::Result<()>
     requires { length name.now ≤ 1000 }
-    ensures { OnOk result (Tells (W.contents writer.old) (W.contents writer.new) name.now (codes "read") error.now) }
+    ensures all { OnOk result (Tells (W.contents writer.old) (W.contents writer.new) name.now (codes "read") error.now) }
+    ensures some { OnErr result (TellsPart (W.contents writer.old) (W.contents writer.new) name.now (codes "read") error.now) }
 {
     tell_failure(writer, name, b"read", error)
 }
@@ -180,7 +186,8 @@ pub fn tell_read<W: Write>(writer: &mut W, name: &[u8], error: &Error) -> io::Re
 // Tells of a write that failed.
 pub fn tell_write<W: Write>(writer: &mut W, name: &[u8], error: &Error) -> io::Result<()>
     requires { length name.now ≤ 1000 }
-    ensures { OnOk result (Tells (W.contents writer.old) (W.contents writer.new) name.now (codes "write") error.now) }
+    ensures all { OnOk result (Tells (W.contents writer.old) (W.contents writer.new) name.now (codes "write") error.now) }
+    ensures some { OnErr result (TellsPart (W.contents writer.old) (W.contents writer.new) name.now (codes "write") error.now) }
 {
     tell_failure(writer, name, b"write", error)
 }

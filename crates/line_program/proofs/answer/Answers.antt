@@ -5,7 +5,7 @@ use Rattle.std.proofs.KnownBytes.{Appends-nil, Appends-trans}
 use Rattle.lines.specs.Programs.{answer_to, most_kept}
 use Rattle.lines.specs.Reading.{printed_over, so_far}
 use Rattle.lines.specs.Pieces.{takes_some}
-use Rattle.line_program.proofs.Writing.{same_part, part_after, part_before, part_of_first, any_err, part_length, seen_more, call_printed, call_kept, printed_first}
+use Rattle.line_program.proofs.Writing.{same_part, part_after, part_before, any_err, part_length, seen_more, call_printed, call_kept, printed_first}
 use Rattle.line_program.proofs.answer.Goals as goal
 
 pub loop-from-init : goal.loop-from-init
@@ -45,7 +45,6 @@ pub returns-in_err-write_first-clause-part : goal.returns-in_err-write_first-cla
 returns-in_err-write_first-clause-part g c =
     let (within, used, long, room, kept, written) = c.loop-from.invariant in
     let (fewer, taken, put) = c.answer_piece-step.ensures.used_le_most_kept in
-    let (n, h, some) = c.in_err-write_first.ensures.some in
     let m = c.answer_piece-step.ensures.answers in
     let line = take c.args.used c.args.line.now in
     let answer = answer_to c.args.program in
@@ -55,6 +54,5 @@ returns-in_err-write_first-clause-part g c =
     let fits : c.answer_piece-step.result.taken ≤ length input - from = omega (arith, taken, part_length from input) in
     let more = seen_more from c.answer_piece-step.result.taken input fits in
     let step = call_printed c.args.program line _ _ kept m ∙ ap (printed_over answer line) (sym more) in
-    let size : c.answer_piece-step.result.size ≤ length c.answer_piece-step.new.out = search (rules, put) in
-    let part = part_after _ _ _ _ _ written (part_of_first _ _ c.answer_piece-step.new.out _ n size h some) in
+    let part = part_after _ _ _ _ _ written c.in_err-write_first.ensures.some in
     any_err _ _ (same_part _ _ (printed_first answer line input next) (part_before _ _ _ _ (same_part _ _ step part)))
