@@ -33,15 +33,15 @@ module _ (c : Call) (made : Converts c) where
   pub text_success : (n : ℕ) → (reply c ≡ success n) ↔ ((m : Message) × Accepts c m × Length c n (text m))
   text_success = converter.accepts c made
 
-  pub text-written : (m : Message) → Accepts c m → length (text m) ≤ room c → written_by c ≡ text m
-  text-written = converter.writes c made
+  pub text_written : (m : Message) → Accepts c m → length (text m) ≤ room c → written_by c ≡ text m
+  text_written = converter.writes c made
 
   pub text_refusal : (k p : ℕ) → (reply c ≡ refusal k p) ↔ ((decode c.input ≡ refused k p)
       ⊎ ((m : Message) × Accepts c m × (room c < length (text m)) × (k ≡ 10) × (p ≡ 0)))
   text_refusal = converter.declines c made
 
-  pub text-room : 655750 ≤ room c → Room c
-  text-room = converter.room_enough c made
+  pub text_room : 655750 ≤ room c → Room c
+  text_room = converter.room_enough c made
 
 -- Demand 2. Success exactly for the text of a message that is accepted, given room: its uncompressed form is written.
 -- 20 exactly if no document of the grammar has this text, at the length of the longest beginning of the input that
