@@ -1,7 +1,5 @@
--- `records::piece_of` meets its contract: one way for each layout, and one for the TYPEs that have none. The compiler
--- tests the
--- TYPEs 2 to 9, but for 6, as a range.
--- a TYPE of the range has one name
+-- `records::layout_piece` meets its contract: one way for each layout, and one for the TYPEs that have none. The
+-- compiler tests the TYPEs 2 to 9, but for 6, as a range.
 use borrow.Author.Tests.{le-leb, lt-leb, le-ltb}
 use mathlib.Core.Path.{◌≡◌, refl, ap}
 use mathlib.Core.Bool.{false, ◌&&◌, ◌||◌}
@@ -18,6 +16,7 @@ use Rattle.records.proofs.layout_piece.Goals as goal
 use Rattle.records.proofs.layout_piece.Goals.{in-12-1, in_default+else-rtype-lt2+then-rtype-lt10}
 use Rattle.records.proofs.layout_piece.Goals.{in_default-via-then-rtype-lt2, in_default-via-else-rtype-lt2+else-rtype-lt10}
 
+-- a TYPE of the range has one name
 one_name : (rtype : ℕ) → 2 ≤ rtype → rtype < 10 → (rtype ≡ 6 → ⊥) → layout_of rtype ≡ some (name ∷ [])
 unfolding lookup layouts layout_of
 one_name =
@@ -29,15 +28,18 @@ one_name =
       ),
     )
 
+-- the TYPEs that are tested one by one
 abbrev arms : List (List ℕ)
 arms = (12 ∷ []) ∷ (6 ∷ []) ∷ (14 ∷ []) ∷ (15 ∷ []) ∷ []
 
+-- a TYPE that is none of these and not in the range has no layout
 no-layout : (X : Type 0) (rtype : ℕ) → Missed X rtype arms → (leb 2 rtype && ltb rtype 10) ≡ false
     → layout_of rtype ≡ none
 unfolding layouts layout_of
 no-layout X rtype h e =
     failed_row (λ k. keyed? arms k || (leb 2 k && ltb k 10)) rtype layouts tt (rw (missed_key X rtype arms h) e)
 
+-- outside the range
 below : (rtype : ℕ) → rtype < 2 → (leb 2 rtype && ltb rtype 10) ≡ false
 below rtype h = rw (lt-leb 2 rtype h)
 

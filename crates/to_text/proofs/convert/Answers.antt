@@ -1,3 +1,4 @@
+-- `to_text::convert` meets its contract: the refusal that was found, or the text.
 use mathlib.Core.List.{[]}
 use Rattle.to_text.proofs.Promise.{converts, convert_refused, convert_bounded, convert_accepted, convert_whole}
 use Rattle.to_text.proofs.convert.Goals as goal
