@@ -1,18 +1,38 @@
 -- The steps of the writers of numbers and digits, and how long their texts are.
 use mathlib.Core.Path.{◌≡◌, refl, ap, ◌∙◌}
 use mathlib.Core.Bool.{Bool, true, false}
-use mathlib.Core.List.{List, [], ◌∷◌}
+use mathlib.Core.List.{List, [], ◌∷◌, ◌++◌, append_assoc}
 use Prim.Native.Nat.{ℕ, zero, suc, ◌+◌, ◌*◌, ◌/◌, ◌%◌, ◌^◌, ◌≤◌, ◌<◌}
 use native.Mathlib.Nat.{pow-suc}
 use native.Mathlib.Omega.{arith}
-use borrow.Author.Tests.{lt-ltb, le-ltb, ltb-true, ltb-false}
+use borrow.Author.Tests.{ltb-true, ltb-false}
 use lib.Dec.{ltb}
-use lib.ListN.{length, length-append}
-use Rattle.octets.specs.Fields.{be16}
+use lib.ListN.{length, get_or, take, drop, set, length-append}
+use Rattle.std.proofs.lemmas.List.{take-append-drop, length-take-le, length-drop}
+use Rattle.octets.specs.Fields.{drop_one}
 use Rattle.octets.specs.Decimal.{decimal, decimal_digit, decimal_step}
 use Rattle.octets.specs.Hexadecimal.{hex_digit, hex_octet}
-use Rattle.octets.specs.Overlay.{Wrote, then}
+use Rattle.octets.specs.Overlay.{overlay, Wrote, then, wrote_past, same_long, each_append, each_step}
 use Rattle.octets.specs.Lists.{each}
+
+-- ---- runs of octets
+-- what follows a text that reaches the buffer's end is past it
+pub then_past : (ys : List ℕ) {b b' xs : List ℕ} {at r n : ℕ} → Wrote b at xs b' r → length b ≤ r → n ≡ r + length ys
+    → Wrote b at (xs ++ ys) b' n
+then_past ys {b} {b'} {r = r} w h e = then w (wrote_past b' r ys (omega (arith, same_long w)) e)
+
+-- a text is written as far as there is room
+pub wrote_part : (xs : List ℕ) (k : ℕ) {b b' : List ℕ} {at r : ℕ} → length b ≤ at + k → k ≤ length xs
+    → Wrote b at (take k xs) b' r → Wrote b at xs b' (at + length xs)
+wrote_part xs k {at = at} h l w =
+    let n : length (take k xs) ≡ k = length-take-le k xs l in
+    rw take-append-drop at
+    (then_past (drop k xs) {n = at + length xs} w (omega (arith, w.place)) (omega (arith, length-drop k xs, w.place)))
+
+-- one octet is stored
+pub wrote_store : (b : List ℕ) (at x : ℕ) → Wrote b at (x ∷ []) (set b at x) (at + 1)
+unfolding overlay
+wrote_store b at x = record { place = refl; text = refl }
 
 -- ---- decimal
 -- one digit more
@@ -42,27 +62,40 @@ pub wrote_digits : {n : ℕ} {b b₁ b₂ : List ℕ} {at r₁ r₂ : ℕ} → 1
 wrote_digits {n} h p q = rw (decimal_step n h) (then p q)
 
 -- ---- hexadecimal
--- a digit below ten, and one from ten on
-pub hex_low : (n : ℕ) → n < 10 → 48 + n ≡ hex_digit n
-hex_low n h = rw (lt-ltb n 10 h)
-
-pub hex_high : (n : ℕ) → 10 ≤ n → 55 + n ≡ hex_digit n
-hex_high n h = rw (le-ltb n 10 h)
-
--- an octet by its digits
-pub wrote_octet : (x : ℕ) {b b₁ b₂ : List ℕ} {at r₁ r₂ d e : ℕ} → d ≡ hex_digit (x / 16) → e ≡ hex_digit (x % 16)
-    → Wrote b at (d ∷ []) b₁ r₁ → Wrote b₁ r₁ (e ∷ []) b₂ r₂ → Wrote b at (hex_octet x) b₂ r₂
-wrote_octet x p q v w = rw (← p, ← q) (then v w)
-
 -- two octets for each
 pub each-hex-length : (l : List ℕ) → length (each hex_octet l) ≡ 2 * length l
 unfolding each
 each-hex-length [] = refl
 each-hex-length (x ∷ l) = rw length-append (omega (arith, each-hex-length l))
 
--- ---- numbers of 16 and 32 bits
-pub wrote_two : (n : ℕ) {b b₁ b₂ : List ℕ} {at r₁ r₂ : ℕ} → n < 65536 → Wrote b at (n / 256 ∷ []) b₁ r₁
-    → Wrote b₁ r₁ (n % 256 ∷ []) b₂ r₂ → Wrote b at (be16 n) b₂ r₂
-wrote_two n h p q =
-    let e : n / 256 % 256 ≡ n / 256 = omega arith in
-    rw e (then p q)
+-- an octet's digits after those of the octets before it: both are stored, or the first and no more
+module _ (s : List ℕ) (i : ℕ) {b b₁ : List ℕ} {at r d : ℕ} (h : i < length s) (f : d ≡ hex_digit (get_or s i 0 / 16))
+    (w : Wrote b at (each hex_octet (take i s)) b₁ r) where
+  pub hex_more : {n e : ℕ} → e ≡ hex_digit (get_or s i 0 % 16) → n ≡ r + 2
+      → Wrote b at (each hex_octet (take (i + 1) s)) (set (set b₁ r d) (r + 1) e) n
+  hex_more {n} {e} g q =
+      let digits : Wrote b₁ r (hex_octet (get_or s i 0)) (set (set b₁ r d) (r + 1) e) (r + 1 + 1) =
+      rw (← f, ← g) (then (wrote_store b₁ r d) (wrote_store (set b₁ r d) (r + 1) e)) in
+      let place : n ≡ r + 1 + 1 = omega arith in
+      rw place (each_step hex_octet s h w digits)
+
+  pub hex_cut : {b₂ : List ℕ} {n m : ℕ} → length b ≤ r + 1 → Wrote b₁ r (d ∷ []) b₂ n → m ≡ at + 2 * length s
+      → Wrote b at (each hex_octet s) b₂ m
+  unfolding each
+  hex_cut {b₂} {n} {m} l v e =
+      let front = each hex_octet (take i s) in
+      let rest = hex_digit (get_or s i 0 % 16) ∷ each hex_octet (drop (i + 1) s) in
+      let tail : each hex_octet (drop i s) ≡ d ∷ rest = rw (drop_one s i h, f) in
+      let whole : each hex_octet s ≡ front ++ (d ∷ []) ++ rest =
+      rw (append_assoc front (d ∷ []) rest, ← tail, ← (each_append hex_octet (take i s) (drop i s)), take-append-drop) in
+      rw whole
+      (then_past rest (then w v) (omega (arith, v.place))
+      (omega (
+        arith,
+        v.place,
+        w.place,
+        each-hex-length (take i s),
+        each-hex-length (drop (i + 1) s),
+        length-take-le i s,
+        length-drop (i + 1) s,
+      )))

@@ -8,5 +8,6 @@ pub mod Decimal
 pub mod Hexadecimal
 pub mod Answer
 pub mod Overlay
+pub mod Writes
 pub mod Loops
 pub mod Calls

@@ -6,20 +6,80 @@ ghost use Rattle.octets.specs.Fields.{be16, be32, be16_at, be32_at};
 ghost use Rattle.octets.specs.Decimal.{decimal};
 ghost use Rattle.octets.specs.Hexadecimal.{hex_digit, hex_octet};
 ghost use Rattle.octets.specs.Overlay.{Wrote};
+ghost use Rattle.octets.specs.Calls.{number_of};
 ghost use Rattle.octets.specs.Lists.{each};
 
-// What a conversion answers: the length of its output, or the refusal's number and place.
-#[derive(Clone, Copy)]
-pub enum Outcome {
-    Length(usize),
-    Refused(u32, usize),
+pub use writer::Writer;
+
+mod writer;
+
+// The rule of the format by which a message or a text is refused.
+#[derive(Clone, Copy, Debug, PartialEq, Eq)]
+pub enum Rule {
+    // of messages
+    Cut,
+    LongMessage,
+    Reserved,
+    Target,
+    LongName,
+    Short,
+    LeftOver,
+    LongForm,
+    TextRoom,
+    Surplus,
+    // of texts
+    Grammar,
+    Meaning,
+    Limit,
+    MessageRoom,
+}
+
+impl Rule {
+    // The format's number of the rule.
+    pub fn number(self) -> u32
+        ensures { result ≡ number_of self }
+    {
+        match self {
+            Rule::Cut => 1,
+            Rule::LongMessage => 2,
+            Rule::Reserved => 4,
+            Rule::Target => 5,
+            Rule::LongName => 6,
+            Rule::Short => 7,
+            Rule::LeftOver => 8,
+            Rule::LongForm => 9,
+            Rule::TextRoom => 10,
+            Rule::Surplus => 11,
+            Rule::Grammar => 20,
+            Rule::Meaning => 21,
+            Rule::Limit => 22,
+            Rule::MessageRoom => 23,
+        }
+    }
+
+    // The refusal by this rule at a place.
+    pub fn at(self, place: usize) -> Refusal
+        ensures { result ≡ record { rule = self; place = place } }
+    {
+        Refusal {
+            rule: self,
+            place: place,
+        }
+    }
+}
+
+// Why a message or a text is refused, and at which of its octets; 0 where the rule is of the whole.
+#[derive(Clone, Copy, Debug, PartialEq, Eq)]
+pub struct Refusal {
+    pub rule: Rule,
+    pub place: usize,
 }
 
 // The octet as a place or a length.
 pub fn wide(x: u8) -> usize
     ensures { (result ≡ x) × (result < 256) }
 {
-    x as usize
+    usize::from(x)
 }
 
 // Writes an octet where there is room, and returns the next place.
@@ -34,48 +94,29 @@ pub fn put(b: u8, out: &mut [u8], to: usize) -> usize
     next
 }
 
-// Writes an octet that there is room for, and returns the next place.
-fn store(b: u8, out: &mut [u8], to: usize) -> usize
-    requires { to < length out.old }
-    ensures { Wrote out.old to (b ∷ []) out.new result }
-{
-    out[to] = b;
-    to + 1
-}
-
-// Writes all of src, for which there is room: no octet is tested.
-fn copy(src: &[u8], out: &mut [u8], to: usize) -> usize
+// Writes all of src, for which there is room.
+// A loop, since `copy_from_slice` becomes a call of memmove, and the C package has no function but memcpy and memset.
+fn copy(src: &[u8], out: &mut [u8], to: usize)
     requires { to + length src.now ≤ length out.old }
-    ensures { Wrote out.old to src.now out.new result }
+    ensures { Wrote out.old to src.now out.new (to + length src.now) }
 {
-    let mut next = to;
-    let mut i = 0;
-    while i < src.len() {
-        next = store(src[i], out, next);
-        i += 1;
+    for (i, &b) in src.iter().enumerate() {
+        out[to + i] = b;
     }
-    next
 }
 
 // Writes all of src.
 pub fn put_all(src: &[u8], out: &mut [u8], to: usize) -> usize
-    requires { to + length src.now < 2 ^ 40 }
+    requires { to + length src.now ≤ 2 ^ 40 }
     ensures { Wrote out.old to src.now out.new result }
 {
     let end = to + src.len();
-    if to >= out.len() {
-        return end;
-    }
     if end <= out.len() {
-        return copy(src, out, to);
+        copy(src, out, to);
+    } else if to < out.len() {
+        copy(&src[..out.len() - to], out, to);
     }
-    let mut next = to;
-    let mut i = 0;
-    while i < src.len() {
-        next = put(src[i], out, next);
-        i += 1;
-    }
-    next
+    end
 }
 
 // Writes a number in decimal.
@@ -85,10 +126,10 @@ pub fn put_decimal(n: u32, out: &mut [u8], to: usize) -> usize
     ensures upper_bound { result ≤ to + 10 }
 {
     if n < 10 {
-        return put(48 + n as u8, out, to);
+        return put(b'0' + n as u8, out, to);
     }
     let next = put_decimal(n / 10, out, to);
-    put(48 + (n % 10) as u8, out, next)
+    put(b'0' + (n % 10) as u8, out, next)
 }
 
 // A hexadecimal digit.
@@ -96,43 +137,21 @@ fn hex_digit(n: u8) -> u8
     requires { n < 16 }
     ensures { result ≡ hex_digit n }
 {
-    if n < 10 {
-        return 48 + n;
+    match n {
+        0..=9 => b'0' + n,
+        _ => b'A' + (n - 10),
     }
-    55 + n
-}
-
-// Writes an octet as two hexadecimal digits.
-fn put_octet(b: u8, out: &mut [u8], to: usize) -> usize
-    requires { to + 1 < 2 ^ 40 }
-    ensures { Wrote out.old to (hex_octet b) out.new result }
-{
-    let next = put(hex_digit(b / 16), out, to);
-    put(hex_digit(b % 16), out, next)
-}
-
-// Writes an octet as two hexadecimal digits, for which there is room.
-fn store_octet(b: u8, out: &mut [u8], to: usize) -> usize
-    requires { to + 2 ≤ length out.old }
-    ensures { Wrote out.old to (hex_octet b) out.new result }
-{
-    let next = store(hex_digit(b / 16), out, to);
-    store(hex_digit(b % 16), out, next)
 }
 
 // Writes each octet of src as two hexadecimal digits, for which there is room.
-fn copy_hex(src: &[u8], out: &mut [u8], to: usize) -> usize
+fn copy_hex(src: &[u8], out: &mut [u8], to: usize)
     requires { to + 2 * length src.now ≤ length out.old }
-    ensures wrote { Wrote out.old to (each hex_octet src.now) out.new result }
-    ensures value { result ≡ to + 2 * length src.now }
+    ensures { Wrote out.old to (each hex_octet src.now) out.new (to + 2 * length src.now) }
 {
-    let mut next = to;
-    let mut i = 0;
-    while i < src.len() {
-        next = store_octet(src[i], out, next);
-        i += 1;
+    for (i, &b) in src.iter().enumerate() {
+        out[to + 2 * i] = hex_digit(b / 16);
+        out[to + 2 * i + 1] = hex_digit(b % 16);
     }
-    next
 }
 
 // Writes each octet of src as two hexadecimal digits.
@@ -142,19 +161,14 @@ pub fn put_hex(src: &[u8], out: &mut [u8], to: usize) -> usize
     ensures value { result ≡ to + 2 * length src.now }
 {
     let end = to + 2 * src.len();
-    if to >= out.len() {
-        return end;
-    }
     if end <= out.len() {
-        return copy_hex(src, out, to);
+        copy_hex(src, out, to);
+    } else if to < out.len() {
+        let whole = (out.len() - to) / 2;
+        copy_hex(&src[..whole], out, to);
+        put(hex_digit(src[whole] / 16), out, to + 2 * whole);
     }
-    let mut next = to;
-    let mut i = 0;
-    while i < src.len() {
-        next = put_octet(src[i], out, next);
-        i += 1;
-    }
-    next
+    end
 }
 
 // The number in the two octets at `at`, the high one first.
@@ -163,8 +177,7 @@ pub fn be16_at(s: &[u8], at: usize) -> u32
     ensures value { result ≡ be16_at s.now at }
     ensures upper_bound { result < 65536 }
 {
-    let n = wide(s[at]) * 256 + wide(s[at + 1]);
-    n as u32
+    u32::from(u16::from_be_bytes([s[at], s[at + 1]]))
 }
 
 // The number in the four octets at `at`, the high ones first.
@@ -172,7 +185,7 @@ pub fn be32_at(s: &[u8], at: usize) -> u32
     requires { at + 4 ≤ length s.now }
     ensures { result ≡ be32_at s.now at }
 {
-    be16_at(s, at) * 65536 + be16_at(s, at + 2)
+    u32::from_be_bytes([s[at], s[at + 1], s[at + 2], s[at + 3]])
 }
 
 // Writes a number in two octets, the high one first.
@@ -180,8 +193,7 @@ pub fn put_be16(n: u32, out: &mut [u8], to: usize) -> usize
     requires { (to + 1 < 2 ^ 40) × (n < 65536) }
     ensures { Wrote out.old to (be16 n) out.new result }
 {
-    let next = put((n / 256) as u8, out, to);
-    put((n % 256) as u8, out, next)
+    put_all(&(n as u16).to_be_bytes(), out, to)
 }
 
 // Writes a number in four octets, the high ones first.
@@ -189,6 +201,5 @@ pub fn put_be32(n: u32, out: &mut [u8], to: usize) -> usize
     requires { to < 2 ^ 39 }
     ensures { Wrote out.old to (be32 n) out.new result }
 {
-    let next = put_be16(n / 65536, out, to);
-    put_be16(n % 65536, out, next)
+    put_all(&n.to_be_bytes(), out, to)
 }

@@ -1,20 +1,12 @@
-use borrow.Author.Rules.{rules}
+-- `octets::put_all` meets its contract: what has room is copied, and past the end nothing is written.
+use native.Mathlib.Omega.{arith}
 use mathlib.Core.Path.{refl}
-use lib.Seq.{take_all}
-use Rattle.octets.specs.Overlay.{nothing, wrote_past, copy_step, same_long}
+use Rattle.octets.specs.Overlay.{wrote_past}
+use Rattle.octets.proofs.Writing.{wrote_part}
 use Rattle.octets.proofs.put_all.Goals as goal
 
 pub returns-then-to-out : goal.returns-then-to-out
-returns-then-to-out c = wrote_past _ _ _ c.if-to-out.true refl
+returns-then-to-out c = wrote_part _ _ (omega arith) (omega arith) c.copy-then-to-out.ensures
 
-pub loop-i-init : goal.loop-i-init
-loop-i-init c = (search rules, search rules, nothing _ _)
-
-pub loop-i-preserved : goal.loop-i-preserved
-loop-i-preserved c = (search rules, search rules, search (copy_step, rules))
-
-pub shape_of-out : goal.shape_of-out
-shape_of-out c = same_long c.loop-i.invariant.2
-
-pub returns : goal.returns
-returns c = rw (take_all _ _ c.loop-i-test.false) at c.loop-i.invariant.2
+pub returns-else-to-out : goal.returns-else-to-out
+returns-else-to-out c = wrote_past _ _ _ c.if-to-out.false refl
