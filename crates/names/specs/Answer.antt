@@ -1,6 +1,8 @@
 -- What the code answers for a name: its limits, faults and answers beside those of the definitions.
-use Rattle.std.specs.Prelude.{◌≡◌, refl, ◌++◌, ℕ, ◌-◌, length, replicate}
-use Rattle.std.proofs.Common.{ap}
+use Rattle.std.specs.Prelude.{◌≡◌, refl, List, ℕ, Result, Ok, Err}
+use Rattle.octets.specs.Calls.{number_of}
+use Rattle.octets.specs.declared.Refusal.{Refusal}
+use Rattle.octets.specs.declared.Rule.TheVariants as rule
 use Rattle.names.specs.Name.{Kind, cut, reserved, target, long, short, surplus, refusal_number, name_form}
 use Rattle.names.specs.Name as name
 use Rattle.names.specs.Walk.{message, rdata, past, named, faulty}
@@ -9,8 +11,6 @@ use Rattle.names.specs.declared.Fault.{Fault}
 use Rattle.names.specs.declared.Fault.TheVariants.{Cut, Reserved, Target, Long, Short, Surplus}
 use Rattle.names.specs.declared.Limit.{Limit}
 use Rattle.names.specs.declared.Limit.TheVariants.{Message, Rdata}
-use Rattle.names.specs.declared.Named.TheVariants.{Read, Faulty}
-use Rattle.names.specs.declared.NameRead.{NameRead}
 
 -- the limit that the code's limit means
 abbrev pub limit_of : Limit → walk.Limit
@@ -33,39 +33,25 @@ fault_of fault = fault_code fault.kind fault.octet
 abbrev pub past_of : Limit → ℕ → Fault
 past_of limit at = fault_of (past (limit_of limit) at)
 
--- the kind of the code's fault, the format's number for it, and the octet at fault
-abbrev pub kind_of : Fault → Kind
-kind_of (Cut octet) = cut
-kind_of (Reserved octet) = reserved
-kind_of (Target octet) = target
-kind_of (Long octet) = long
-kind_of (Short octet) = short
-kind_of (Surplus octet) = surplus
+-- the refusal of the code's fault
+abbrev pub refusal_of : Fault → Refusal
+refusal_of (Cut octet) = record { rule = rule.Cut; place = octet }
+refusal_of (Reserved octet) = record { rule = rule.Reserved; place = octet }
+refusal_of (Target octet) = record { rule = rule.Target; place = octet }
+refusal_of (Long octet) = record { rule = rule.LongName; place = octet }
+refusal_of (Short octet) = record { rule = rule.Short; place = octet }
+refusal_of (Surplus octet) = record { rule = rule.Surplus; place = octet }
 
-abbrev pub fault_number : Fault → ℕ
-fault_number fault = refusal_number (kind_of fault)
+-- it has the format's number for the kind of fault, and the octet at fault as its place
+pub number_same : (kind : Kind) (octet : ℕ) → number_of (refusal_of (fault_code kind octet)).rule ≡ refusal_number kind
+number_same cut octet = refl
+number_same reserved octet = refl
+number_same target octet = refl
+number_same long octet = refl
+number_same short octet = refl
+number_same surplus octet = refl
 
-abbrev pub octet_of : Fault → ℕ
-octet_of (Cut octet) = octet
-octet_of (Reserved octet) = octet
-octet_of (Target octet) = octet
-octet_of (Long octet) = octet
-octet_of (Short octet) = octet
-octet_of (Surplus octet) = octet
-
--- they are those of the definitions' fault
-pub kind_same : (kind : Kind) (octet : ℕ) → kind_of (fault_code kind octet) ≡ kind
-kind_same cut octet = refl
-kind_same reserved octet = refl
-kind_same target octet = refl
-kind_same long octet = refl
-kind_same short octet = refl
-kind_same surplus octet = refl
-
-pub number_same : (kind : Kind) (octet : ℕ) → fault_number (fault_code kind octet) ≡ refusal_number kind
-number_same kind octet = ap refusal_number (kind_same kind octet)
-
-pub octet_same : (kind : Kind) (octet : ℕ) → octet_of (fault_code kind octet) ≡ octet
+pub octet_same : (kind : Kind) (octet : ℕ) → (refusal_of (fault_code kind octet)).place ≡ octet
 octet_same cut octet = refl
 octet_same reserved octet = refl
 octet_same target octet = refl
@@ -73,12 +59,7 @@ octet_same long octet = refl
 octet_same short octet = refl
 octet_same surplus octet = refl
 
--- the answer of a fault
-unfoldable pub fault_read : Fault → NameRead
-fault_read fault = record { answer = Faulty fault; octets = replicate 255 0 }
-
--- the answer of a walk: a name's form is in the first octets
-unfoldable pub name_read : walk.Named → NameRead
-name_read (named n next) =
-    record { answer = Read next (length (name_form n)); octets = name_form n ++ replicate (255 - length (name_form n)) 0 }
-name_read (faulty fault) = fault_read (fault_of fault)
+-- the answer of a walk: the name's form and the offset after it, or the fault
+abbrev pub name_read : walk.Named → Result (List ℕ × ℕ) Fault
+name_read (named n next) = Ok (name_form n, next)
+name_read (faulty fault) = Err (fault_of fault)

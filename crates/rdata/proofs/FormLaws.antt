@@ -3,16 +3,15 @@
 use mathlib.Core.Path.{◌≡◌, refl, sym, ap, ◌∙◌, subst}
 use mathlib.Core.Bool.{Bool, true, false, cond}
 use mathlib.Core.List.{List, [], ◌∷◌, ◌++◌}
-use Prim.Native.Nat.{ℕ, ◌+◌, ◌-◌, ◌*◌, ◌≤◌, ◌<◌}
+use Prim.Native.Nat.{ℕ, ◌+◌, ◌-◌, ◌*◌, ◌≤◌}
 use native.Mathlib.Omega.{arith}
 use borrow.Author.Tests.{ltb-false}
 use lib.Dec.{ltb}
 use lib.ListN.{length, drop, length-append, length-take}
-use lib.Seq.{drop-drop}
-use Rattle.octets.specs.Lists.{each, lookup}
-use Rattle.octets.specs.Hexadecimal.{hex_octet}
-use Rattle.octets.specs.Overlay.{Wrote, each_append}
-use Rattle.octets.proofs.Writing.{each-hex-length}
+use Rattle.std.specs.Prelude.{Result, Ok, Err}
+use Rattle.octets.specs.Lists.{lookup}
+use Rattle.octets.specs.Writes.{Writes}
+use Rattle.octets.specs.declared.writer.Writer.{Writer}
 use Rattle.names.specs.Name.{name_form, short, surplus, Fault}
 use Rattle.names.specs.Walk.{part, rdata, Named, named, faulty, walk, name_from, name_at}
 use Rattle.names.specs.NameLaws.{read_sized}
@@ -22,9 +21,8 @@ use Rattle.records.specs.Layout.{Piece, fixed, name, layouts, layout_of, Laid, l
 use Rattle.records.specs.Parts.{layout_in, rdata_pieces, StepOf, part_to, name_to, done, stops, name_step, step_at}
 use Rattle.records.specs.Parts.{follow, pieces_step}
 use Rattle.records.proofs.Pieces.{breadth, layout_small}
-use Rattle.rdata.specs.Written.{pieces_form, rdata_form, digits_if, rdata_end_of, PutsForm, PutsRdata, Ends}
-use Rattle.rdata.specs.declared.RdataEnd.{RdataEnd}
-use Rattle.rdata.specs.declared.RdataEnd.TheVariants.{To, Misfit}
+use Rattle.rdata.specs.Notation.{Laws}
+use Rattle.rdata.specs.Written.{pieces_form, rdata_form, rdata_end_of, PutsForm, PutsRdata, Ends}
 
 -- ---- the form by steps
 -- what a step puts before the form of what comes after it
@@ -64,14 +62,6 @@ form_step (name ∷ layout) s start end at = go (name_at s (rdata start end) at)
         ≡ form_then s at later (name_step w)
     go (named n next) = refl
     go (faulty fault) = refl
-
-pub form_next : (s : List ℕ) (l : List Piece) (start end at i : ℕ) {x : StepOf} → step_at (drop i l) s start end at ≡ x
-    → pieces_form (drop i l) s start end at ≡ form_then s at (pieces_form (drop (i + 1) l) s start end) x
-form_next s l start end at i q =
-    form_step (drop i l) s start end at
-    ∙ ap (λ (m : List Piece). form_then s at (pieces_form m s start end) (step_at (drop i l) s start end at))
-    (drop-drop 1 i l)
-    ∙ ap (form_then s at (pieces_form (drop (i + 1) l) s start end)) q
 
 -- ---- RDATA that fits its layout
 -- the form is all of RDATA
@@ -169,84 +159,45 @@ rdata_short s type at size h =
     let j = layout_small type size in
     (omega arith, omega arith, λ i. omega (arith, j.2 i))
 
--- ---- octets and digits
-pub digits_if_none : (hex : Bool) → digits_if hex [] ≡ []
-unfolding digits_if each
-digits_if_none true = refl
-digits_if_none false = refl
-
-pub digits_if-append : (hex : Bool) (l m : List ℕ) → digits_if hex (l ++ m) ≡ digits_if hex l ++ digits_if hex m
-unfolding digits_if
-digits_if-append true l m = each_append hex_octet l m
-digits_if-append false l m = refl
-
 -- ---- what `put_rdata` promises
--- it determines the buffer and the answer
-pub puts_determined : {hex : Bool} {w : Laid} {l b : List ℕ} {to : ℕ} {b₁ b₂ : List ℕ} {r₁ r₂ : RdataEnd}
-    → PutsForm hex w l b to b₁ r₁ → PutsForm hex w l b to b₂ r₂ → (b₁ ≡ b₂) × (r₁ ≡ r₂)
-puts_determined {w = w} p q =
-    let e : p.next ≡ q.next = p.wrote.place ∙ sym q.wrote.place in
-    (p.wrote.text ∙ sym q.wrote.text, p.answer ∙ ap (rdata_end_of w) e ∙ sym q.answer)
+-- it determines the buffer, the place and the answer
+pub puts_determined : {text : List ℕ → List ℕ} {read : Laid} {l : List ℕ} {w w₁ w₂ : Writer}
+    {r₁ r₂ : Result (Unit {0}) FaultRead}
+    → PutsForm text read l w w₁ r₁ → PutsForm text read l w w₂ r₂
+    → (w₁.out.now ≡ w₂.out.now) × (w₁.to ≡ w₂.to) × (r₁ ≡ r₂)
+puts_determined p q = (
+  p.wrote.wrote.text ∙ sym q.wrote.wrote.text,
+  p.wrote.wrote.place ∙ sym q.wrote.wrote.place,
+  p.answer ∙ sym q.answer,
+)
 
 -- the bounds of the place after RDATA
-pub with_ends : (s : List ℕ) (type at size : ℕ) {hex : Bool} {b b' : List ℕ} {to : ℕ} {r : RdataEnd}
-    → PutsRdata hex s type at size b to b' r → at + size ≤ length s → length s ≤ 65535
-    → PutsRdata hex s type at size b to b' r × Ends hex r to size
-unfolding digits_if
-with_ends s type at size {hex} {to = to} p h k = (
-  p,
-  subst (λ (x : RdataEnd). Ends hex x to size) (sym p.answer)
-      (go hex (rdata_at true s type at size) p.next p.wrote.place),
-)
+pub puts_ends : {text : List ℕ → List ℕ} {width : ℕ} → Laws text width → (s : List ℕ) (type at size : ℕ) {w w' : Writer}
+    {r : Result (Unit {0}) FaultRead}
+    → PutsRdata text s type at size w w' r → at + size ≤ length s → length s ≤ 65535
+    → Ends width w'.to w.to size
+puts_ends {text} {width} laws s type at size {w} {w'} p i k =
+    let form = rdata_form s type at size in
+    let j = rdata_short s type at size i in
+    record {
+      long = length form;
+      place = p.wrote.wrote.place ∙ ap (λ n. w.to + n) (laws.sized form);
+      for_each = j.0;
+      more = j.1;
+      few = j.2 (omega arith);
+    }
+
+-- RDATA fits its layout exactly if there is no fault, and then all of it was written
+abbrev Puts : (List ℕ → List ℕ) → Laid → Writer → Writer → Result (Unit {0}) FaultRead → Type 0
+Puts text read w w' (Ok n) = (d : List ℕ) × (read ≡ laid d) × Writes w (text d) w'
+Puts text read w w' (Err f) = (fault : Fault) × (read ≡ misfit fault) × (f ≡ fault_of fault)
+
+pub puts_told : {text : List ℕ → List ℕ} (s : List ℕ) (type at size : ℕ) {w w' : Writer} {r : Result (Unit {0}) FaultRead}
+    → PutsRdata text s type at size w w' r → Puts text (rdata_at true s type at size) w w' r
+puts_told {text} s type at size {w} {w'} p =
+    subst (Puts text (rdata_at true s type at size) w w') (sym p.answer)
+    (go (rdata_at true s type at size) refl)
   where
-    go : (hex : Bool) (w : Laid) (n : ℕ) → n ≡ to + length (digits_if hex (rdata_form s type at size))
-        → Ends hex (rdata_end_of w n) to size
-    go false (laid d) n e = let j = rdata_short s type at size h in
-        (omega arith, omega arith, omega (arith, j.2 (omega arith)))
-    go true (laid d) n e = let j = rdata_short s type at size h in
-        let f = each-hex-length (rdata_form s type at size) in (omega arith, omega arith)
-    go false (misfit fault) n e = tt
-    go true (misfit fault) n e = tt
-
-module _ {r : RdataEnd} {n : ℕ} (e : r ≡ To n) (to size : ℕ) (h : Ends false r to size) where
-  octets_end : (to ≤ n) × (n ≤ to + 255 * size) × (n ≤ to + 65535)
-  octets_end = rw e at h
-
-  pub octets_after : to ≤ n
-  octets_after = octets_end.0
-
-  pub octets_place : n ≤ to + 255 * size
-  octets_place = octets_end.1
-
-  pub octets-fit : n - to < 4294967296
-  octets-fit = let k = octets_end.2 in omega arith
-
-  pub octets_few : n - to < 65536
-  octets_few = let k = octets_end.2 in omega arith
-
-pub rdata_digits_end : (r : RdataEnd) (size : ℕ) {to n : ℕ} → Ends true r to size → r ≡ To n
-    → (to ≤ n) × (n ≤ to + 2 * size + 1060)
-rdata_digits_end r size h e = rw e at h
-
--- RDATA fits its layout exactly if a place is the answer, and then all of it was written
-module _ (s : List ℕ) (type at size : ℕ) {hex : Bool} {b b' : List ℕ} {to : ℕ} {r : RdataEnd}
-    (p : PutsRdata hex s type at size b to b' r) where
-  pub puts_laid : {n : ℕ} → r ≡ To n
-      → (d : List ℕ) × (rdata_at true s type at size ≡ laid d) × Wrote b to (digits_if hex d) b' n
-  puts_laid {n} q = go (rdata_at true s type at size) refl (sym q ∙ p.answer)
-    where
-      go : (w : Laid) → rdata_at true s type at size ≡ w → To n ≡ rdata_end_of w p.next
-          → (d : List ℕ) × (rdata_at true s type at size ≡ laid d) × Wrote b to (digits_if hex d) b' n
-      go (laid d) u v =
-          let e : p.next ≡ n = cc in
-          (d, u, rw (rdata_whole s type at size u, e) at p.wrote)
-      go (misfit fault) u v = let z : ◌≡◌ {A = ℕ} 0 1 = cc in absurd (omega arith)
-
-  pub puts_misfit : {f : FaultRead} → r ≡ Misfit f
-      → (fault : Fault) × (rdata_at true s type at size ≡ misfit fault) × (f ≡ fault_of fault)
-  puts_misfit {f} q = go (rdata_at true s type at size) refl (sym q ∙ p.answer)
-    where
-      go : (w : Laid) → rdata_at true s type at size ≡ w → Misfit f ≡ rdata_end_of w p.next
-          → (fault : Fault) × (rdata_at true s type at size ≡ misfit fault) × (f ≡ fault_of fault)
-      go (laid d) u v = let z : ◌≡◌ {A = ℕ} 0 1 = cc in absurd (omega arith)
-      go (misfit fault) u v = (fault, u, cc)
+    go : (read : Laid) → rdata_at true s type at size ≡ read → Puts text read w w' (rdata_end_of read)
+    go (laid d) u = (d, refl, rw (rdata_whole s type at size u) at p.wrote)
+    go (misfit fault) u = (fault, refl, refl)

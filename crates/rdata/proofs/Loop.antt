@@ -1,169 +1,179 @@
--- The loop over RDATA's pieces.
-use mathlib.Core.Path.{◌≡◌, refl, ap, ◌∙◌}
+-- The loop over the pieces of RDATA's layout.
+use mathlib.Core.Path.{◌≡◌, refl, ◌∙◌}
 use mathlib.Core.Bool.{Bool, true, false}
-use mathlib.Core.List.{List, [], ◌++◌}
-use Prim.Native.Nat.{ℕ, ◌+◌, ◌-◌, ◌*◌, ◌^◌, ◌≤◌, ◌<◌}
+use mathlib.Core.Option.{none, some}
+use mathlib.Core.List.{List, [], ◌∷◌, ◌++◌, append-nil}
+use Prim.Native.Nat.{ℕ, zero, suc, ◌+◌, ◌-◌, ◌*◌, ◌^◌, ◌≤◌, ◌<◌}
 use native.Mathlib.Omega.{arith}
-use lib.ListN.{length, take, drop, length-take}
-use Rattle.octets.specs.Lists.{each}
-use Rattle.octets.specs.Hexadecimal.{hex_octet}
-use Rattle.octets.specs.Overlay.{Wrote, then, nothing, same_long}
-use Rattle.octets.specs.Loops.{Continues, continues_step}
+use borrow.Author.Tests.{le-ltb, lt-ltb, ne_eqb, eqb-true, eqb-false}
+use lib.Dec.{eqb}
+use lib.ListN.{length, drop, length-take, drop_of_length-le}
+use Rattle.std.specs.Prelude.{Result, Ok, Err}
+use Rattle.octets.specs.Writes.{Writes, writes_none, writes_then}
+use Rattle.octets.specs.declared.writer.Writer.{Writer}
+use Rattle.octets.specs.Fields.{empty}
 use Rattle.names.specs.Name.{name_form}
-use Rattle.names.specs.Walk.{part}
-use Rattle.names.specs.declared.Fault.{Fault as FaultRead}
-use Rattle.records.specs.Layout.{Laid, laid, misfit, before, pieces}
-use Rattle.records.specs.Parts.{layout_in, rdata_pieces, StepOf, step_at, follow}
-use Rattle.records.specs.Answer.{step_read, Steps}
-use Rattle.records.proofs.Pieces.{part-within, name-within}
-use Rattle.records.proofs.Told.{form-part, tells, pieces_next}
-use Rattle.records.specs.declared.Step.TheVariants as step
-use Rattle.records.specs.declared.Stepped.{Stepped}
-use Rattle.rdata.specs.Written.{pieces_form, rdata_form, digits_if, rdata_end_of, PutsForm, PutsRdata}
-use Rattle.rdata.proofs.FormLaws.{form_then, form_next, digits_if_none, digits_if-append}
-use Rattle.rdata.specs.declared.RdataEnd.{RdataEnd}
-use Rattle.rdata.specs.declared.RdataEnd.TheVariants.{To, Misfit}
+use Rattle.names.specs.Walk.{part, rdata, name_at}
+use Rattle.names.specs.NameLaws.{read_sized}
+use Rattle.names.specs.Answer.{name_read}
+use Rattle.names.specs.declared.Fault.{Fault}
+use Rattle.names.specs.declared.Fault.TheVariants.{Short, Surplus}
+use Rattle.records.specs.Layout.{Piece, fixed, name, layout_of, Laid, laid, misfit, before, pieces, rdata_at}
+use Rattle.records.specs.Parts.{layout_in}
+use Rattle.records.proofs.Reading.{named_case, faulty_case}
+use Rattle.rdata.specs.Notation.{Laws}
+use Rattle.rdata.specs.Written.{pieces_form, rdata_form, rdata_end_of, PutsForm, PutsRdata}
 
--- ---- a piece
-pub wrote_piece_digits : (l : List ℕ) {hex : Bool} {b b' : List ℕ} {to r : ℕ} → hex ≡ true
-    → Wrote b to (each hex_octet l) b' r → Wrote b to (digits_if hex l) b' r
-unfolding digits_if
-wrote_piece_digits l e p = rw e p
-
-pub wrote_piece_octets : {hex : Bool} {l b b' : List ℕ} {to r : ℕ} → hex ≡ false → Wrote b to l b' r
-    → Wrote b to (digits_if hex l) b' r
-unfolding digits_if
-wrote_piece_octets e p = rw e p
-
--- ---- the loop
--- octets were written before the rest
-puts_before : (w : Laid) (xs : List ℕ) {hex : Bool} {l b b₁ : List ℕ} {to n : ℕ}
-    → Wrote b to (digits_if hex xs) b₁ n
-    → Continues (PutsForm hex w l b₁ n) (PutsForm hex (before xs w) (xs ++ l) b to)
-puts_before w xs {hex} {l} p =
-    record {
-      goes = λ b' r q. record {
-        next = q.next;
-        wrote = rw (digits_if-append hex xs l) (then p q.wrote);
-        answer = q.answer ∙ go w q.next;
-      };
-    }
+-- the text of no octets is empty
+none_written : {text : List ℕ → List ℕ} {width : ℕ} → Laws text width → text [] ≡ []
+none_written {text} {width} laws = empty (text []) (laws.sized [] ∙ zero)
   where
-    go : (w : Laid) (next : ℕ) → rdata_end_of w next ≡ rdata_end_of (before xs w) next
-    go (laid d) next = refl
-    go (misfit fault) next = refl
+    zero : width * 0 ≡ 0
+    zero = omega arith
 
--- nothing was written
-puts_none : {hex : Bool} {w : Laid} {b : List ℕ} {to : ℕ} {r : RdataEnd} → r ≡ rdata_end_of w to
-    → PutsForm hex w [] b to b r
-puts_none {hex} {b = b} {to = to} e = record { next = to; wrote = rw (digits_if_none hex) (nothing b to); answer = e }
+-- octets have at most two octets of text each
+narrow_long : (width m : ℕ) → width ≤ 2 → width * m ≤ 2 * m
+narrow_long zero m h = omega arith
+narrow_long (suc zero) m h = omega arith
+narrow_long (suc (suc zero)) m h = omega arith
+narrow_long (suc (suc (suc width))) m h = absurd (omega arith)
 
--- RDATA from the i-th piece on, and its form
-abbrev pieces_at : List ℕ → ℕ → ℕ → ℕ → ℕ → ℕ → Laid
-pieces_at s rtype start size i at = pieces true (drop i (layout_in rtype size)) s start (start + size) at
+module _ {text : List ℕ → List ℕ} {width : ℕ} (laws : Laws text width) where
+  -- octets were written before the rest
+  puts_before : (read : Laid) (xs : List ℕ) {l : List ℕ} {w w₁ w₂ : Writer} {r : Result (Unit {0}) Fault}
+      → Writes w (text xs) w₁ → PutsForm text read l w₁ w₂ r → PutsForm text (before xs read) (xs ++ l) w w₂ r
+  puts_before read xs {l} p q =
+      record { wrote = rw (laws.joins xs l) (writes_then p q.wrote); answer = q.answer ∙ go read }
+    where
+      go : (read : Laid) → rdata_end_of read ≡ rdata_end_of (before xs read)
+      go (laid d) = refl
+      go (misfit fault) = refl
 
-abbrev form_at : List ℕ → ℕ → ℕ → ℕ → ℕ → ℕ → List ℕ
-form_at s rtype start size i at = pieces_form (drop i (layout_in rtype size)) s start (start + size) at
+  -- nothing was written
+  puts_none : {read : Laid} {w : Writer} {r : Result (Unit {0}) Fault} → r ≡ rdata_end_of read
+      → PutsForm text read [] w w r
+  puts_none {w = w} e = record { wrote = rw (none_written laws) (writes_none w); answer = e }
+
+-- from the layout's i-th piece on
+abbrev pieces_at : List ℕ → List Piece → ℕ → ℕ → ℕ → ℕ → Laid
+pieces_at s l start end i at = pieces true (drop i l) s start end at
+
+abbrev form_at : List ℕ → List Piece → ℕ → ℕ → ℕ → ℕ → List ℕ
+form_at s l start end i at = pieces_form (drop i l) s start end at
 
 -- the pieces before the i-th are written: to put the rest is to put all of RDATA
-pub record RdataLoop (hex : Bool) (s : List ℕ) (rtype start size : ℕ) (b₀ : List ℕ) (to i at : ℕ) (b : List ℕ)
-    (next : ℕ) : Type 0 where
-  pub sized : length s ≤ 65535
-  pub inside : start + size ≤ length s
-  pub within : at ≤ start + size
-  pub few : i ≤ 3
-  pub place : next ≤ 2 ^ 37 + 510 * i + 2 * at
-  pub long : length b ≡ length b₀
-  pub rest : Continues (PutsForm hex (pieces_at s rtype start size i at) (form_at s rtype start size i at) b next)
-      (PutsRdata hex s rtype start size b₀ to)
+pub record LayoutLoop (text : List ℕ → List ℕ) (s : List ℕ) (l : List Piece) (start end : ℕ) (w₀ : Writer) (i at : ℕ)
+    (w : Writer) : Type 0 where
+  pub within : at ≤ end
+  pub place : w.to ≤ 2 ^ 37 + 510 * i + 2 * at
+  pub rest : (w' : Writer) (r : Result (Unit {0}) Fault)
+      → PutsForm text (pieces_at s l start end i at) (form_at s l start end i at) w w' r
+      → PutsForm text (pieces true l s start end start) (pieces_form l s start end start) w₀ w' r
 
-pub loop_start : {hex : Bool} {s : List ℕ} {rtype start size : ℕ} {b : List ℕ} {to : ℕ}
-    → (length s ≤ 65535) × (start + size ≤ length s) × (to < 2 ^ 37)
-    → RdataLoop hex s rtype start size b to 0 start b to
-unfolding rdata_form
-loop_start {s = s} {rtype = rtype} {start = start} {size = size} (h, k, j) =
-    record {
-      sized = h;
-      inside = k;
-      within = omega arith;
-      few = omega arith;
-      place = omega arith;
-      long = refl;
-      rest = record { goes = λ b' r p. rw (rdata_pieces true s rtype start size) p };
-    }
+pub loop_start : {text : List ℕ → List ℕ} (s : List ℕ) (l : List Piece) (start end : ℕ) (w : Writer)
+    → start ≤ end → w.to < 2 ^ 37
+    → LayoutLoop text s l start end w 0 start w
+loop_start s l start end w h k = record { within = h; place = omega arith; rest = λ w' r p. p }
 
-module _ {hex : Bool} {s : List ℕ} {rtype start size : ℕ} {b₀ : List ℕ} {to i at : ℕ} {b : List ℕ} {next : ℕ}
-    {r : Stepped} (w : RdataLoop hex s rtype start size b₀ to i at b next)
-    (e : r ≡ step_read (step_at (drop i (layout_in rtype size)) s start (start + size) at)) where
-  -- the rest by its first step
-  by_step : {x : StepOf} → step_at (drop i (layout_in rtype size)) s start (start + size) at ≡ x
-      → Continues (PutsForm hex (follow s at (pieces_at s rtype start size (i + 1)) x)
-      (form_then s at (form_at s rtype start size (i + 1)) x) b next) (PutsRdata hex s rtype start size b₀ to)
-  by_step q =
-      rw (
-        ← pieces_next s (layout_in rtype size) start (start + size) at i q,
-        ← form_next s (layout_in rtype size) start (start + size) at i q,
-      ) w.rest
+module _ {text : List ℕ → List ℕ} {width : ℕ} (laws : Laws text width) {s : List ℕ} {l : List Piece}
+    {start end : ℕ} {w₀ : Writer} {i at : ℕ} {w : Writer}
+    (o : LayoutLoop text s l start end w₀ i at w) where
+  -- after the last piece: RDATA ends, or octets are left over
+  module _ (h : length l ≤ i) where
+    pub loop_done : end ≤ at
+        → PutsForm text (pieces true l s start end start) (pieces_form l s start end start) w₀ w (Ok tt)
+    unfolding pieces pieces_form
+    loop_done k = (rw (drop_of_length-le l h) at o.rest) w (Ok tt) (puts_none laws (rw (le-ltb at end k)))
 
-  -- the end
-  pub loop_done : r.step ≡ step.Done
-      → PutsRdata hex s rtype start size b₀ to b (To next)
-  loop_done q = (by_step (tells _ e q)).goes b (To next) (puts_none refl)
+    pub loop_surplus : at < end
+        → PutsForm text (pieces true l s start end start) (pieces_form l s start end start) w₀ w (Err (Surplus at))
+    unfolding pieces pieces_form
+    loop_surplus k =
+        (rw (drop_of_length-le l h) at o.rest) w (Err (Surplus at)) (puts_none laws (rw (lt-ltb at end k)))
 
-  -- a fault
-  pub loop_misfit : {f : FaultRead} → r.step ≡ step.Misfit f
-      → PutsRdata hex s rtype start size b₀ to b (Misfit f)
-  loop_misfit {f} q = let (fault, x, y) = tells _ e q in (by_step x).goes b (Misfit f) (puts_none (ap Misfit y))
+  -- the i-th piece
+  module _ {p : Piece} (q : drop i l ≡ p ∷ drop (i + 1) l) where
+    -- n octets of it, of the form xs, were written, and the rest begins after them
+    onward : (xs : List ℕ) {after : ℕ} {w₁ : Writer} → at ≤ after → after ≤ end
+        → length xs ≤ 255 + (after - at)
+        → Writes w (text xs) w₁
+        → pieces_at s l start end i at ≡ before xs (pieces_at s l start end (i + 1) after)
+        → form_at s l start end i at ≡ xs ++ form_at s l start end (i + 1) after
+        → LayoutLoop text s l start end w₀ (i + 1) after w₁
+    onward xs h k j v f g =
+        record {
+          within = k;
+          place =
+              let m = narrow_long width (length xs) laws.narrow in
+              omega (arith, o.place, v.wrote.place, laws.sized xs);
+          rest = λ w' r t. (rw (f, g) at o.rest) w' r (puts_before laws _ xs v t);
+        }
 
-  -- a piece of the form xs, which ends at n, was written
-  onward : (xs : List ℕ) {x : StepOf} {n n₁ : ℕ} {b₁ : List ℕ}
-      → step_at (drop i (layout_in rtype size)) s start (start + size) at ≡ x
-      → ((later : ℕ → Laid) → follow s at later x ≡ before xs (later n))
-      → ((later : ℕ → List ℕ) → form_then s at later x ≡ xs ++ later n)
-      → (i < 3) × (n ≤ start + size) × (n₁ ≤ 2 ^ 37 + 510 * (i + 1) + 2 * n) → Wrote b next (digits_if hex xs) b₁ n₁
-      → RdataLoop hex s rtype start size b₀ to (i + 1) n b₁ n₁
-  onward xs q f g (h, k, j) p =
-      record {
-        sized = w.sized;
-        inside = w.inside;
-        within = k;
-        few = omega arith;
-        place = j;
-        long = same_long p ∙ w.long;
-        rest = continues_step (by_step q)
-            (rw (f (pieces_at s rtype start size (i + 1)), g (form_at s rtype start size (i + 1))) (puts_before _ xs p));
-      }
+  -- n octets as they are
+  module _ {n : ℕ} (q : drop i l ≡ fixed n ∷ drop (i + 1) l) where
+    -- RDATA ends before them
+    pub loop_short : end - at < n
+        → PutsForm text (pieces true l s start end start) (pieces_form l s start end start) w₀ w (Err (Short start))
+    unfolding pieces pieces_form
+    loop_short k =
+        (rw (q, lt-ltb end (at + n) (omega (arith, o.within))) at o.rest) w (Err (Short start)) (puts_none laws refl)
 
-  module _ (h : Steps r.step i at (start + size)) where
-    -- octets as they are
-    module _ {n : ℕ} (q : r.step ≡ step.Part n) where
-      pub part_ordered : at ≤ n
-      part_ordered = (part-within _ h q).1
+    pub loop_part : {after : ℕ} {w₁ : Writer} → n ≤ end - at → after ≡ at + n → end ≤ length s
+        → Writes w (text (part s at (after - at))) w₁ → LayoutLoop text s l start end w₀ (i + 1) after w₁
+    unfolding pieces pieces_form
+    loop_part {after} k e j v =
+        let d : after - at ≡ n = omega (arith, e) in
+        let t = length-take (after - at) (drop at s) in
+        onward q (part s at (after - at)) (omega (arith, e)) (omega (arith, e, o.within)) (omega (arith, t)) v
+        (rw (q, le-ltb end (at + n) (omega (arith, o.within)), d, e))
+        (rw (q, le-ltb end (at + n) (omega (arith, o.within)), d, e))
 
-      pub part_inside : n ≤ length s
-      part_inside = let k = part-within _ h q in omega arith
+  -- a name
+  module _ (q : drop i l ≡ name ∷ drop (i + 1) l) where
+    pub loop_faulty : {f : Fault} → Err f ≡ name_read (name_at s (rdata start end) at)
+        → PutsForm text (pieces true l s start end start) (pieces_form l s start end start) w₀ w (Err f)
+    unfolding pieces pieces_form
+    loop_faulty {f} e =
+        faulty_case (λ f x. name_at s (rdata start end) at ≡ x
+        → PutsForm text (pieces true l s start end start) (pieces_form l s start end start) w₀ w (Err f))
+        (λ fault x. (rw (q, x, pieces, pieces_form) at o.rest) w (Err _) (puts_none laws refl)) _ e refl
 
-      pub room-part : next + 2 * length (part s at (n - at)) < 2 ^ 40
-      room-part = let k = part-within _ h q in let j = length-take (n - at) (drop at s) in omega arith
+    pub loop_name : {form : List ℕ} {after : ℕ} {w₁ : Writer} → end ≤ length s
+        → Ok (form, after) ≡ name_read (name_at s (rdata start end) at)
+        → Writes w (text form) w₁ → LayoutLoop text s l start end w₀ (i + 1) after w₁
+    unfolding pieces pieces_form
+    loop_name {w₁ = w₁} h e v =
+        named_case (λ form after x. name_at s (rdata start end) at ≡ x → Writes w (text form) w₁
+        → LayoutLoop text s l start end w₀ (i + 1) after w₁)
+        (λ m after x v.
+        let k = read_sized s (rdata start end) at at m after h x in
+        onward q (name_form m) (omega (arith, k.2)) k.3 (omega (arith, k.1)) v (rw (q, x, pieces))
+        (rw (q, x, pieces_form)))
+        _ e refl v
 
-      pub loop_part : {b₁ : List ℕ} {n₁ : ℕ} → Wrote b next (digits_if hex (part s at (n - at))) b₁ n₁
-          → n₁ ≤ next + 2 * length (part s at (n - at)) → RdataLoop hex s rtype start size b₀ to (i + 1) n b₁ n₁
-      loop_part p z =
-          let k = part-within _ h q in
-          let j = length-take (n - at) (drop at s) in
-          onward (part s at (n - at)) (tells _ e q) (λ l. refl) (λ l. refl) (k.0, k.2, omega arith) p
+-- ---- the whole of RDATA
+module _ {text : List ℕ → List ℕ} (s : List ℕ) (type at size : ℕ) {w w' : Writer} where
+  -- of a listed TYPE, by its layout
+  pub puts_listed : {l : List Piece} {end : ℕ} {r : Result (Unit {0}) Fault} → layout_of type ≡ some l
+      → end ≡ at + size → at < end
+      → PutsForm text (pieces true l s at end at) (pieces_form l s at end at) w w' r
+      → PutsRdata text s type at size w w' r
+  unfolding rdata_at rdata_form layout_in
+  puts_listed e v k p = rw (ne_eqb size 0 (λ z. omega arith), e, rdata_at, ← v) p
 
-    -- a name
-    module _ {long n : ℕ} (q : r.step ≡ step.Name long n) where
-      pub room-name : next + 2 * length (take (long - 0) r.octets) < 2 ^ 40
-      room-name = let k = name-within _ h q in let j = length-take (long - 0) r.octets in omega arith
-
-      pub loop_name : {b₁ : List ℕ} {n₁ : ℕ} → Wrote b next (digits_if hex (take (long - 0) r.octets)) b₁ n₁
-          → n₁ ≤ next + 2 * length (take (long - 0) r.octets)
-          → RdataLoop hex s rtype start size b₀ to (i + 1) n b₁ n₁
-      loop_name {b₁} {n₁} p z =
-          let (m, x, u, v) = tells _ e q in
-          let k = name-within _ h q in
-          let j = length-take (long - 0) r.octets in
-          onward (name_form m) x (λ l. refl) (λ l. refl) (k.0, k.2, omega arith)
-          (rw (form-part (name_form m) r.octets long u v) at p)
+  -- of another TYPE, or of no octets, as it is
+  pub puts_plain : {d : List ℕ} → (0 < size → layout_of type ≡ none) → d ≡ part s at size
+      → Writes w (text d) w' → PutsRdata text s type at size w w' (Ok tt)
+  unfolding rdata_form layout_in rdata_at pieces_form
+  puts_plain free f v = go (eqb size 0) refl (rw f at v)
+    where
+      go : (t : Bool) → eqb size 0 ≡ t → Writes w (text (part s at size)) w'
+          → PutsRdata text s type at size w w' (Ok tt)
+      go true z v = record { wrote = rw z (rw (eqb-true size 0 z) at v); answer = rw z }
+      go false z v =
+          let some : 0 < size = let k = eqb-false size 0 z in omega arith in
+          let end = at + size in
+          record {
+            wrote = rw (z, free some, le-ltb end end (omega arith), append-nil (part s at size)) v;
+            answer = rw (z, free some, rdata_at);
+          }

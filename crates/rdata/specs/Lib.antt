@@ -1,2 +1,3 @@
 -- RDATA without pointers, as octets or in hexadecimal.
 pub mod Written
+pub mod Notation

@@ -1,15 +1,13 @@
 -- What is written of RDATA: the form of its pieces before the first fault, and what `put_rdata` does.
-use Rattle.std.specs.Prelude.{◌≡◌, Bool, true, false, cond, List, [], ◌∷◌, ◌++◌, ℕ, ◌+◌, ◌*◌, ◌≤◌, ltb}
-use Rattle.octets.specs.Lists.{each}
-use Rattle.octets.specs.Hexadecimal.{hex_octet}
-use Rattle.octets.specs.Overlay.{Wrote}
+use Rattle.std.specs.Prelude.{◌≡◌, true, cond, List, [], ◌∷◌, ◌++◌, ℕ, ◌+◌, ◌*◌, ◌≤◌, ltb, Result, Ok, Err}
+use Rattle.octets.specs.Writes.{Writes}
+use Rattle.octets.specs.declared.writer.Writer.{Writer}
 use Rattle.names.specs.Name.{name_form}
 use Rattle.names.specs.Walk.{part, rdata, named, faulty, name_at}
 use Rattle.names.specs.Answer.{fault_of}
+use Rattle.names.specs.declared.Fault.{Fault as FaultRead}
 use Rattle.records.specs.Layout.{Piece, fixed, name, Laid, laid, misfit, rdata_at}
 use Rattle.records.specs.Parts.{layout_in}
-use Rattle.rdata.specs.declared.RdataEnd.{RdataEnd}
-use Rattle.rdata.specs.declared.RdataEnd.TheVariants.{To, Misfit}
 
 -- ---- the form
 -- the pieces before the first fault, as in `pieces`
@@ -28,29 +26,27 @@ pieces_form (name ∷ layout) s start end at =
 unfoldable pub rdata_form : List ℕ → ℕ → ℕ → ℕ → List ℕ
 rdata_form s type at size = pieces_form (layout_in type size) s at (at + size) at
 
--- octets as they are, or in hexadecimal
-unfoldable pub digits_if : Bool → List ℕ → List ℕ
-digits_if hex l = cond hex (each hex_octet l) l
-
 -- ---- what `put_rdata` does
--- the place after RDATA if it fits its layout, else its fault
-abbrev pub rdata_end_of : Laid → ℕ → RdataEnd
-rdata_end_of (laid d) next = To next
-rdata_end_of (misfit fault) next = Misfit (fault_of fault)
+-- the fault of RDATA that does not fit its layout
+abbrev pub rdata_end_of : Laid → Result (Unit {0}) FaultRead
+rdata_end_of (laid d) = Ok tt
+rdata_end_of (misfit fault) = Err (fault_of fault)
 
--- from the buffer b and the place `to` a writer put the form l, left b' and answered by w
-pub record PutsForm (hex : Bool) (w : Laid) (l b : List ℕ) (to : ℕ) (b' : List ℕ) (r : RdataEnd) : Type 0 where
-  pub next : ℕ
-  pub wrote : Wrote b to (digits_if hex l) b' next
-  pub answer : r ≡ rdata_end_of w next
+-- the text of the form l is put where the writer w was, which is then w', and the answer r is by `read`
+pub record PutsForm (text : List ℕ → List ℕ) (read : Laid) (l : List ℕ) (w w' : Writer)
+    (r : Result (Unit {0}) FaultRead) : Type 0 where
+  pub wrote : Writes w (text l) w'
+  pub answer : r ≡ rdata_end_of read
 
--- RDATA's form, up to its first fault, and the answer by RDATA: `PutsRdata hex s type at size b to b' r`
-abbrev pub PutsRdata : Bool → List ℕ → ℕ → ℕ → ℕ → List ℕ → ℕ → List ℕ → RdataEnd → Type 0
-PutsRdata hex s type at size b to b' r =
-    PutsForm hex (rdata_at true s type at size) (rdata_form s type at size) b to b' r
+-- the text of RDATA's form, up to its first fault, and the answer by RDATA: `PutsRdata text s type at size w w' r`
+abbrev pub PutsRdata : (List ℕ → List ℕ) → List ℕ → ℕ → ℕ → ℕ → Writer → Writer → Result (Unit {0}) FaultRead → Type 0
+PutsRdata text s type at size w w' r = PutsForm text (rdata_at true s type at size) (rdata_form s type at size) w w' r
 
--- the place after RDATA of `size` octets
-abbrev pub Ends : Bool → RdataEnd → ℕ → ℕ → Type 0
-Ends false (To r) to size = (to ≤ r) × (r ≤ to + 255 * size) × (r ≤ to + 65535)
-Ends true (To r) to size = (to ≤ r) × (r ≤ to + 2 * size + 1060)
-Ends hex (Misfit fault) to size = Unit {0}
+-- the place after the form of RDATA of `size` octets
+pub record Ends (width r to size : ℕ) : Type 0 where
+  -- the form's octets
+  pub long : ℕ
+  pub place : r ≡ to + width * long
+  pub for_each : long ≤ 255 * size
+  pub more : long ≤ size + 530
+  pub few : long ≤ 65535

@@ -2,72 +2,121 @@
 // are in specs/.
 #![tactic(auto)]
 
-ghost use Rattle.std.specs.Prelude.{◌+◌, ◌*◌, ◌^◌, ◌≤◌, ◌<◌, length};
-ghost use Rattle.octets.specs.Overlay.{Wrote};
-ghost use Rattle.rdata.specs.Written.{digits_if, PutsRdata, Ends};
+ghost use Rattle.std.specs.Prelude.{◌≡◌, ℕ, List, ◌+◌, ◌*◌, ◌^◌, ◌≤◌, ◌<◌, true, length, map};
+ghost use Rattle.octets.specs.Hexadecimal.{hex_octet};
+ghost use Rattle.octets.specs.Lists.{each};
+ghost use Rattle.octets.specs.Writes.{Writes};
+ghost use Rattle.records.specs.Answer.{piece_of};
+ghost use Rattle.records.specs.Layout.{pieces};
+ghost use Rattle.rdata.specs.Notation.{Laws, plain_laws, hex_laws};
+ghost use Rattle.rdata.specs.Written.{pieces_form, PutsForm, PutsRdata, Ends};
 
-use names::Fault;
-use octets::{put_all, put_hex};
-use records::{Step, rdata_step};
+use names::{Fault, Limit, name_at};
+use octets::Writer;
+use records::{Piece, layout_of};
 
-// The place after RDATA, or RDATA's fault.
-#[derive(Clone, Copy)]
-pub enum RdataEnd {
-    To(usize),
-    Misfit(Fault),
+// ---- how octets are written
+// `text` is what is written of octets, `width` how much of it each octet has.
+pub trait Notation {
+    ghost text: { List ℕ → List ℕ };
+
+    ghost width: { ℕ };
+
+    // Writes octets.
+    fn put(octets: &[u8], w: &mut Writer)
+        requires { w.old.to + 2 * length octets.now < 2 ^ 40 }
+        ensures { Writes w.old (text octets.now) w.new };
+
+    ghost laws: { Laws text width };
 }
 
-// Writes octets as they are, or each as two hexadecimal digits.
-fn put_piece(hex: bool, octets: &[u8], out: &mut [u8], to: usize) -> usize
-    requires { to + 2 * length octets.now < 2 ^ 40 }
-    ensures wrote { Wrote out.old to (digits_if hex octets.now) out.new result }
-    ensures upper_bound { result ≤ to + 2 * length octets.now }
-{
-    if hex {
-        return put_hex(octets, out, to);
+// Octets as they are.
+pub struct Plain;
+
+impl Notation for Plain {
+    ghost text = { λ l. l };
+
+    ghost width = { 1 };
+
+    ghost laws = { plain_laws };
+
+    fn put(octets: &[u8], w: &mut Writer) {
+        w.put_all(octets);
     }
-    put_all(octets, out, to)
 }
 
-// Writes RDATA piece by piece, each name without pointers. Where RDATA does not fit its layout, the pieces before the
-// fault are written.
-pub fn put_rdata(
+// Each octet as two hexadecimal digits.
+pub struct Hexadecimal;
+
+impl Notation for Hexadecimal {
+    ghost text = { each hex_octet };
+
+    ghost width = { 2 };
+
+    ghost laws = { hex_laws };
+
+    fn put(octets: &[u8], w: &mut Writer) {
+        w.put_hex(octets);
+    }
+}
+
+// ---- RDATA
+// Writes RDATA from `start` to `end`, piece by piece of its layout.
+fn put_layout<T: Notation>(
+    s: &[u8],
+    layout: &[Piece],
+    start: usize,
+    end: usize,
+    w: &mut Writer,
+) -> Result<(), Fault>
+    requires { (length s.now ≤ 65535) × (length layout.now ≤ 3) × (start ≤ end) × (end ≤ length s.now)
+        × (w.old.to < 2 ^ 37) }
+    ensures { PutsForm T.text (pieces true (map piece_of layout.now) s.now start end start)
+        (pieces_form (map piece_of layout.now) s.now start end start) w.old w.new result }
+{
+    let mut at = start;
+    for piece in layout {
+        match piece {
+            Piece::Fixed(n) => {
+                if end - at < *n {
+                    return Err(Fault::Short(start));
+                }
+                let after = at + *n;
+                T::put(&s[at..after], w);
+                at = after;
+            }
+            Piece::Name => {
+                let (name, after) = name_at(s, Limit::Rdata(start, end), at)?;
+                T::put(name.form(), w);
+                at = after;
+            }
+        }
+    }
+    if at < end {
+        return Err(Fault::Surplus(at));
+    }
+    Ok(())
+}
+
+// Writes RDATA of a TYPE, `size` octets from `start` on, each name without pointers. Where RDATA does not fit its layout,
+// the pieces before the fault are written. RDATA of no octets fits every layout.
+pub fn put_rdata<T: Notation>(
     s: &[u8],
     rtype: u32,
     start: usize,
     size: usize,
-    hex: bool,
-    out: &mut [u8],
-    to: usize,
-) -> RdataEnd
-    requires { (length s.now ≤ 65535) × (start + size ≤ length s.now) × (to < 2 ^ 37) }
-    ensures puts_rdata { PutsRdata hex s.now rtype start size out.old to out.new result }
-    ensures ends { Ends hex result to size }
+    w: &mut Writer,
+) -> Result<(), Fault>
+    requires { (length s.now ≤ 65535) × (start + size ≤ length s.now) × (w.old.to < 2 ^ 37) }
+    ensures puts_rdata { PutsRdata T.text s.now rtype start size w.old w.new result }
+    ensures ends { Ends T.width w.new.to w.old.to size }
 {
-    let mut i = 0;
-    let mut at = start;
-    let mut next = to;
-    loop {
-        let stepped = rdata_step(s, rtype, start, size, i, at);
-        let step = stepped.step;
-        let octets = stepped.octets;
-        match step {
-            Step::Part(end) => {
-                next = put_piece(hex, &s[at..end], out, next);
-                at = end;
-                i += 1;
-            }
-            Step::Name(length, end) => {
-                next = put_piece(hex, &octets[0..length], out, next);
-                at = end;
-                i += 1;
-            }
-            Step::Done => {
-                return RdataEnd::To(next);
-            }
-            Step::Misfit(fault) => {
-                return RdataEnd::Misfit(fault);
-            }
+    let end = start + size;
+    match layout_of(rtype) {
+        Some(layout) if start < end => put_layout::<T>(s, layout, start, end, w),
+        _ => {
+            T::put(&s[start..end], w);
+            Ok(())
         }
     }
 }

@@ -1,76 +1,52 @@
 -- The readers' ways through the code: a name and its fields, a question, a record's head.
-use mathlib.Core.Path.{◌≡◌, refl, sym, ap, ap₂, ◌∙◌, subst}
-use mathlib.Core.Bool.{Bool, true, false}
+use mathlib.Core.Path.{◌≡◌, refl, sym, ap, ◌∙◌, subst}
 use mathlib.Core.Option.{none, some}
 use mathlib.Core.List.{List, [], ◌∷◌}
-use Prim.Native.Nat.{ℕ, ◌+◌, ◌-◌, ◌≤◌, ◌<◌}
+use Prim.Native.Nat.{ℕ, ◌+◌, ◌≤◌, ◌<◌}
 use native.Mathlib.Numerals.{add-one}
 use native.Mathlib.Omega.{arith}
 use borrow.Author.Tests.{le-leb, lt-leb, le-ltb, lt-ltb}
-use lib.Dec.{ltb}
-use lib.ListN.{length, get_or, drop, replicate, drop_of_length-le}
+use lib.ListN.{length, get_or, drop, drop_of_length-le}
 use lib.Seq.{drop-cons}
+use Rattle.std.specs.Prelude.{Result, Ok, Err}
 use Rattle.octets.specs.Fields.{be16_at, be32_at}
 use Rattle.names.specs.Name.{Name, name_form}
 use Rattle.names.specs.Name as name
 use Rattle.names.specs.Walk.{message, named, faulty, name_at}
 use Rattle.names.specs.Walk as walk
 use Rattle.names.specs.NameLaws.{read_sized}
-use Rattle.names.specs.Answer.{fault_of, fault_read, name_read}
+use Rattle.names.specs.Answer.{fault_of, name_read}
 use Rattle.names.specs.declared.Fault.{Fault}
 use Rattle.names.specs.declared.Fault.TheVariants.{Cut}
-use Rattle.names.specs.declared.Named.{Named}
-use Rattle.names.specs.declared.Named.TheVariants.{Read, Faulty}
-use Rattle.names.specs.declared.NameRead.{NameRead}
-use Rattle.records.specs.Read.{first_cut, question_at}
+use Rattle.records.specs.Message.{Question}
+use Rattle.records.specs.Read.{Entry, entry, first_cut, with_name_lem, question_at}
 use Rattle.records.specs.RecordLaws.{sum}
-use Rattle.records.specs.Parts.{begun_at, question_begun, record_head_at}
-use Rattle.records.specs.declared.Question.TheVariants as question
-use Rattle.records.specs.declared.RecordFields.{RecordFields}
+use Rattle.records.specs.Parts.{begun, begun_at, question_begun, headed, record_head_at}
+use Rattle.records.specs.Answer.{Begins, question_read, record_read}
 use Rattle.records.specs.declared.Record.{Record}
-use Rattle.records.specs.declared.Record.TheVariants as record'
-use Rattle.records.specs.declared.RecordRead.{RecordRead}
-use Rattle.records.specs.Answer.{padded, Begins, question_read, record_read, fields_read, Heads}
 
--- ---- what a name's answer says
+-- ---- what the code's answer for a name says
 -- the parts of an answer
-abbrev next_of : Named → ℕ
-next_of (Read next size) = next
-next_of (Faulty fault) = 0
+abbrev ok_in : List ℕ × ℕ → Result (List ℕ × ℕ) Fault → List ℕ × ℕ
+ok_in d (Ok r) = r
+ok_in d (Err f) = d
 
-abbrev size_of : Named → ℕ
-size_of (Read next size) = size
-size_of (Faulty fault) = 0
+abbrev fault_in : Fault → Result (List ℕ × ℕ) Fault → Fault
+fault_in d (Ok r) = d
+fault_in d (Err f) = f
 
-abbrev fault_in : Fault → Named → Fault
-fault_in d (Read next size) = d
-fault_in d (Faulty fault) = fault
+-- a name was read: what holds of each name holds
+pub named_case : (P : List ℕ → ℕ → walk.Named → Type 0) → ((n : Name) (next : ℕ) → P (name_form n) next (named n next))
+    → (w : walk.Named) {form : List ℕ} {next : ℕ} → Ok (form, next) ≡ name_read w → P form next w
+named_case P h (named n i) {form} {next} e =
+    subst (λ (r : List ℕ × ℕ). P r.0 r.1 (named n i)) (sym (ap (ok_in (form, next)) e)) (h n i)
+named_case P h (faulty fault) e = cc
 
-abbrev Whole : Named → Type 0
-Whole (Read next size) = Unit {0}
-Whole (Faulty fault) = ⊥
-
-faulty≢read : {fault : Fault} {next size : ℕ} → Faulty fault ≡ Read next size → ⊥
-faulty≢read e = subst Whole (sym e) tt
-
-module _ {r : NameRead} where
-  -- a name was read
-  pub name_read_lem : (w : walk.Named) → r ≡ name_read w → {next size : ℕ} → r.answer ≡ Read next size
-      → (n : Name) × (w ≡ named n next) × (size ≡ length (name_form n)) × (r.octets ≡ padded (name_form n))
-  unfolding name_read fault_read
-  name_read_lem (named n i) e p =
-      let q = sym (ap (λ (x : NameRead). x.answer) e) ∙ p in
-      (n, ap (named n) (ap next_of q), sym (ap size_of q), ap (λ (x : NameRead). x.octets) e)
-  name_read_lem (faulty fault) e p = absurd (faulty≢read (sym (ap (λ (x : NameRead). x.answer) e) ∙ p))
-
-  -- a fault was met
-  pub name_faulty : (w : walk.Named) → r ≡ name_read w → {f : Fault} → r.answer ≡ Faulty f
-      → (fault : name.Fault) × (w ≡ faulty fault) × (f ≡ fault_of fault) × (r.octets ≡ replicate 255 0)
-  unfolding name_read fault_read
-  name_faulty (named n i) e p = absurd (faulty≢read (sym p ∙ ap (λ (x : NameRead). x.answer) e))
-  name_faulty (faulty fault) e {f} p =
-      let q = sym (ap (λ (x : NameRead). x.answer) e) ∙ p in
-      (fault, refl, sym (ap (fault_in f) q), ap (λ (x : NameRead). x.octets) e)
+-- a fault was met: what holds of each fault holds
+pub faulty_case : (P : Fault → walk.Named → Type 0) → ((fault : name.Fault) → P (fault_of fault) (faulty fault))
+    → (w : walk.Named) {f : Fault} → Err f ≡ name_read w → P f w
+faulty_case P h (named n i) e = cc
+faulty_case P h (faulty fault) {f} e = subst (λ (g : Fault). P g (faulty fault)) (sym (ap (fault_in f) e)) (h fault)
 
 -- ---- fields after a name
 -- the fields before the i-th fit, and end at `place`
@@ -112,149 +88,91 @@ module _ {s widths : List ℕ} {next place i : ℕ} (f : FieldsLoop s widths nex
   )
 
 -- ---- a name with fields after it
--- where a name that is read ends
-name_ends : (s : List ℕ) (at : ℕ) {r : NameRead} → r ≡ name_read (name_at s message at) → {next size : ℕ}
-    → r.answer ≡ Read next size
-    → (at < next) × (next ≤ length s) × (size ≤ 255)
-name_ends s at e {next} p =
-    let (n, q, a, b) = name_read_lem (name_at s message at) e p in
-    let k = read_sized s message at at n next (omega arith) q in
-    (k.2, k.3, omega (arith, k.1))
-
-pub name-within : (s : List ℕ) (at : ℕ) {r : NameRead} → r ≡ name_read (name_at s message at) → {next size : ℕ}
-    → r.answer ≡ Read next size → next ≤ length s
-name-within s at e p = (name_ends s at e p).1
-
-module _ (s widths : List ℕ) (at : ℕ) {r : NameRead} (e : r ≡ name_read (name_at s message at)) where
-  pub begun_faulty : {f : Fault} → r.answer ≡ Faulty f → r ≡ name_read (begun_at s at widths)
+module _ (s widths : List ℕ) (at : ℕ) where
+  pub begun_faulty : {f : Fault} → Err f ≡ name_read (name_at s message at) → Err f ≡ name_read (begun_at s at widths)
   unfolding begun_at
-  begun_faulty p =
-      let (fault, q, a, b) = name_faulty (name_at s message at) e p in
-      e ∙ rw (q)
+  begun_faulty e = faulty_case (λ f w. Err f ≡ name_read (begun s widths w)) (λ fault. refl) _ e
 
-  module _ {next size : ℕ} (p : r.answer ≡ Read next size) where
+  module _ {form : List ℕ} {next : ℕ} (e : Ok (form, next) ≡ name_read (name_at s message at)) where
+    -- it ends after its start, within the message
+    name_ends : (at < next) × (next ≤ length s)
+    name_ends =
+        named_case (λ form next w. name_at s message at ≡ w → (at < next) × (next ≤ length s))
+        (λ n next q. let k = read_sized s message at at n next (omega arith) q in (k.2, k.3)) _ e refl
+
+    pub name-within : next ≤ length s
+    name-within = name_ends.1
+
     pub begun_cut : {place i width : ℕ} → FieldsLoop s widths next place i → i < length widths → width ≡ get_or widths i 0
         → length s < place + width
-        → record { answer = Faulty (Cut place); octets = replicate 255 0 } ≡ name_read (begun_at s at widths)
-    unfolding begun_at name_read fault_read
-    begun_cut f h k l =
-        let (n, q, a, b) = name_read_lem (name_at s message at) e p in
-        rw (q, fields_cut f h k l)
+        → Err (Cut place) ≡ name_read (begun_at s at widths)
+    unfolding begun_at
+    begun_cut {place} f h k l =
+        named_case (λ form next w. first_cut s next widths ≡ some place → Err (Cut place) ≡ name_read (begun s widths w))
+        (λ n next q. rw q) _ e (fields_cut f h k l)
 
     pub begun-whole : {place i : ℕ} → FieldsLoop s widths next place i → length widths ≤ i
-        → r ≡ name_read (begun_at s at widths)
+        → Ok (form, next) ≡ name_read (begun_at s at widths)
     unfolding begun_at
     begun-whole f h =
-        let (n, q, a, b) = name_read_lem (name_at s message at) e p in
-        e ∙ rw (q, (fields_end f h).0)
+        named_case (λ form next w. first_cut s next widths ≡ none → Ok (form, next) ≡ name_read (begun s widths w))
+        (λ n next q. rw q) _ e (fields_end f h).0
 
     pub begun_fits : {place i : ℕ} → FieldsLoop s widths next place i → length widths ≤ i → place ≤ length s
-        → Begins r.answer at widths (length s)
-    begun_fits f h k = let (a, b, c) = name_ends s at e p in rw p (a, omega (arith, (fields_end f h).1), c)
-
--- the bounds of a name that is read
-pub begins : (w : Named) (widths : List ℕ) {at end next size : ℕ} → Begins w at widths end → w ≡ Read next size
-    → (at < next) × (next + sum widths ≤ end) × (size ≤ 255)
-begins w widths h e = rw e at h
+        → Begins next at widths (length s)
+    begun_fits f h k = let (a, b) = name_ends in
+        record { later = a; room = omega (arith, (fields_end f h).1) }
 
 -- ---- questions
-module _ (s : List ℕ) (at : ℕ) {r : NameRead} (e : r ≡ name_read (begun_at s at (2 ∷ 2 ∷ []))) where
-  pub question_faulty : {f : Fault} → r.answer ≡ Faulty f
-      → record { answer = question.Faulty f; name = r.octets } ≡ question_read (question_at s at)
-  unfolding question_read
-  question_faulty {f} p = go (name_faulty (begun_at s at (2 ∷ 2 ∷ [])) e p)
-    where
-      go : (x : (fault : name.Fault) × (begun_at s at (2 ∷ 2 ∷ []) ≡ faulty fault) × (f ≡ fault_of fault)
-          × (r.octets ≡ replicate 255 0))
-          → record { answer = question.Faulty f; name = r.octets } ≡ question_read (question_at s at)
-      go (fault, q, a, b) = rw (question_begun s at, q, a, b)
+-- the question by its name
+abbrev asked : List ℕ → Name → ℕ → Entry Question
+asked s n next = entry (record { name = n; type = be16_at s next; class = be16_at s (next + 2) }) (next + 4)
 
-  pub question_whole : {next size rtype class : ℕ} → r.answer ≡ Read next size → rtype ≡ be16_at s next
-      → class ≡ be16_at s (next + 2)
-      → record {
-        answer = question.Read (record { size = size; rtype = rtype; class = class; next = next + 4 });
-        name = r.octets;
-      } ≡ question_read (question_at s at)
-  unfolding question_read
-  question_whole {next} {size} {rtype} {class} p k c = go (name_read_lem (begun_at s at (2 ∷ 2 ∷ [])) e p)
-    where
-      go : (x : (n : Name) × (begun_at s at (2 ∷ 2 ∷ []) ≡ named n next) × (size ≡ length (name_form n))
-          × (r.octets ≡ padded (name_form n)))
-          → record {
-            answer = question.Read (record { size = size; rtype = rtype; class = class; next = next + 4 });
-            name = r.octets;
-          } ≡ question_read (question_at s at)
-      go (n, q, a, b) = rw (question_begun s at, q, a, b, k, c)
+module _ (s : List ℕ) (at : ℕ) where
+  pub question_faulty : {f : Fault} → Err f ≡ name_read (begun_at s at (2 ∷ 2 ∷ []))
+      → Err f ≡ question_read (question_at s at)
+  question_faulty e =
+      faulty_case (λ f w. Err f ≡ question_read (with_name_lem w (asked s))) (λ fault. refl) _ e
+      ∙ ap question_read (sym (question_begun s at))
+
+  pub question_whole : {form : List ℕ} {next rtype class : ℕ}
+      → Ok (form, next) ≡ name_read (begun_at s at (2 ∷ 2 ∷ [])) → rtype ≡ be16_at s next → class ≡ be16_at s (next + 2)
+      → Ok (record { name = form; rtype = rtype; class = class; next = next + 4 }) ≡ question_read (question_at s at)
+  question_whole {rtype = rtype} {class = class} e k c =
+      named_case (λ form next w. rtype ≡ be16_at s next → class ≡ be16_at s (next + 2)
+      → Ok (record { name = form; rtype = rtype; class = class; next = next + 4 }) ≡ question_read
+      (with_name_lem w (asked s)))
+      (λ n next k c. rw (k, c)) _ e k c
+      ∙ ap question_read (sym (question_begun s at))
 
 -- ---- heads of records
--- an answer by its fields: a fault leaves no name
-abbrev with_name : List ℕ → Record → RecordRead
-with_name l (record'.Faulty f) = record { answer = record'.Faulty f; name = replicate 255 0 }
-with_name l (record'.Read h) = record { answer = record'.Read h; name = l }
+-- the record by its owner's form, the offset after the owner, and the fields
+abbrev pub made : List ℕ → ℕ → ℕ → ℕ → ℕ → ℕ → Record
+made form next rdlength rtype class ttl =
+    record { owner = form; rtype = rtype; class = class; ttl = ttl; rdata = next + 10; rdlength = rdlength }
 
-by_fields : (s : List ℕ) (at next : ℕ) (n : Name) → begun_at s at (2 ∷ 2 ∷ 4 ∷ 2 ∷ []) ≡ named n next
-    → with_name (padded (name_form n)) (fields_read s next (length (name_form n))) ≡ record_read (record_head_at s at)
-unfolding fields_read record_read record_head_at
-by_fields s at next n q = go (ltb (length s) (next + 10 + be16_at s (next + 8))) refl
-  where
-    go : (t : Bool) → ltb (length s) (next + 10 + be16_at s (next + 8)) ≡ t
-        → with_name (padded (name_form n)) (fields_read s next (length (name_form n))) ≡ record_read (record_head_at s at)
-    go true z = rw (q, z)
-    go false z = rw (q, z)
+module _ (s : List ℕ) (at : ℕ) where
+  pub head_faulty : {f : Fault} → Err f ≡ name_read (begun_at s at (2 ∷ 2 ∷ 4 ∷ 2 ∷ []))
+      → Err f ≡ record_read (record_head_at s at)
+  unfolding record_head_at
+  head_faulty e = faulty_case (λ f w. Err f ≡ record_read (with_name_lem w (headed s))) (λ fault. refl) _ e
 
-module _ (s : List ℕ) (at : ℕ) {r : NameRead} (e : r ≡ name_read (begun_at s at (2 ∷ 2 ∷ 4 ∷ 2 ∷ []))) where
-  pub head_faulty : {f : Fault} → r.answer ≡ Faulty f
-      → record { answer = record'.Faulty f; name = r.octets } ≡ record_read (record_head_at s at)
-  unfolding record_read record_head_at
-  head_faulty {f} p = go (name_faulty (begun_at s at (2 ∷ 2 ∷ 4 ∷ 2 ∷ [])) e p)
-    where
-      go : (x : (fault : name.Fault) × (begun_at s at (2 ∷ 2 ∷ 4 ∷ 2 ∷ []) ≡ faulty fault) × (f ≡ fault_of fault)
-          × (r.octets ≡ replicate 255 0))
-          → record { answer = record'.Faulty f; name = r.octets } ≡ record_read (record_head_at s at)
-      go (fault, q, a, b) = rw (q, a, b)
+  module _ {form : List ℕ} {next rdlength : ℕ} (e : Ok (form, next) ≡ name_read (begun_at s at (2 ∷ 2 ∷ 4 ∷ 2 ∷ [])))
+      (l : rdlength ≡ be16_at s (next + 8)) where
+    -- RDATA is past the message's end
+    pub head_cut : length s < next + 10 + rdlength → Err (Cut (next + 10)) ≡ record_read (record_head_at s at)
+    unfolding record_head_at
+    head_cut h =
+        named_case (λ form next w. rdlength ≡ be16_at s (next + 8) → length s < next + 10 + rdlength
+        → Err (Cut (next + 10)) ≡ record_read (with_name_lem w (headed s)))
+        (λ n next l h. rw (← l, lt-ltb (length s) (next + 10 + rdlength) h)) _ e l h
 
-  module _ {next size : ℕ} (p : r.answer ≡ Read next size) {x : Record} (d : x ≡ fields_read s next size) where
-    with_fields_lem : with_name r.octets x ≡ record_read (record_head_at s at)
-    with_fields_lem =
-        let (n, q, a, b) = name_read_lem (begun_at s at (2 ∷ 2 ∷ 4 ∷ 2 ∷ [])) e p in
-        ap₂ with_name b (d ∙ ap (fields_read s next) a) ∙ by_fields s at next n q
-
-    pub head_cut : {f : Fault} → x ≡ record'.Faulty f
-        → record { answer = record'.Faulty f; name = replicate 255 0 } ≡ record_read (record_head_at s at)
-    head_cut q = ap (with_name r.octets) (sym q) ∙ with_fields_lem
-
-    pub head-whole : {h : RecordFields} → x ≡ record'.Read h
-        → record { answer = record'.Read h; name = r.octets } ≡ record_read (record_head_at s at)
-    head-whole q = ap (with_name r.octets) (sym q) ∙ with_fields_lem
-
--- the fields after the owner: RDATA is past the message's end, or not
-module _ (s : List ℕ) (next size : ℕ) {rdlength : ℕ} (l : rdlength ≡ be16_at s (next + 8)) where
-  pub rdata_cut : length s < next + 10 + rdlength → record'.Faulty (Cut (next + 10)) ≡ fields_read s next size
-  unfolding fields_read
-  rdata_cut h = rw (← l, lt-ltb (length s) (next + 10 + rdlength) h)
-
-  pub rdata_whole : {rtype class ttl : ℕ} → next + 10 + rdlength ≤ length s → rtype ≡ be16_at s next
-      → class ≡ be16_at s (next + 2) → ttl ≡ be32_at s (next + 4)
-      → record'.Read
-      (record { size = size; rtype = rtype; class = class; ttl = ttl; rdata = next + 10; rdlength = rdlength })
-      ≡ fields_read s next size
-  unfolding fields_read
-  rdata_whole h k c t = rw (k, c, t, ← l, le-ltb (length s) (next + 10 + rdlength) h)
-
--- the bounds of an owner that is read
-module _ {w : Named} {next size : ℕ} (e : w ≡ Read next size) (at end : ℕ)
-    (h : Begins w at (2 ∷ 2 ∷ 4 ∷ 2 ∷ []) end) where
-  pub owner_some : 1 ≤ next
-  owner_some = let k = begins w (2 ∷ 2 ∷ 4 ∷ 2 ∷ []) h e in omega arith
-
-  pub owner_room : next + 10 ≤ end
-  owner_room = (begins w (2 ∷ 2 ∷ 4 ∷ 2 ∷ []) h e).1
-
-  pub owner_size : size ≤ 255
-  owner_size = (begins w (2 ∷ 2 ∷ 4 ∷ 2 ∷ []) h e).2
-
-  -- RDATA starts 11 octets or more after the owner's start
-  pub rdata_after : {x : Record} {a : RecordFields} → x ≡ record'.Read a → Heads x (next - 1) end → at + 11 ≤ a.rdata
-  rdata_after q k =
-      let b = begins w (2 ∷ 2 ∷ 4 ∷ 2 ∷ []) h e in
-      omega (arith, subst (λ (y : Record). Heads y (next - 1) end) q k)
+    pub head-whole : {rtype class ttl : ℕ} → next + 10 + rdlength ≤ length s → rtype ≡ be16_at s next
+        → class ≡ be16_at s (next + 2) → ttl ≡ be32_at s (next + 4)
+        → Ok (made form next rdlength rtype class ttl) ≡ record_read (record_head_at s at)
+    unfolding record_head_at
+    head-whole {rtype} {class} {ttl} h k c t =
+        named_case (λ form next w. rdlength ≡ be16_at s (next + 8) → next + 10 + rdlength ≤ length s
+        → rtype ≡ be16_at s next → class ≡ be16_at s (next + 2) → ttl ≡ be32_at s (next + 4)
+        → Ok (made form next rdlength rtype class ttl) ≡ record_read (with_name_lem w (headed s)))
+        (λ n next l h k c t. rw (← l, le-ltb (length s) (next + 10 + rdlength) h, k, c, t)) _ e l h k c t

@@ -1,24 +1,33 @@
+-- `forms::put_message` meets its contract: the header's octets and four sections, of which each may stop.
 use borrow.Author.Rules.{rules}
-use Rattle.octets.specs.Loops.{continues_start}
-use Rattle.forms.specs.Putting.{comes_inside, comes_short, sections_goes}
-use Rattle.forms.specs.Putting.{sections_stop}
-use Rattle.forms.specs.Putting.{sections_end}
+use Rattle.forms.specs.Putting.{message_join, runs_halt, runs_join}
 use Rattle.forms.proofs.put_message.Goals as goal
 
-pub loop-i-init : goal.loop-i-init
-loop-i-init c = (search rules, search rules, search rules, search rules, continues_start)
+pub returns-in_err-questions : goal.returns-in_err-questions
+returns-in_err-questions c =
+    let first = rw c.be16_at.ensures.value at c.in_err-questions.ensures.writes_section in
+    let all = message_join _ c.put_all-header.ensures (runs_halt _ first) in
+    search (all, rules)
 
-pub returns-in_default : goal.returns-in_default
-returns-in_default c = search (sections_stop, rules)
+pub returns-in_err-answers : goal.returns-in_err-answers
+returns-in_err-answers c =
+    let first = rw c.be16_at.ensures.value at c.in_ok-questions.ensures.writes_section in
+    let second = rw c.be16_at-2.ensures.value at c.in_err-answers.ensures.writes_section in
+    let all = message_join _ c.put_all-header.ensures (runs_join _ first (runs_halt _ second)) in
+    search (all, rules)
 
-pub loop-i-preserved : goal.loop-i-preserved
-loop-i-preserved c = (
-  search rules,
-  search (comes_inside, rules),
-  search (comes_short, rules),
-  search rules,
-  search (sections_goes, rules),
-)
+pub returns-in_err-authority : goal.returns-in_err-authority
+returns-in_err-authority c =
+    let first = rw c.be16_at.ensures.value at c.in_ok-questions.ensures.writes_section in
+    let second = rw c.be16_at-2.ensures.value at c.in_ok-answers.ensures.writes_section in
+    let third = rw c.be16_at-3.ensures.value at c.in_err-authority.ensures.writes_section in
+    let all = message_join _ c.put_all-header.ensures (runs_join _ first (runs_join _ second (runs_halt _ third))) in
+    search (all, rules)
 
 pub returns : goal.returns
-returns c = search (sections_end, rules)
+returns c =
+    let first = rw c.be16_at.ensures.value at c.in_ok-questions.ensures.writes_section in
+    let second = rw c.be16_at-2.ensures.value at c.in_ok-answers.ensures.writes_section in
+    let third = rw c.be16_at-3.ensures.value at c.in_ok-authority.ensures.writes_section in
+    let fourth = rw c.be16_at-4.ensures.value at c.put_section-4.ensures.writes_section in
+    message_join _ c.put_all-header.ensures (runs_join _ first (runs_join _ second (runs_join _ third fourth)))

@@ -1,10 +1,7 @@
 -- `forms::put_named` meets its contract: three texts, one after another.
-use borrow.Author.Rules.{rules}
 use Rattle.octets.specs.Overlay.{then}
 use Rattle.forms.proofs.put_named.Goals as goal
 
-pub returns : goal.returns
-returns c = record {
-  wrote = search (then, rules);
-  value = search rules;
-}
+pub returns-clause-wrote : goal.returns-clause-wrote
+returns-clause-wrote c =
+    then (then (rw c.form.ensures.value at c.put_all-typed.ensures) c.put_be16-classed.ensures) c.put_be16.ensures

@@ -9,17 +9,17 @@ returns-then-s-gt65535 c = search (too_long, rules)
 pub returns-then-s-lt12 : goal.returns-then-s-lt12
 returns-then-s-lt12 c = search (too_short, rules)
 
-pub returns-then-at-s : goal.returns-then-at-s
-returns-then-at-s c = search (left_over, rules)
+pub returns-in_err-end : goal.returns-in_err-end
+returns-in_err-end c = at_fault _ _ _ (search (c.in_err-end.ensures, rules)) _ c.from_residual.ensures.1
 
-pub returns-then-size-gt65535 : goal.returns-then-size-gt65535
-returns-then-size-gt65535 c = search (form-long, rules)
+pub returns-then-end-s : goal.returns-then-end-s
+returns-then-end-s c = search (left_over, c.in_ok-end.ensures, rules)
 
-pub returns-in-Stopped : goal.returns-in-Stopped
-returns-in-Stopped c = search (at_fault, rules)
+pub returns-then-end-gt65535 : goal.returns-then-end-gt65535
+returns-then-end-gt65535 c = search (form-long, c.in_ok-end.ensures, rules)
 
-pub returns-then-size-out : goal.returns-then-size-out
-returns-then-size-out c = search (with_room, rules)
+pub returns-then-end-out : goal.returns-then-end-out
+returns-then-end-out c = search (with_room, c.in_ok-end.ensures, rules)
 
-pub returns-else-size-out : goal.returns-else-size-out
-returns-else-size-out c = search (no_room_lem, rules)
+pub returns-else-end-out : goal.returns-else-end-out
+returns-else-end-out c = search (no_room_lem, c.in_ok-end.ensures, rules)

@@ -1,55 +1,42 @@
 use borrow.Author.Rules.{rules}
-use Rattle.names.specs.Ways.{from_start, keep_none, keep_more, name-past}
-use Rattle.names.specs.Ways.{root_read, label_cut, label-long, label_read, bits_reserved, pointer_cut, target_low}
-use Rattle.names.specs.Ways.{target_far, jump_read}
+use Rattle.octets.specs.Overlay.{same_long}
+use Rattle.names.specs.Ways.{from_start, root_kept, label_kept, name-past, root_read, label_cut}
+use Rattle.names.specs.Ways.{label-long, label_read, bits_reserved, pointer_cut, target_low, target_far, jump_read}
 use Rattle.names.proofs.name_at.Goals as goal
+use Rattle.names.proofs.name_at.Goals.{then-target-lt12-via-then-target-lt12}
+use Rattle.names.proofs.name_at.Goals.{then-target-lt12-via-else-target-lt12+then-target-low}
 
-pub walk-init : goal.walk-init
-walk-init c = (search rules, search rules, search rules, search (from_start, rules))
-
-pub returns-then-x-eq0 : goal.returns-then-x-eq0
-returns-then-x-eq0 c = search (root_read, rules)
-
-pub loop-k-init : goal.loop-k-init
-loop-k-init c = (search rules, search rules, search rules, search rules, keep_none _ _ _, search rules)
-
-pub loop-k-preserved : goal.loop-k-preserved
-loop-k-preserved c = (search rules, search rules, search rules, search rules, search (keep_more, rules), search rules)
-
-pub walk-preserved-then-x-le63 : goal.walk-preserved-then-x-le63
-walk-preserved-then-x-le63 c =
-    let loop = c.loop-k.invariant in
-    let walk = c.walk.invariant in (
-      search rules,
-      search rules,
-      search rules,
-      label_read _ _ _ _ walk.3 loop.5 c.loop-k-test.false loop.1 loop.0 c.if-more-gt254.false
-          c.keep-to.ensures.kept_octets loop.4,
-    )
-
-pub walk-preserved : goal.walk-preserved
-walk-preserved c = (search rules, search rules, search rules, search (jump_read, rules))
+pub loop-place-init : goal.loop-place-init
+loop-place-init c = (search rules, search rules, search rules, search (from_start, rules))
 
 pub returns-then-place-end : goal.returns-then-place-end
 returns-then-place-end c = search (name-past, rules)
 
-pub returns-then-from-end : goal.returns-then-from-end
-returns-then-from-end c = search (label_cut, rules)
+pub returns-then-x-eq0 : goal.returns-then-x-eq0
+returns-then-x-eq0 c =
+    root_read _ _ _ _ _ _ _ c.loop-place.invariant.3 c.end-end.ensures (search rules) (search rules) c.if-x-eq0.true
+    (root_kept _ _ (search rules)) c.unwrap_or.ensures
+
+pub returns-then-after-end : goal.returns-then-after-end
+returns-then-after-end c = search (label_cut, rules)
 
 pub returns-then-more-gt254 : goal.returns-then-more-gt254
-returns-then-more-gt254 c =
-    let walk = c.walk.invariant in
-    label-long _ _ _ _ walk.3 c.loop-k.invariant.5 c.loop-k-test.false c.loop-k.invariant.1
-    c.if-more-gt254.true c.fail-then-more-gt254.ensures
+returns-then-more-gt254 c = search (label-long, rules)
+
+pub loop-place-preserved-then-x-le63 : goal.loop-place-preserved-then-x-le63
+loop-place-preserved-then-x-le63 c = (search rules, search rules, rw (same_long c.put_all.ensures) c.loop-place.invariant.2, search (label_read, label_kept, rules))
 
 pub returns-then-x-lt192 : goal.returns-then-x-lt192
 returns-then-x-lt192 c = search (bits_reserved, rules)
 
-pub returns-then-second-end : goal.returns-then-second-end
-returns-then-second-end c = search (pointer_cut, rules)
+pub returns-then-place-end-2 : goal.returns-then-place-end-2
+returns-then-place-end-2 c = search (pointer_cut, rules)
 
 pub returns-then-target-lt12 : goal.returns-then-target-lt12
-returns-then-target-lt12 c = search (target_low, rules)
+returns-then-target-lt12 c = elim c.then-target-lt12.branch [
+  | then-target-lt12-via-then-target-lt12 w ↦ search (target_low, rules)
+  | then-target-lt12-via-else-target-lt12+then-target-low w ↦ search (target_far, rules)
+]
 
-pub returns-then-target-low : goal.returns-then-target-low
-returns-then-target-low c = search (target_far, rules)
+pub loop-place-preserved : goal.loop-place-preserved
+loop-place-preserved c = (search rules, search rules, search rules, search (jump_read, rules))

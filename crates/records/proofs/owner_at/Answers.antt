@@ -1,38 +1,22 @@
 use borrow.Author.Rules.{rules}
-use Rattle.records.proofs.Reading.{fields-start, fields_more, begun_faulty, name-within, begun_cut}
-use Rattle.records.proofs.Reading.{begun-whole, begun_fits}
+use Rattle.records.proofs.Reading.{begun_faulty, name-within, fields-start, fields_more, begun_cut, begun-whole}
+use Rattle.records.proofs.Reading.{begun_fits}
 use Rattle.records.proofs.owner_at.Goals as goal
 
-pub returns-in_default : goal.returns-in_default
-returns-in_default c = let p = c.name_at-read in let e =
-    c.in_default.is in record {
-      value = begun_faulty _ _ _ p.ensures e;
-      begins = rw e tt;
-    }
+pub returns-in_err-name-clause-value : goal.returns-in_err-name-clause-value
+returns-in_err-name-clause-value c = search (begun_faulty, c.in_err-name.ensures, rules)
 
-pub loop-i-init : goal.loop-i-init
-loop-i-init c = (
-  search rules,
-  name-within _ _ c.name_at-read.ensures
-      c.in-Read.is,
-  fields-start _ _ _,
-)
+pub loop-width-init : goal.loop-width-init
+loop-width-init c = (name-within _ c.args.widths.now _ c.in_ok-name.ensures, fields-start _ _ _)
 
-pub returns-then-s-place : goal.returns-then-s-place
-returns-then-s-place c = record {
-  value = search (begun_cut, rules);
-  begins = tt;
-}
+pub returns-then-s-end-clause-value : goal.returns-then-s-end-clause-value
+returns-then-s-end-clause-value c = search (begun_cut, c.in_ok-name.ensures, rules)
 
-pub loop-i-preserved : goal.loop-i-preserved
-loop-i-preserved c = (
-  search rules,
-  search rules,
-  search (fields_more, rules),
-)
+pub loop-width-preserved : goal.loop-width-preserved
+loop-width-preserved c = (search rules, search (fields_more, rules))
 
-pub returns : goal.returns
-returns c = record {
-  value = search (begun-whole, rules);
-  begins = search (begun_fits, rules);
-}
+pub returns-clause-value : goal.returns-clause-value
+returns-clause-value c = search (begun-whole, c.in_ok-name.ensures, rules)
+
+pub returns-clause-begins : goal.returns-clause-begins
+returns-clause-begins c = search (begun_fits, c.in_ok-name.ensures, rules)

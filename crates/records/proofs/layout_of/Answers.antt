@@ -1,5 +1,5 @@
--- `records::layout_piece` meets its contract: one way for each layout, and one for the TYPEs that have none. The
--- compiler tests the TYPEs 2 to 9, but for 6, as a range.
+-- `records::layout_of` meets its contract: one way for each layout, and one for the TYPEs that have none. The compiler
+-- tests the TYPEs 2 to 9, but for 6, as a range.
 use borrow.Author.Tests.{le-leb, lt-leb, le-ltb}
 use mathlib.Core.Path.{◌≡◌, refl, ap}
 use mathlib.Core.Bool.{false, ◌&&◌, ◌||◌}
@@ -10,11 +10,10 @@ use native.Mathlib.Omega.{arith}
 use lib.Dec.{leb, ltb}
 use Rattle.octets.specs.Lists.{lookup}
 use Rattle.octets.proofs.Arms.{ranged, Missed, keyed?, missed_key, failed_row}
-use Rattle.records.specs.Layout.{fixed, name, layouts, layout_of}
-use Rattle.records.proofs.Pieces.{piece_none, piece_listed, piece_free}
-use Rattle.records.proofs.layout_piece.Goals as goal
-use Rattle.records.proofs.layout_piece.Goals.{in-12-1, in_default+else-rtype-lt2+then-rtype-lt10}
-use Rattle.records.proofs.layout_piece.Goals.{in_default-via-then-rtype-lt2, in_default-via-else-rtype-lt2+else-rtype-lt10}
+use Rattle.records.specs.Layout.{name, layouts, layout_of}
+use Rattle.records.proofs.layout_of.Goals as goal
+use Rattle.records.proofs.layout_of.Goals.{in-12-1, in_default+else-rtype-lt2+then-rtype-lt10}
+use Rattle.records.proofs.layout_of.Goals.{in_default-via-then-rtype-lt2, in_default-via-else-rtype-lt2+else-rtype-lt10}
 
 -- a TYPE of the range has one name
 one_name : (rtype : ℕ) → 2 ≤ rtype → rtype < 10 → (rtype ≡ 6 → ⊥) → layout_of rtype ≡ some (name ∷ [])
@@ -46,29 +45,17 @@ below rtype h = rw (lt-leb 2 rtype h)
 beyond : (rtype : ℕ) → 10 ≤ rtype → (leb 2 rtype && ltb rtype 10) ≡ false
 beyond rtype h = let low : 2 ≤ rtype = omega arith in rw (le-leb 2 rtype low, le-ltb rtype 10 h)
 
-pub returns-then-size-eq0 : goal.returns-then-size-eq0
-returns-then-size-eq0 c = piece_none c.args.rtype c.args.size c.args.i c.if-size-eq0.true
-
 pub returns-in-6 : goal.returns-in-6
 unfolding lookup layouts layout_of
-returns-in-6 c =
-    let args = c.args in
-    piece_listed (name ∷ name ∷ fixed 20 ∷ []) args.rtype args.size args.i
-    (ap layout_of c.in-6.is) (omega arith) c.if-size-eq0.false c.nth_piece.ensures
+returns-in-6 c = ap layout_of c.in-6.is
 
 pub returns-in-14 : goal.returns-in-14
 unfolding lookup layouts layout_of
-returns-in-14 c =
-    let args = c.args in
-    piece_listed (name ∷ name ∷ []) args.rtype args.size args.i (ap layout_of c.in-14.is)
-    (omega arith) c.if-size-eq0.false c.nth_piece-in-14.ensures
+returns-in-14 c = ap layout_of c.in-14.is
 
 pub returns-in-15 : goal.returns-in-15
 unfolding lookup layouts layout_of
-returns-in-15 c =
-    let args = c.args in
-    piece_listed (fixed 2 ∷ name ∷ []) args.rtype args.size args.i (ap layout_of c.in-15.is)
-    (omega arith) c.if-size-eq0.false c.nth_piece-in-15.ensures
+returns-in-15 c = ap layout_of c.in-15.is
 
 pub returns-in_default : goal.returns-in_default
 returns-in_default c =
@@ -78,17 +65,11 @@ returns-in_default c =
       | in_default-via-then-rtype-lt2 w ↦ below args.rtype w.if-rtype-lt2-1.true
       | in_default-via-else-rtype-lt2+else-rtype-lt10 w ↦ beyond args.rtype w.if-rtype-lt10-1.false
     ] in
-    piece_free args.rtype args.size args.i (no-layout _ args.rtype c.in_default-1.rest out)
-    c.if-size-eq0.false c.nth_piece-in_default.ensures
+    no-layout _ args.rtype c.in_default-1.rest out
 
 pub returns-in-2 : goal.returns-in-2
 unfolding lookup layouts layout_of
-returns-in-2 c =
-    let args = c.args in
-    let one : layout_of args.rtype ≡ some (name ∷ []) =
-    elim c.in-2-1.branch [
-      | in-12-1 w ↦ ap layout_of w.in-12-1.keys1
-      | in_default+else-rtype-lt2+then-rtype-lt10 w ↦ one_name args.rtype w.if-rtype-lt2-1.false w.if-rtype-lt10-1.true w.in_default-1.rest.0.0.1
-    ] in
-    piece_listed (name ∷ []) args.rtype args.size args.i one (omega arith) c.if-size-eq0.false
-    c.nth_piece-in-2.ensures
+returns-in-2 c = elim c.in-2-1.branch [
+  | in-12-1 w ↦ ap layout_of w.in-12-1.keys1
+  | in_default+else-rtype-lt2+then-rtype-lt10 w ↦ one_name c.args.rtype w.if-rtype-lt2-1.false w.if-rtype-lt10-1.true w.in_default-1.rest.0.0.1
+]
