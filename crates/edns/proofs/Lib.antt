@@ -1,2 +1,3 @@
 -- Laws that no definition needs.
+pub mod Finding
 pub mod Ways

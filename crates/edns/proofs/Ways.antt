@@ -1,23 +1,22 @@
--- The code's walk over the options in RDATA and its tests of an element, way by way.
+-- The options that RDATA divides into, and whether their codes rise.
 use mathlib.Core.Path.{◌≡◌, refl, sym, ◌∙◌, ap}
-use mathlib.Core.Bool.{Bool, true, false, not, ◌&&◌, ◌||◌, cond}
+use mathlib.Core.Bool.{Bool, true, false, ◌&&◌, cond}
 use mathlib.Core.Option.{Option, none, some}
 use mathlib.Core.List.{List, [], ◌∷◌}
-use Prim.Native.Nat.{ℕ, zero, suc, ◌+◌, ◌-◌, ◌*◌, ◌/◌, ◌%◌, ◌<◌, ◌≤◌}
+use Prim.Native.Nat.{ℕ, zero, suc, ◌+◌, ◌-◌, ◌<◌, ◌≤◌}
 use native.Mathlib.Nat.{add-zero}
 use native.Mathlib.Numerals.{add-one}
 use native.Mathlib.Omega.{arith}
-use borrow.Author.Tests.{le-leb, lt-leb, eq-eqb, ne_eqb, leb-true, leb-false, not-true, not-false}
-use lib.Dec.{leb, eqb, leb-zero}
-use lib.ListN.{length, take, drop, length-drop, drop_of_length-le}
+use borrow.Author.Tests.{le-leb, lt-leb, leb-true, leb-false}
+use lib.Dec.{leb, leb-zero}
+use lib.ListN.{length, take, drop, length-drop}
 use lib.Seq.{drop-drop, get_or-drop}
-use Rattle.octets.specs.Lists.{key?}
 use Rattle.octets.specs.Fields.{be16_at}
-use Rattle.octets.specs.Loops.{Remains}
 use Rattle.options.specs.Options.{EdnsOption}
-use Rattle.edns.specs.Edns.{prepend, divided, options_of, rising?, rcodes}
+use Rattle.edns.specs.Edns.{prepend, divided, options_of, rising?}
 use Rattle.edns.specs.EdnsLaws.{divided_end}
-use Rattle.edns.specs.Element.{risen?, options_rise, edns_fields, shows_edns}
+use Rattle.std.proofs.lemmas.List.{length-take-le}
+use Rattle.edns.specs.Element.{Divides, risen?, options_rise}
 
 -- ---- RDATA divided
 -- the first option
@@ -69,6 +68,44 @@ divided_bound (suc n) (suc m) l h k =
     go [] h k f false false p q = divided_end n ∙ sym (divided_end m)
     go (x ∷ l) h k f false false p q = absurd (omega (arith, leb-false 1 (length (x ∷ l)) p))
 
+-- ---- the options of RDATA
+-- it has none; there is no room for one; there is one, and those after it
+pub options_empty : (l : List ℕ) → length l ≡ 0 → options_of l ≡ some []
+unfolding options_of
+options_empty [] h = divided_end 0
+options_empty (x ∷ l) h = absurd (omega arith)
+
+pub options_short : (l : List ℕ) → 0 < length l → length l < 4 + be16_at l 2 → options_of l ≡ none
+unfolding options_of
+options_short l h k = divided_none (length l) l h k
+
+pub options_first : (l : List ℕ) → 4 + be16_at l 2 ≤ length l
+    → options_of l ≡ prepend (first_option l) (options_of (drop (4 + be16_at l 2) l))
+unfolding options_of
+options_first l h =
+    let later = drop (4 + be16_at l 2) l in
+    let e = length-drop (4 + be16_at l 2) l in
+    divided_one (length l) l h
+    ∙ ap (prepend (first_option l)) (divided_bound (length l) (suc (length later)) later (omega arith) (omega arith))
+
+-- the first option as the code reads it: there is no room for it; there is
+pub first_none : (l : List ℕ) → length l < 4 + be16_at l 2 → 0 < length l → options_of l ≡ none
+first_none l h k = options_short l k h
+
+pub first_some : (l : List ℕ) {code size : ℕ} {left value rest : List ℕ} → 4 ≤ length l → code ≡ be16_at l 0
+    → code < 65536 → size ≡ be16_at l 2 → left ≡ drop 4 l → size ≤ length left → value ≡ take size left
+    → rest ≡ drop size left → Divides l code value rest
+first_some l {size = size} {left = left} {value = value} {rest = rest} h c k e f i p q =
+    let long : length left ≡ length l - 4 = ap length f ∙ length-drop 4 l in
+    let first : length value ≡ size = ap length p ∙ length-take-le size left i in
+    let after : length rest ≡ length left - size = ap length q ∙ length-drop size left in
+    record {
+      word = k;
+      whole = omega arith;
+      options = rw (c, p, q, e, f, drop-drop (be16_at l 2) 4 l)
+          (options_first l (omega arith));
+    }
+
 -- ---- RDATA from a place on
 module _ (s : List ℕ) (at : ℕ) where
   -- the fields of the option there
@@ -83,125 +120,79 @@ module _ (s : List ℕ) (at : ℕ) where
 
   -- RDATA ends there; there is no room for an option; there is one
   pub options_end : length s ≤ at → options_of (drop at s) ≡ some []
-  unfolding options_of
-  options_end h = rw (drop_of_length-le s h) (divided_end 0)
+  options_end h = options_empty (drop at s) (omega (arith, length-drop at s))
 
   pub options_none : at < length s → length s < at + 4 + be16_at s (at + 2) → options_of (drop at s) ≡ none
-  unfolding options_of
   options_none h k =
       let long = length-drop at s in
-      divided_none (length (drop at s)) (drop at s) (omega arith) (omega (arith, two_here 2))
+      options_short (drop at s) (omega arith) (omega (arith, two_here 2))
 
   pub options_more : at + 4 + be16_at s (at + 2) ≤ length s
       → options_of (drop at s) ≡ prepend here (options_of (drop (at + 4 + be16_at s (at + 2)) s))
-  unfolding options_of
   options_more h =
       let long = length-drop at s in
       let size = be16_at s (at + 2) in
       let e : at + (4 + size) ≡ at + 4 + size = omega arith in
       let after : drop (4 + size) (drop at s) ≡ drop (at + 4 + size) s =
       drop-drop (4 + size) at s ∙ ap (λ n. drop n s) e in
-      let short = length-drop (at + 4 + size) s in
-      divided_one (length (drop at s)) (drop at s) (omega (arith, two_here 2))
+      options_first (drop at s) (omega (arith, two_here 2))
       ∙ rw (two_here 2, two_here 0, add-zero, drop-drop 4 at s, after)
-      (ap (prepend here) (divided_bound (length (drop at s)) (suc (length (drop (at + 4 + size) s)))
-      (drop (at + 4 + size) s) (omega arith) (omega arith)))
 
 -- ---- codes rising
 -- the first code is at least this, and codes rise from there
-abbrev pub least? : ℕ → List EdnsOption → Bool
+abbrev least? : ℕ → List EdnsOption → Bool
 least? least [] = true
 least? least (o ∷ l) = leb least o.code
 
-abbrev pub rise? : ℕ → Option (List EdnsOption) → Bool
+abbrev rise? : ℕ → Option (List EdnsOption) → Bool
 rise? least none = false
 rise? least (some l) = least? least l && rising? l
 
-rise_all : (o : Option (List EdnsOption)) → risen? o ≡ rise? 0 o
-rise_all none = refl
-rise_all (some []) = refl
-rise_all (some (o ∷ l)) = rw (leb-zero o.code)
+-- of RDATA
+unfoldable pub rise : ℕ → List ℕ → Bool
+rise least l = rise? least (options_of l)
 
 -- an option, and those after it
-rise_low : (least : ℕ) (a : EdnsOption) (o : Option (List EdnsOption)) → a.code < least
-    → rise? least (prepend a o) ≡ false
-rise_low least a none h = refl
-rise_low least a (some l) h = rw (lt-leb least a.code h)
+low : (least : ℕ) (a : EdnsOption) (o : Option (List EdnsOption)) → a.code < least → rise? least (prepend a o) ≡ false
+low least a none h = refl
+low least a (some l) h = rw (lt-leb least a.code h)
 
-rise_next : (least : ℕ) (a : EdnsOption) (o : Option (List EdnsOption)) → least ≤ a.code
+next : (least : ℕ) (a : EdnsOption) (o : Option (List EdnsOption)) → least ≤ a.code
     → rise? least (prepend a o) ≡ rise? (a.code + 1) o
 unfolding rising?
-rise_next least a none h = refl
-rise_next least a (some []) h = rw (le-leb least a.code h)
-rise_next least a (some (b ∷ l)) h = rw (le-leb least a.code h, add-one)
+next least a none h = refl
+next least a (some []) h = rw (le-leb least a.code h)
+next least a (some (b ∷ l)) h = rw (le-leb least a.code h, add-one)
 
 -- before the first option
-pub rises_start : (s : List ℕ) → Remains (options_rise s) (rise? 0 (options_of s))
-unfolding options_rise
-rises_start s = record { goes = rise_all (options_of s) }
+pub rise_start : (l : List ℕ) → options_rise l ≡ rise 0 l
+unfolding options_rise rise
+rise_start l = go (options_of l)
+  where
+    go : (o : Option (List EdnsOption)) → risen? o ≡ rise? 0 o
+    go none = refl
+    go (some []) = refl
+    go (some (o ∷ l)) = rw (leb-zero o.code)
 
--- v is the whole answer, by what is read from `at` on
-module _ (s : List ℕ) {v : Bool} (least at : ℕ) (f : Remains v (rise? least (options_of (drop at s)))) {size : ℕ}
-    (z : size ≡ length s) where
-  -- after the last
-  pub rises_end : size ≤ at → true ≡ v
-  unfolding rising?
-  rises_end h = sym (f.goes ∙ ap (rise? least) (options_end s at (omega arith)))
+-- after the last
+pub rise_end : (least : ℕ) (l : List ℕ) → length l ≡ 0 → rise least l ≡ true
+unfolding rise rising?
+rise_end least l h = ap (rise? least) (options_empty l h)
 
-  module _ (h : at < size) where
-    -- no room for code and length
-    pub rises_cut : size - at < 4 → false ≡ v
-    rises_cut k = sym (f.goes ∙ ap (rise? least) (options_none s at (omega arith) (omega arith)))
+-- no room for an option
+pub rise_cut : (least : ℕ) (l : List ℕ) → options_of l ≡ none → rise least l ≡ false
+unfolding rise
+rise_cut least l e = ap (rise? least) e
 
-    -- n is the length of the value
-    module _ {n : ℕ} (e : n ≡ be16_at s (at + 2)) where
-      -- no room for the value
-      pub rises_short : size - at < 4 + n → false ≡ v
-      rises_short k = sym (f.goes ∙ ap (rise? least) (options_none s at (omega arith) (rw (← e) (omega arith))))
+module _ (least : ℕ) {l : List ℕ} {code : ℕ} {value rest : List ℕ} (d : Divides l code value rest) where
+  -- a code that is not above the last
+  pub rise_low : code < least → rise least l ≡ false
+  unfolding rise
+  rise_low k = ap (rise? least) d.options ∙ low least _ _ k
 
-      module _ {code : ℕ} (d : code ≡ be16_at s at) (k : 4 + n ≤ size - at) where
-        next : at + 4 + n ≡ at + (4 + n)
-        next = omega arith
+  -- a code above the last
+  pub rise_more : least ≤ code → rise least l ≡ rise (code + 1) rest
+  unfolding rise
+  rise_more k = ap (rise? least) d.options ∙ next least _ _ k
 
-        more : v ≡ rise? least (prepend (here s at) (options_of (drop (at + (4 + n)) s)))
-        more = f.goes ∙ ap (rise? least) (options_more s at (rw (← e) (omega arith))) ∙ rw (← e, next)
-
-        -- a code that is not above the last
-        pub rises_low : code < least → false ≡ v
-        rises_low i = sym (more ∙ rise_low least (here s at) (options_of (drop (at + (4 + n)) s)) (rw (← d) i))
-
-        -- a code above the last
-        pub rises_more : least ≤ code → Remains v (rise? (code + 1) (options_of (drop (at + (4 + n)) s)))
-        rises_more i = record {
-          goes = more ∙ rise_next least (here s at) (options_of (drop (at + (4 + n)) s))
-              (rw (← d) i) ∙ rw (← d);
-        }
-
--- ---- the tests of an element, in order
-module _ (root : Bool) (ttl rcode : ℕ) where
-  pub fields_root : not root ≡ true → false ≡ edns_fields root ttl rcode
-  fields_root h = rw (not-true root h)
-
-  module _ (a : not root ≡ false) where
-    pub fields_version : (ttl / 65536 % 256 ≡ 0 → ⊥) → false ≡ edns_fields root ttl rcode
-    fields_version h = rw (not-false root a, ne_eqb (ttl / 65536 % 256) 0 h)
-
-    module _ (b : ttl / 65536 % 256 ≡ 0) {flags : Bool} (c : flags ≡ (eqb (ttl % 65536) 0 || eqb (ttl % 65536) 32768))
-      where
-        pub fields-flags : not flags ≡ true → false ≡ edns_fields root ttl rcode
-        fields-flags h = rw (not-false root a, eq-eqb (ttl / 65536 % 256) 0 b, ← c, not-true flags h)
-
-        pub fields_rcode : not flags ≡ false → {key : Bool} → key ≡ key? (ttl / 16777216 * 16 + rcode) rcodes
-            → key ≡ edns_fields root ttl rcode
-        fields_rcode d e = rw (not-false root a, eq-eqb (ttl / 65536 % 256) 0 b, ← c, not-false flags d) e
-
-  -- the tests without RDATA, then RDATA
-  module _ (rdata : List ℕ) {fields : Bool} (e : fields ≡ edns_fields root ttl rcode) where
-    pub shows_fields : not fields ≡ true → false ≡ shows_edns root ttl rcode rdata
-    unfolding shows_edns
-    shows_fields h = rw (← e, not-true fields h)
-
-    pub shows_options : not fields ≡ false → {rise : Bool}
-        → rise ≡ options_rise rdata → rise ≡ shows_edns root ttl rcode rdata
-    unfolding shows_edns
-    shows_options h f = rw (← e, not-false fields h) f
+pub ruleset rise_steps = (rise_start, rise_end, rise_cut, rise_low, rise_more)

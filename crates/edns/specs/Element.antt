@@ -1,7 +1,7 @@
 -- What the code promises of a TYPE 41 record: whether it is an EDNS element, and the element's text, by the fields that
 -- decide them.
 -- Both are what edns_of says of the record.
-use Rattle.std.specs.Prelude.{◌≡◌, refl, Bool, true, false, ◌&&◌, ◌||◌, cond, List, [], ◌∷◌, ◌++◌, map, ℕ, ◌/◌, ◌%◌, eqb}
+use Rattle.std.specs.Prelude.{◌≡◌, refl, Bool, true, false, ◌&&◌, ◌||◌, cond, List, [], ◌∷◌, ◌++◌, map, ℕ, ◌+◌, ◌/◌, ◌%◌, ◌<◌, eqb, length}
 use Rattle.std.proofs.Common.{sym, ◌∙◌, ap}
 use Rattle.std.proofs.Math.Bool.{and-false}
 use Rattle.std.proofs.Math.Option.{Option, none, some}
@@ -9,10 +9,16 @@ use Rattle.octets.specs.Lists.{ascii, each, none?, key?, row_text, present?}
 use Rattle.octets.specs.Decimal.{decimal}
 use Rattle.records.specs.Message.{Record}
 use Rattle.options.specs.Options.{EdnsOption, member_of, member_text}
-use Rattle.edns.specs.Edns.{options_of, rising?, rcodes, flags, Edns, full_rcode, edns_of, edns_item, edns_text}
+use Rattle.edns.specs.Edns.{prepend, options_of, rising?, rcodes, flags, Edns, full_rcode, edns_of, edns_item, edns_text}
 use Rattle.edns.specs.EdnsLaws.{element_of, edns_shows}
 
 -- ---- the options
+-- RDATA is an option, of this code and value, and the RDATA after it
+pub record Divides (rdata : List ℕ) (code : ℕ) (value rest : List ℕ) : Type 0 where
+  pub word : code < 65536
+  pub whole : length rdata ≡ 4 + length value + length rest
+  pub options : options_of rdata ≡ prepend (record { code = code; value = value }) (options_of rest)
+
 -- RDATA divides exactly into options with codes strictly rising
 abbrev pub risen? : Option (List EdnsOption) → Bool
 risen? none = false

@@ -1,101 +1,104 @@
-// Whether a record is an EDNS element. Its RDATA is octets or hexadecimal digits: `hex` says which.
-// The definitions are in specs/.
+// Whether a record is an EDNS element, by its fields and its RDATA. The definitions are in specs/.
 #![tactic(auto)]
 
-ghost use Rattle.std.specs.Prelude.{◌≡◌, ◌||◌, ◌<◌, eqb};
+ghost use Rattle.std.specs.Prelude.{◌≡◌, false, ◌<◌, length, MatchOption};
+ghost use Rattle.std.proofs.Math.Option.{none};
 ghost use Rattle.octets.specs.Lists.{key?};
-ghost use Rattle.hex_or_octets.specs.Either.{octets_in, Spelled};
-ghost use Rattle.edns.specs.Edns.{rcodes};
-ghost use Rattle.edns.specs.Table.{table_octets, row_at};
-ghost use Rattle.edns.specs.Element.{options_rise, edns_fields, shows_edns};
+ghost use Rattle.edns.specs.Edns.{options_of, rcodes};
+ghost use Rattle.edns.specs.Table.{texts, held, Named};
+ghost use Rattle.edns.specs.Element.{Divides, options_rise, edns_fields, shows_edns};
 
-use hex_or_octets::{be16_at, count};
-use octets::wide;
+use hex_or_octets::Octets;
 
 // ---- RCODE
-// The table of RCODE names, row after row: the RCODE, the length of its name, the name.
-pub fn rcode_names() -> [u8; 185]
-    ensures { result ≡ table_octets rcodes }
+// The names of RCODEs, by number.
+static RCODE_NAMES: [(u32, &[u8]); 20] = [
+    (0, b"NoError"),
+    (1, b"FormErr"),
+    (2, b"ServFail"),
+    (3, b"NXDomain"),
+    (4, b"NotImp"),
+    (5, b"Refused"),
+    (6, b"YXDomain"),
+    (7, b"YXRRSet"),
+    (8, b"NXRRSet"),
+    (9, b"NotAuth"),
+    (10, b"NotZone"),
+    (11, b"DSOTYPENI"),
+    (16, b"BADVERS"),
+    (17, b"BADKEY"),
+    (18, b"BADTIME"),
+    (19, b"BADMODE"),
+    (20, b"BADNAME"),
+    (21, b"BADALG"),
+    (22, b"BADTRUNC"),
+    (23, b"BADCOOKIE"),
+];
+
+// The table of RCODE names.
+#[tactic(auto, unfolding(crate::specs::Edns::rcodes))]
+pub fn rcode_table() -> &'static [(u32, &'static [u8])]
+    ensures { held result.now ≡ texts rcodes }
 {
-    *b"\x00\x07NoError\
-    \x01\x07FormErr\
-    \x02\x08ServFail\
-    \x03\x08NXDomain\
-    \x04\x06NotImp\
-    \x05\x07Refused\
-    \x06\x08YXDomain\
-    \x07\x07YXRRSet\
-    \x08\x07NXRRSet\
-    \x09\x07NotAuth\
-    \x0A\x07NotZone\
-    \x0B\x09DSOTYPENI\
-    \x10\x07BADVERS\
-    \x11\x06BADKEY\
-    \x12\x07BADTIME\
-    \x13\x07BADMODE\
-    \x14\x07BADNAME\
-    \x15\x06BADALG\
-    \x16\x08BADTRUNC\
-    \x17\x09BADCOOKIE"
+    &RCODE_NAMES
 }
 
-// The place of an RCODE's row in the table; the table's length if it has none.
-pub fn rcode_row(n: u32) -> usize
-    ensures { result ≡ row_at n rcodes }
+// The name of an RCODE, if it has one.
+pub fn rcode_name(n: u32) -> Option<&'static [u8]>
+    ensures { MatchOption result (key? n rcodes ≡ false) (λ name. Named n rcodes name.now) }
 {
-    let table = rcode_names();
-    let mut at = 0;
-    while at < table.len() {
-        if wide(table[at]) as u32 == n {
-            return at;
-        }
-        at += 2 + wide(table[at + 1]);
-    }
-    at
-}
-
-// Whether an RCODE has a name.
-fn listed_rcode(n: u32) -> bool
-    ensures { result ≡ key? n rcodes }
-{
-    rcode_row(n) < rcode_names().len()
+    let row = rcode_table().iter().find(|row| row.0 == n)?;
+    Some(row.1)
 }
 
 // ---- the element
-// Whether the flags are none, or DO alone.
-fn known_flags(n: u32) -> bool
-    ensures { result ≡ (eqb n 0 || eqb n 32768) }
+// An option of RDATA, and the RDATA after it.
+#[derive(Clone, Copy)]
+pub struct FirstOption<O> {
+    pub code: u32,
+    pub value: O,
+    pub rest: O,
+}
+
+// The first option of RDATA, if there is room for it.
+#[tactic(auto, using(crate::proofs::Ways::first_none))]
+pub fn first_option<O: Octets>(rdata: O) -> Option<FirstOption<O>>
+    ensures { MatchOption result (0 < length (O.octets rdata) → options_of (O.octets rdata) ≡ none)
+        (λ first. Divides (O.octets rdata) first.code (O.octets first.value) (O.octets first.rest)) }
 {
-    if n == 0 {
-        return true;
+    if rdata.count() < 4 {
+        return None;
     }
-    n == 32768
+    let code = rdata.be16_at(0);
+    let size = rdata.be16_at(2) as usize;
+    let rest = rdata.after(4);
+    if rest.count() < size {
+        return None;
+    }
+    Some(FirstOption {
+        code,
+        value: rest.first(size),
+        rest: rest.after(size),
+    })
 }
 
 // Whether RDATA divides exactly into options with codes strictly rising. `least` is the lowest code that the next one
 // may have.
-fn options_rise(s: &[u8], hex: bool) -> bool
-    requires { Spelled hex s.now }
-    ensures { result ≡ options_rise (octets_in hex s.now) }
+#[tactic(auto, using(crate::proofs::Ways::rise_steps))]
+fn options_rise<O: Octets>(rdata: O) -> bool
+    ensures { result ≡ options_rise (O.octets rdata) }
 {
-    let size = count(s, hex);
     let mut least = 0;
-    let mut at = 0;
-    while at < size {
-        let left = size - at;
-        if left < 4 {
+    let mut rest = rdata;
+    while rest.count() > 0 {
+        let Some(first) = first_option(rest) else {
+            return false;
+        };
+        if first.code < least {
             return false;
         }
-        let code = be16_at(s, hex, at);
-        let length = 4 + be16_at(s, hex, at + 2) as usize;
-        if left < length {
-            return false;
-        }
-        if code < least {
-            return false;
-        }
-        least = code + 1;
-        at += length;
+        least = first.code + 1;
+        rest = first.rest;
     }
     true
 }
@@ -106,25 +109,17 @@ fn has_edns_fields(root: bool, ttl: u32, rcode: u32) -> bool
     requires { rcode < 16 }
     ensures { result ≡ edns_fields root ttl rcode }
 {
-    if !root {
-        return false;
-    }
-    if ttl / 65536 % 256 != 0 {
-        return false;
-    }
-    if !known_flags(ttl % 65536) {
-        return false;
-    }
-    listed_rcode(ttl / 16777216 * 16 + rcode)
+    root && ttl / 65536 % 256 == 0
+        && matches!(ttl % 65536, 0 | 0x8000)
+        && rcode_name(ttl / 16777216 * 16 + rcode).is_some()
 }
 
-// Whether a TYPE 41 record is an EDNS element: those tests, and its RDATA.
-pub fn is_edns(root: bool, ttl: u32, rcode: u32, s: &[u8], hex: bool) -> bool
-    requires { (rcode < 16) × Spelled hex s.now }
-    ensures { result ≡ shows_edns root ttl rcode (octets_in hex s.now) }
+// Whether a TYPE 41 record is an EDNS element: those tests, and its RDATA. A struct of the first three would be made for
+// one call and taken apart there.
+#[tactic(auto, unfolding(crate::specs::Element::shows_edns))]
+pub fn is_edns<O: Octets>(root: bool, ttl: u32, rcode: u32, rdata: O) -> bool
+    requires { rcode < 16 }
+    ensures { result ≡ shows_edns root ttl rcode (O.octets rdata) }
 {
-    if !has_edns_fields(root, ttl, rcode) {
-        return false;
-    }
-    options_rise(s, hex)
+    has_edns_fields(root, ttl, rcode) && options_rise(rdata)
 }

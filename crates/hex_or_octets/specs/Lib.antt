@@ -1,3 +1,2 @@
--- Octets as they are, or as hexadecimal digits: what they are, and tests of every octet.
+-- Octets as hexadecimal digits: what they are.
 pub mod Digits
-pub mod Either

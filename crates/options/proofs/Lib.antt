@@ -1,3 +1,2 @@
 -- Laws that no definition needs.
 pub mod Boundaries
-pub mod Every

@@ -1,9 +1,9 @@
 -- The code's test of an option's shape, code by code: of most only the length matters.
-use Rattle.std.specs.Prelude.{◌≡◌, refl, Bool, false, not, ◌&&◌, ◌||◌, cond, List, [], ◌∷◌, ℕ, ◌%◌, ◌≤◌, ◌<◌, eqb, length, take}
+use Rattle.std.specs.Prelude.{◌≡◌, refl, Bool, false, not, ◌&&◌, ◌||◌, cond, List, [], ◌∷◌, ℕ, ◌%◌, ◌≤◌, eqb, length, take}
 use Rattle.std.proofs.Common.{sym, ap, ◌∙◌, arith}
 use Rattle.std.proofs.Math.Bool.{true}
 use Rattle.std.proofs.Math.Option.{none, some}
-use borrow.Author.Tests.{le-leb, lt-leb, ne_eqb, leb-true, eqb-true, not-false}
+use borrow.Author.Tests.{ne_eqb, leb-true, eqb-true, not-false}
 use Rattle.std.proofs.Math.Dec.{leb}
 use Rattle.std.proofs.Math.ListN.{drop}
 use Rattle.octets.specs.Lists.{all, lookup, present?}
@@ -26,47 +26,20 @@ abbrev pub error_shape : List ℕ → Bool
 error_shape v = leb 2 (length v) && all printable? (drop 2 v)
 
 -- a choice of something or nothing
-chosen : {A : Type 0} (b : Bool) (a : A) → b ≡ present? (cond b (some a) none)
+pub chosen : {A : Type 0} (b : Bool) (a : A) → b ≡ present? (cond b (some a) none)
 chosen true a = refl
 chosen false a = refl
 
-chosen_or : {A : Type 0} (b c : Bool) (a d : A) → (b || c) ≡ present? (cond b (some a) (cond c (some d) none))
+pub chosen_or : {A : Type 0} (b c : Bool) (a d : A) → (b || c) ≡ present? (cond b (some a) (cond c (some d) none))
 chosen_or true c a d = refl
 chosen_or false c a d = chosen c d
 
 -- the syntax of no row takes no value
-syntax_none : (syntax : Syntax) (v : List ℕ) → syntax ≡ unlisted → false ≡ present? (shape syntax v)
+pub syntax_none : (syntax : Syntax) (v : List ℕ) → syntax ≡ unlisted → present? (shape syntax v) ≡ false
 unfolding shape
 syntax_none syntax v e = rw e
 
 -- ---- the codes
-module _ {code : ℕ} (v : List ℕ) where
-  -- the code is that of a row
-  pub row_shaped : (k : ℕ) {r : Bool} → code ≡ k → r ≡ present? (shape (syntax_of k) v)
-      → r ≡ present? (shape (syntax_of code) v)
-  row_shaped k e q = rw e q
-
-  pub error_shaped : {r : Bool} → code ≡ 15 → r ≡ error_shape v → r ≡ present? (shape (syntax_of code) v)
-  unfolding lookup rows syntax_of shape
-  error_shaped e q = q ∙ rw e (chosen (error_shape v) _)
-
-  module _ {size : ℕ} (z : size ≡ length v) where
-    pub expire_shaped : {r : Bool} → code ≡ 9 → r ≡ expiry_size size → r ≡ present? (shape (syntax_of code) v)
-    unfolding lookup rows syntax_of shape
-    expire_shaped e q = q ∙ rw (e, z) (chosen_or (eqb (length v) 0) (eqb (length v) 4) _ _)
-
-    pub cookie_shaped : {r : Bool} → code ≡ 10 → r ≡ cookie_size size → r ≡ present? (shape (syntax_of code) v)
-    unfolding lookup rows syntax_of shape
-    cookie_shaped e q = q ∙ rw (e, z) (chosen_or (eqb (length v) 8) (leb 16 (length v) && leb (length v) 40) _ _)
-
-    pub keepalive_shaped : code ≡ 11 → eqb size 2 ≡ present? (shape (syntax_of code) v)
-    unfolding lookup rows syntax_of shape
-    keepalive_shaped e = rw (e, z) (chosen (eqb (length v) 2) _)
-
-    pub keytag_shaped : code ≡ 14 → eqb (size % 2) 0 ≡ present? (shape (syntax_of code) v)
-    unfolding lookup rows syntax_of shape
-    keytag_shaped e = rw (e, z) (chosen (eqb (length v % 2) 0) _)
-
 -- the code is that of no row, as the last arm of a match on the codes knows it
 pub no_row : (code : ℕ) → Missed (Unit {0}) code (arms_of rows) → syntax_of code ≡ unlisted
 unfolding rows syntax_of
@@ -74,15 +47,7 @@ no_row code h = ap row_syntax (missed_row (Unit {0}) code (arms_of rows) rows tt
 
 pub none_shaped : (code : ℕ) (v : List ℕ) → Missed (Unit {0}) code (arms_of rows)
     → false ≡ present? (shape (syntax_of code) v)
-none_shaped code v h = syntax_none (syntax_of code) v (no_row code h)
-
--- ---- EDE without its code, and with it
-module _ (v : List ℕ) {size : ℕ} (z : size ≡ length v) where
-  pub error_short : size < 2 → false ≡ error_shape v
-  error_short h = rw (lt-leb 2 (length v) (rw (← z) h))
-
-  pub error_text_lem : {r : Bool} → 2 ≤ size → r ≡ all printable? (drop 2 v) → r ≡ error_shape v
-  error_text_lem h q = q ∙ rw (le-leb 2 (length v) (rw (← z) h))
+none_shaped code v h = sym (syntax_none (syntax_of code) v (no_row code h))
 
 -- ---- what a value that has its shape is like
 abbrev pub Shaped : ℕ → List ℕ → Type 0

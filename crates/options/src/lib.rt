@@ -1,104 +1,84 @@
-// EDNS options: tests of their values, which are octets or hexadecimal digits: `hex` says which.
-// The definitions are in specs/.
+// EDNS options: the syntax of their values by their codes, and tests of their octets. The definitions are in specs/.
 #![tactic(auto)]
 
-ghost use Rattle.std.specs.Prelude.{◌≡◌, drop};
+ghost use Rattle.std.specs.Prelude.{◌≡◌};
 ghost use Rattle.octets.specs.Lists.{present?, all};
-ghost use Rattle.hex_or_octets.specs.Either.{octets_in, Spelled};
 ghost use Rattle.spelling.specs.Spelling.{printable?};
+ghost use Rattle.options.specs.Codes.{defined, listed};
 ghost use Rattle.options.specs.Options.{zero?, syntax_of, shape};
-ghost use Rattle.options.specs.Shapes.{expiry_size, cookie_size, error_shape};
 
-use hex_or_octets::{count, octet};
+use hex_or_octets::Octets;
+
+// What the value of an option's member looks like.
+#[derive(Clone, Copy, Debug, PartialEq, Eq)]
+pub enum Syntax {
+    HexObject,
+    OctetList,
+    Expiry,
+    HexList,
+    Word,
+    Padding,
+    WordList,
+    ExtendedError,
+}
+
+impl Syntax {
+    // The syntax of an option's value, if the table has a row of its code.
+    #[tactic(auto, unfolding(octets::specs::Lists::lookup, crate::specs::Options::rows, crate::specs::Options::syntax_of))]
+    pub fn of(code: u32) -> Option<Syntax>
+        ensures { listed result ≡ syntax_of code }
+    {
+        match code {
+            3 => Some(Syntax::HexObject),
+            5 | 6 | 7 => Some(Syntax::OctetList),
+            9 => Some(Syntax::Expiry),
+            10 => Some(Syntax::HexList),
+            11 => Some(Syntax::Word),
+            12 => Some(Syntax::Padding),
+            14 => Some(Syntax::WordList),
+            15 => Some(Syntax::ExtendedError),
+            _ => None,
+        }
+    }
+
+    // Whether a value has the shape of this syntax.
+    #[tactic(auto, using(crate::specs::Codes::shape_test))]
+    pub fn takes<O: Octets>(self, value: O) -> bool
+        ensures { result ≡ present? (shape (defined self) (O.octets value)) }
+    {
+        let size = value.count();
+        match self {
+            Syntax::HexObject | Syntax::OctetList | Syntax::Padding => true,
+            // no octets, or four
+            Syntax::Expiry => matches!(size, 0 | 4),
+            // 8 octets, or 16 to 40
+            Syntax::HexList => matches!(size, 8 | 16..=40),
+            Syntax::Word => size == 2,
+            Syntax::WordList => size % 2 == 0,
+            // two octets and text
+            Syntax::ExtendedError => size >= 2 && is_text(value.after(2)),
+        }
+    }
+}
+
+// Every octet is 0x20 to 0x7E.
+fn is_text<O: Octets>(text: O) -> bool
+    ensures { result ≡ all printable? (O.octets text) }
+{
+    text.iter().all(|x| matches!(x, 0x20..=0x7E))
+}
 
 // Every octet is zero.
-pub fn all_zero(s: &[u8], hex: bool) -> bool
-    requires { Spelled hex s.now }
-    ensures { result ≡ all zero? (octets_in hex s.now) }
+pub fn all_zero<O: Octets>(value: O) -> bool
+    ensures { result ≡ all zero? (O.octets value) }
 {
-    let size = count(s, hex);
-    let mut i = 0;
-    while i < size {
-        let x = octet(s, hex, i);
-        if x != 0 {
-            return false;
-        }
-        i += 1;
-    }
-    true
-}
-
-// Every octet after the first two is 0x20 to 0x7E.
-fn is_text(s: &[u8], hex: bool) -> bool
-    requires { Spelled hex s.now }
-    ensures { result ≡ all printable? (drop 2 (octets_in hex s.now)) }
-{
-    let size = count(s, hex);
-    let mut i = 2;
-    while i < size {
-        let x = octet(s, hex, i);
-        if x < 32 {
-            return false;
-        }
-        if x > 126 {
-            return false;
-        }
-        i += 1;
-    }
-    true
-}
-
-// EXPIRE: no octets, or four.
-fn is_expiry(size: usize) -> bool
-    ensures { result ≡ expiry_size size }
-{
-    if size == 0 {
-        return true;
-    }
-    size == 4
-}
-
-// COOKIE: 8 octets, or 16 to 40.
-fn is_cookie(size: usize) -> bool
-    ensures { result ≡ cookie_size size }
-{
-    if size == 8 {
-        return true;
-    }
-    if size < 16 {
-        return false;
-    }
-    size <= 40
-}
-
-// EDE: two octets and text.
-fn is_error(s: &[u8], hex: bool) -> bool
-    requires { Spelled hex s.now }
-    ensures { result ≡ error_shape (octets_in hex s.now) }
-{
-    if count(s, hex) < 2 {
-        return false;
-    }
-    is_text(s, hex)
+    value.iter().all(|x| x == 0)
 }
 
 // Whether the value of an option has the shape that the table gives to its code.
-pub fn has_shape(code: u32, s: &[u8], hex: bool) -> bool
-    requires { Spelled hex s.now }
-    ensures { result ≡ present? (shape (syntax_of code) (octets_in hex s.now)) }
+#[tactic(auto, using(crate::specs::Shapes::syntax_none))]
+pub fn has_shape<O: Octets>(code: u32, value: O) -> bool
+    ensures { result ≡ present? (shape (syntax_of code) (O.octets value)) }
 {
-    let size = count(s, hex);
-    match code {
-        3 => true,
-        5 => true,
-        6 => true,
-        7 => true,
-        9 => is_expiry(size),
-        10 => is_cookie(size),
-        11 => size == 2,
-        12 => true,
-        14 => size % 2 == 0,
-        15 => is_error(s, hex),
-        _ => false,
-    }
+    Syntax::of(code).is_some_and(|syntax| syntax.takes(value))
 }

@@ -1,17 +1,13 @@
-use Rattle.options.proofs.Every.{zero_is, zero_not}
-use Rattle.octets.specs.Loops.{remains_start}
-use Rattle.hex_or_octets.proofs.Every.{rest_next, rest_fails, rest_ends}
-use borrow.Author.Rules.{rules}
+-- `options::all_zero` meets its contract: each octet is tested.
+use Rattle.std.proofs.Common.{◌∙◌, ap, rules, tests}
+use Rattle.std.proofs.lemmas.Iterator.Consumers.{YieldsList-from_first}
+use Rattle.std.proofs.lemmas.Iterator.Search.{all_from_yields_List}
+use Rattle.hex_or_octets.proofs.Every.{every}
+use Rattle.options.specs.Options.{zero?}
 use Rattle.options.proofs.all_zero.Goals as goal
 
-pub loop-i-init : goal.loop-i-init
-loop-i-init c = remains_start
-
-pub returns-then-x-ne0 : goal.returns-then-x-ne0
-returns-then-x-ne0 c = search (rest_fails, zero_not, rules)
-
-pub loop-i-preserved : goal.loop-i-preserved
-loop-i-preserved c = search (rest_next, zero_is, rules)
-
 pub returns : goal.returns
-returns c = search (rest_ends, rules)
+returns g c =
+    all_from_yields_List zero? _ _ _ c.all.ensures.ran
+    (YieldsList-from_first (λ x. x) (λ s. g.O.Octets.octets s.rest) (g.O.Octets.octets c.args.value) (ap g.O.Octets.octets c.iter.ensures))
+    (λ x b q k. search (rules, tests)) ∙ every zero? (g.O.Octets.octets c.args.value)

@@ -1,20 +1,14 @@
-use Rattle.options.proofs.Every.{printable_is, printable_low, printable_high}
-use Rattle.octets.specs.Loops.{remains_start}
-use Rattle.hex_or_octets.proofs.Every.{rest_next, rest_fails, rest_ends}
-use borrow.Author.Rules.{rules}
+-- `options::is_text` meets its contract: each octet is tested.
+use Rattle.std.proofs.Common.{◌∙◌, ap, rules, tests}
+use Rattle.std.proofs.lemmas.Iterator.Consumers.{YieldsList-from_first}
+use Rattle.std.proofs.lemmas.Iterator.Search.{all_from_yields_List}
+use Rattle.hex_or_octets.proofs.Every.{every}
+use Rattle.spelling.specs.Spelling.{printable?}
 use Rattle.options.proofs.is_text.Goals as goal
 
-pub loop-i-init : goal.loop-i-init
-loop-i-init c = remains_start
-
-pub returns-then-x-lt32 : goal.returns-then-x-lt32
-returns-then-x-lt32 c = search (rest_fails, printable_low, rules)
-
-pub returns-then-x-gt126 : goal.returns-then-x-gt126
-returns-then-x-gt126 c = search (rest_fails, printable_high, rules)
-
-pub loop-i-preserved : goal.loop-i-preserved
-loop-i-preserved c = search (rest_next, printable_is, rules)
-
 pub returns : goal.returns
-returns c = search (rest_ends, rules)
+unfolding printable?
+returns g c =
+    all_from_yields_List printable? _ _ _ c.all.ensures.ran
+    (YieldsList-from_first (λ x. x) (λ s. g.O.Octets.octets s.rest) (g.O.Octets.octets c.args.text) (ap g.O.Octets.octets c.iter.ensures))
+    (λ x b q k. search (rules, tests)) ∙ every printable? (g.O.Octets.octets c.args.text)
