@@ -3,54 +3,34 @@ use mathlib.Core.Path.{◌≡◌, refl, sym, ap, ◌∙◌, subst}
 use mathlib.Core.Bool.{Bool, true, false, cond}
 use mathlib.Core.Option.{Option, none, some}
 use mathlib.Core.List.{List, [], ◌∷◌, ◌++◌, append_assoc}
-use Prim.Native.Nat.{ℕ, ◌+◌, ◌-◌, ◌*◌, ◌≤◌, ◌<◌}
+use Prim.Native.Nat.{ℕ, ◌+◌, ◌*◌, ◌≤◌, ◌<◌}
 use native.Mathlib.Omega.{arith}
 use borrow.Author.Tests.{ne_eqb}
 use lib.Dec.{ltb}
-use lib.ListN.{length, take, drop, length-take}
+use lib.ListN.{length, drop, length-take}
 use lib.Seq.{take-append_seam, drop-append_seam}
 use Rattle.octets.specs.Lists.{ascii, ended}
 use Rattle.octets.specs.Fields.{be16_at, be32_at}
-use Rattle.octets.specs.Overlay.{Wrote, then}
+use Rattle.octets.specs.Writes.{Writes, writes_then}
+use Rattle.octets.specs.declared.writer.Writer.{Writer}
 use Rattle.octets.specs.Decimal.{decimal}
-use Rattle.records.proofs.Told.{form-part, question_told, asks_after, heads_after, heads_inside}
+use Rattle.std.specs.Prelude.{Ok}
+use Rattle.records.proofs.Told.{entry_case}
 use Rattle.names.specs.Name.{Name, name_form, cut, Fault}
-use Rattle.names.specs.Walk.{message, Named, named, faulty, name_at}
+use Rattle.names.specs.Walk.{part, message, Named, named, faulty, name_at}
 use Rattle.names.specs.NameLaws.{Sized, read_sized, named-name, faulty≢named}
-use Rattle.names.specs.declared.Fault.{Fault as FaultRead}
 use Rattle.records.specs.Message.{Question}
+use Rattle.records.specs.declared.Question.{Question as QuestionRead}
 use Rattle.records.specs.Read.{Entry, entry, bad, with_name_lem, first_cut, question_at}
 use Rattle.records.specs.RecordLaws.{bad≢entry, entry_value}
 use Rattle.records.specs.Parts.{fitted, begun, begun_at, question_begun, RecordHead, record_head_at, headed}
-use Rattle.records.specs.Answer.{padded, question_fields, question_read, Asks, Heads}
-use Rattle.records.specs.declared.QuestionFields.{QuestionFields}
-use Rattle.records.specs.declared.RecordFields.{RecordFields}
-use Rattle.records.specs.declared.Question.{Question as QuestionAnswer}
-use Rattle.records.specs.declared.Question.TheVariants as question
-use Rattle.records.specs.declared.Record.{Record as RecordAnswer}
-use Rattle.records.specs.declared.Record.TheVariants as record'
-use Rattle.records.specs.declared.QuestionRead.{QuestionRead}
-use Rattle.spelling.specs.Spelling.{label_text, name_text, signed, signed_text}
+use Rattle.records.specs.Answer.{question_fields, question_read}
+use Rattle.spelling.specs.Spelling.{label_text, name_text}
 use Rattle.spelling.specs.Form.{labels, form_text, within-label}
 use Rattle.json_text.specs.Document.{question_text}
 use Rattle.print_head.specs.Head.{number_text}
-use Rattle.print_entry.specs.Prints.{texts, Readable, readable_value, readable≢bad, Prints, prints_text}
-use Rattle.print_entry.specs.Elements.{start_text, fields_text, question_text_at}
-
--- ---- the first members
-pub wrote_start : (form : List ℕ) (type class : ℕ) {b b₁ b₂ b₃ b₄ : List ℕ} {at r₁ r₂ r₃ r₄ : ℕ}
-    → Wrote b at (ascii "{\"NAME\":") b₁ r₁ → Wrote b₁ r₁ (form_text form) b₂ r₂
-    → Wrote b₂ r₂ (number_text (ascii ",\"TYPE\":") type) b₃ r₃
-    → Wrote b₃ r₃ (number_text (ascii ",\"CLASS\":") class) b₄ r₄ → Wrote b at (start_text form type class) b₄ r₄
-unfolding start_text
-wrote_start form type class p q u v = then (then (then p q) u) v
-
-pub wrote_fields : (form : List ℕ) (type class ttl : ℕ) {b b₁ b₂ b₃ b₄ : List ℕ} {at r₁ r₂ r₃ r₄ : ℕ}
-    → Wrote b at (start_text form type class) b₁ r₁ → Wrote b₁ r₁ (ascii ",\"TTL\":") b₂ r₂
-    → Wrote b₂ r₂ (signed_text (signed ttl)) b₃ r₃ → Wrote b₃ r₃ (ascii ",\"RDATAHEX\":") b₄ r₄
-    → Wrote b at (fields_text form type class ttl) b₄ r₄
-unfolding fields_text
-wrote_fields form type class ttl p q u v = then (then (then p q) u) v
+use Rattle.print_entry.specs.Prints.{texts, Readable, readable_value, Prints, prints_text}
+use Rattle.print_entry.specs.Elements.{start_text, question_text_at}
 
 -- ---- names
 -- the text of a name's form, from a length octet on, and the whole
@@ -139,61 +119,34 @@ question_parts : (q : Question) → Sized q.name
 unfolding question_text
 question_parts q h = ap (λ (t : List ℕ). t ++ ascii "}") (front-text q.name q.type q.class h)
 
-module _ (s : List ℕ) (at : ℕ) {r : QuestionRead} (e : r ≡ question_read (question_at s at)) where
-  -- one that is readable has no fault
-  pub question_faultless : {f : FaultRead} → Readable (question_text_at s at) → r.answer ≡ question.Faulty f → ⊥
+module _ (s : List ℕ) (at : ℕ) where
+  -- one that is readable is read
+  pub question_is_read : Readable (question_text_at s at)
+      → (q : QuestionRead) × (question_read (question_at s at) ≡ Ok q)
   unfolding question_text_at
-  question_faultless h p =
-      readable≢bad (readable_value question_text (question_at s at) h) (question_told (question_at s at) e p).1
+  question_is_read h =
+      let k = readable_value question_text (question_at s at) h in
+      (question_fields k.value k.next, ap question_read k.reads)
 
-  pub question_prints : {a : QuestionFields} {b b₁ b₂ : List ℕ} {to n₁ n₂ : ℕ} → r.answer ≡ question.Read a
-      → Wrote b to (start_text (take (a.size - 0) r.name) a.rtype a.class) b₁ n₁ → Wrote b₁ n₁ (125 ∷ []) b₂ n₂
-      → Prints (question_text_at s at) b to b₂ a.next n₂
+  pub question_prints : {a : QuestionRead} {w w₁ w₂ : Writer} → Ok a ≡ question_read (question_at s at)
+      → Writes w (start_text a.name a.rtype a.class) w₁ → Writes w₁ (125 ∷ []) w₂
+      → Prints (question_text_at s at) w w₂ a.next
   unfolding question_text_at
-  question_prints {a} {b} {b₁} {b₂} {to} {n₁} {n₂} p x y = go (question_told (question_at s at) e p) x
-    where
-      go : (z : (q : Question) × (next : ℕ) × (question_at s at ≡ entry q next) × (a ≡ question_fields q next)
-          × (r.name ≡ padded (name_form q.name)))
-          → Wrote b to (start_text (take (a.size - 0) r.name) a.rtype a.class) b₁ n₁
-          → Prints (texts question_text (question_at s at)) b to b₂ a.next n₂
-      go (q, next, u, v, l) =
-          rw u (subst (λ (c : QuestionFields). Wrote b to
-          (start_text (take (c.size - 0) r.name) c.rtype c.class) b₁ n₁
-          → Prints (entry (question_text q) next) b to b₂ c.next n₂) (sym v)
-          λ x. prints_text (rw (question_parts q (question_sized s at q next u))
-          (then (rw (form-part (name_form q.name) r.name (length (name_form q.name)) refl l) at x) y)))
+  question_prints {w = w} {w₁ = w₁} {w₂ = w₂} p x y =
+      entry_case question_fields
+      (λ a e. question_at s at ≡ e → Writes w (start_text a.name a.rtype a.class) w₁
+      → Prints (texts question_text e) w w₂ a.next)
+      (λ q next u x. prints_text (rw (question_parts q (question_sized s at q next u)) (writes_then x y)))
+      (question_at s at) p refl x
 
 -- ---- bounds
--- a question's text, by the offset after it
-module _ (x : QuestionAnswer) (at end : ℕ) {a : QuestionFields} (h : Asks x at end) (e : x ≡ question.Read a) where
-  pub question_later : at < a.next
-  question_later = omega (arith, asks_after x at end h e)
-
-  pub question_place : (to : ℕ) {b b' : List ℕ} {n₁ n₂ : ℕ} → n₁ ≤ to + 1326 → Wrote b n₁ (125 ∷ []) b' n₂
-      → n₂ + 4096 * at < to + 4096 * a.next
-  question_place to k w = omega (arith, w.place, asks_after x at end h e)
-
--- a record's
-module _ (x : RecordAnswer) (at end : ℕ) {a : RecordFields} (h : Heads x at end) (e : x ≡ record'.Read a) where
-  pub record_fits : end ≤ 65535 → a.rdata + a.rdlength < 18446744073709551616
-  record_fits k = omega (arith, heads_inside x at end h e)
-
-  pub record_later : at < a.rdata + a.rdlength
-  record_later = omega (arith, heads_after x at end h e)
-
-  pub record_place : (to : ℕ) {n : ℕ} → n ≤ to + 2419 + 64 * a.rdlength
-      → n + 4096 * at < to + 4096 * (a.rdata + a.rdlength)
-  record_place to k = omega (arith, heads_after x at end h e)
-
 -- RDATA as a part of the message
 module _ (s : List ℕ) (start size : ℕ) where
-  rdata_long : length (take (start + size - start) (drop start s)) ≤ size
-  rdata_long = omega (arith, length-take (start + size - start) (drop start s))
+  rdata_long : length (part s start size) ≤ size
+  rdata_long = omega (arith, length-take size (drop start s))
 
-  pub rdata_short : start + size ≤ length s → length s ≤ 65535
-      → length (take (start + size - start) (drop start s)) < 65536
+  pub rdata_short : start + size ≤ length s → length s ≤ 65535 → length (part s start size) < 65536
   rdata_short h k = omega (arith, rdata_long)
 
-  pub element_place : (to : ℕ) {n : ℕ} → n ≤ to + 128 + 64 * length (take (start + size - start) (drop start s))
-      → n ≤ to + 2419 + 64 * size
+  pub element_place : (to : ℕ) {n : ℕ} → n ≤ to + 128 + 64 * length (part s start size) → n ≤ to + 2419 + 64 * size
   element_place to h = omega (arith, rdata_long)

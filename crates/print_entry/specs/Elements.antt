@@ -1,12 +1,12 @@
 -- The elements of a message's text by the octets of the message: questions and records at their offsets.
-use Rattle.std.specs.Prelude.{Bool, true, ◌&&◌, cond, List, ◌++◌, ℕ, ◌+◌, ◌-◌, ◌%◌, eqb, get_or}
+use Rattle.std.specs.Prelude.{Bool, true, ◌&&◌, cond, List, ◌++◌, ℕ, ◌+◌, ◌%◌, eqb, length, get_or}
 use Rattle.octets.specs.Lists.{ascii}
 use Rattle.octets.specs.Hexadecimal.{hex_text}
 use Rattle.names.specs.Walk.{part}
 use Rattle.records.specs.Layout.{Laid, laid, misfit, rdata_at}
 use Rattle.records.specs.Message.{Record}
 use Rattle.records.specs.Read.{Entry, entry, bad, question_at, record_at}
-use Rattle.records.specs.declared.RecordFields.{RecordFields}
+use Rattle.records.specs.declared.Record.{Record as Head}
 use Rattle.spelling.specs.Spelling.{signed, signed_text}
 use Rattle.spelling.specs.Form.{form_text}
 use Rattle.edns.specs.Element.{shows_edns, element_text}
@@ -37,10 +37,10 @@ hex_of_rdata end (misfit fault) = bad fault
 unfoldable pub rdata_text : List ℕ → ℕ → ℕ → ℕ → Entry (List ℕ)
 rdata_text s type start size = hex_of_rdata (start + size) (rdata_at true s type start size)
 
--- a record as it is, by its owner's form and what the code reads of it before RDATA
-unfoldable pub ordinary_text : List ℕ → List ℕ → RecordFields → Entry (List ℕ)
-ordinary_text s form h =
-    texts (λ t. fields_text form h.rtype h.class h.ttl ++ t ++ ascii "}")
+-- a record as it is, by what the code reads of it before RDATA
+unfoldable pub ordinary_text : List ℕ → Head → Entry (List ℕ)
+ordinary_text s h =
+    texts (λ t. fields_text h.owner h.rtype h.class h.ttl ++ t ++ ascii "}")
     (rdata_text s h.rtype h.rdata h.rdlength)
 
 -- the header's RCODE
@@ -48,18 +48,18 @@ abbrev pub rcode_of : List ℕ → ℕ
 rcode_of s = get_or s 3 0 % 16
 
 -- RDATA as it is in the message
-abbrev pub rdata_of : List ℕ → RecordFields → List ℕ
-rdata_of s h = part s h.rdata (h.rdata + h.rdlength - h.rdata)
+abbrev pub rdata_of : List ℕ → Head → List ℕ
+rdata_of s h = part s h.rdata h.rdlength
 
 -- it is an EDNS element
-unfoldable pub shows? : List ℕ → RecordFields → Bool → Bool
-shows? s h lone = lone && eqb h.rtype 41 && shows_edns (eqb h.size 1) h.ttl (rcode_of s) (rdata_of s h)
+unfoldable pub shows? : List ℕ → Head → Bool → Bool
+shows? s h lone = lone && eqb h.rtype 41 && shows_edns (eqb (length h.owner) 1) h.ttl (rcode_of s) (rdata_of s h)
 
--- a record by its owner's form and what the code reads of it before RDATA: an EDNS element, or as it is
-unfoldable pub shown_text : Bool → List ℕ → List ℕ → RecordFields → Entry (List ℕ)
-shown_text lone s form h =
+-- a record by what the code reads of it before RDATA: an EDNS element, or as it is
+unfoldable pub shown_text : Bool → List ℕ → Head → Entry (List ℕ)
+shown_text lone s h =
     cond (shows? s h lone) (entry (element_text h.class h.ttl (rcode_of s) (rdata_of s h)) (h.rdata + h.rdlength))
-    (ordinary_text s form h)
+    (ordinary_text s h)
 
 -- ---- elements
 unfoldable pub question_text_at : List ℕ → ℕ → Entry (List ℕ)

@@ -1,11 +1,10 @@
 -- What a writer of entries promises, and how one writer follows another.
 use Rattle.std.specs.Prelude.{◌≡◌, refl, List, ◌++◌, ℕ, ◌+◌, ◌*◌, ◌≤◌, ◌<◌}
 use Rattle.std.proofs.Common.{sym, ap, subst}
-use Rattle.octets.specs.Overlay.{Wrote, then}
-use Rattle.octets.specs.Loops.{Continues, continues_start, continues_step}
+use Rattle.octets.specs.Writes.{Writes, writes_then}
+use Rattle.octets.specs.declared.writer.Writer.{Writer}
 use Rattle.records.specs.Read.{Entry, entry, bad}
 use Rattle.records.specs.RecordLaws.{bad≢entry}
-use Rattle.print_entry.specs.declared.Position.{Position}
 
 -- ---- entries with texts
 -- the text of what was read
@@ -36,77 +35,70 @@ pub readable≢bad : {A : Type 0} {e : Entry A} → Readable e → {fault : _} �
 readable≢bad h q = absurd (bad≢entry (subst (λ x. x ≡ entry h.value h.next) q h.reads))
 
 -- ---- what was written
--- The text of an entry, which has no fault, was written at a place of the buffer b: the offset after the entry and the
--- next place.
-pub record Prints (e : Entry (List ℕ)) (b : List ℕ) (to : ℕ) (b' : List ℕ) (at next : ℕ) : Type 0 where
+-- The text of an entry, which has no fault, was written where the writer w was: it is then w', and the entry ends at
+-- the offset `at`.
+pub record Prints (e : Entry (List ℕ)) (w w' : Writer) (at : ℕ) : Type 0 where
   pub text : List ℕ
   pub reads : e ≡ entry text at
-  pub wrote : Wrote b to text b' next
+  pub wrote : Writes w text w'
 
-module _ {b b₁ : List ℕ} {to n₁ : ℕ} {t : List ℕ} (w : Wrote b to t b₁ n₁) where
-  pub prints_text : {at : ℕ} → Prints (entry t at) b to b₁ at n₁
-  prints_text = record { text = t; reads = refl; wrote = w }
+module _ {w w₁ : Writer} {t : List ℕ} (v : Writes w t w₁) where
+  pub prints_text : {at : ℕ} → Prints (entry t at) w w₁ at
+  prints_text = record { text = t; reads = refl; wrote = v }
 
-  module _ {e : Entry (List ℕ)} {b₂ : List ℕ} {at n₂ : ℕ} (p : Prints e b₁ n₁ b₂ at n₂) where
+  module _ {e : Entry (List ℕ)} {w₂ : Writer} {at : ℕ} (p : Prints e w₁ w₂ at) where
     -- after a text
-    pub prints_after : Prints (texts (λ u. t ++ u) e) b to b₂ at n₂
+    pub prints_after : Prints (texts (λ u. t ++ u) e) w w₂ at
     prints_after = record {
       text = t ++ p.text;
       reads = ap (texts (λ u. t ++ u)) p.reads;
-      wrote = then w p.wrote;
+      wrote = writes_then v p.wrote;
     }
 
 -- an entry is written, and then what is read from the offset after it
-module _ (e : Entry (List ℕ)) (f : ℕ → Entry (List ℕ)) {b b₁ : List ℕ} {to at n₁ : ℕ} (p : Prints e b to b₁ at n₁) where
+module _ (e : Entry (List ℕ)) (f : ℕ → Entry (List ℕ)) {w w₁ : Writer} {at : ℕ} (p : Prints e w w₁ at) where
   pub readable_then : Readable (entry_then e f) → Readable (f at)
   readable_then h =
       readable_value (λ u. p.text ++ u) (f at) (subst (λ (x : Entry (List ℕ)). Readable (entry_then x f)) p.reads h)
 
-  pub prints_then : {b₂ : List ℕ} {next n₂ : ℕ} → Prints (f at) b₁ n₁ b₂ next n₂
-      → Prints (entry_then e f) b to b₂ next n₂
-  prints_then {b₂} {next} {n₂} q =
-      subst (λ (x : Entry (List ℕ)). Prints (entry_then x f) b to b₂ next n₂) (sym p.reads)
-      (prints_after p.wrote q)
+  pub prints_then : {w₂ : Writer} {next : ℕ} → Prints (f at) w₁ w₂ next → Prints (entry_then e f) w w₂ next
+  prints_then {w₂} {next} q =
+      subst (λ (x : Entry (List ℕ)). Prints (entry_then x f) w w₂ next) (sym p.reads) (prints_after p.wrote q)
 
 -- ---- what is left to write
--- the buffer and the position after the text of an entry
-abbrev PrintsTo : Entry (List ℕ) → List ℕ → ℕ → List ℕ → Position → Type 0
-PrintsTo e b to b' p = Prints e b to b' p.at p.to
-
--- From the buffer b and the place `next` the rest is left: it has no fault, and to write it is to write the whole.
-pub record PrintLoop (whole : Entry (List ℕ)) (b₀ : List ℕ) (to : ℕ) (left : Entry (List ℕ)) (b : List ℕ)
-    (next : ℕ) : Type 0 where
+-- Where the writer w is the rest is left: it has no fault, and to write it is to write the whole where w₀ was.
+pub record PrintLoop (whole : Entry (List ℕ)) (w₀ : Writer) (left : Entry (List ℕ)) (w : Writer) : Type 0 where
   pub readable : Readable left
-  pub rest : Continues (PrintsTo left b next) (PrintsTo whole b₀ to)
+  pub rest : (w' : Writer) (at : ℕ) → Prints left w w' at → Prints whole w₀ w' at
 
-pub rest_all : {e : Entry (List ℕ)} {b : List ℕ} {to : ℕ} → Readable e → PrintLoop e b to e b to
-rest_all h = record { readable = h; rest = continues_start }
+pub rest_all : {e : Entry (List ℕ)} {w : Writer} → Readable e → PrintLoop e w e w
+rest_all h = record { readable = h; rest = λ w' at p. p }
 
-module _ {whole : Entry (List ℕ)} {b₀ b : List ℕ} {to next : ℕ} where
+module _ {whole : Entry (List ℕ)} {w₀ w : Writer} where
   -- by an equal rest
-  pub rest_same : {e f : Entry (List ℕ)} → e ≡ f → PrintLoop whole b₀ to e b next → PrintLoop whole b₀ to f b next
-  rest_same q r = subst (λ (x : Entry (List ℕ)). PrintLoop whole b₀ to x b next) q r
+  pub rest_same : {e f : Entry (List ℕ)} → e ≡ f → PrintLoop whole w₀ e w → PrintLoop whole w₀ f w
+  rest_same q r = subst (λ (x : Entry (List ℕ)). PrintLoop whole w₀ x w) q r
 
   -- a text of it is written
-  pub rest-text : {e : Entry (List ℕ)} {t b₁ : List ℕ} {n : ℕ} → PrintLoop whole b₀ to (texts (λ u. t ++ u) e) b next
-      → Wrote b next t b₁ n → PrintLoop whole b₀ to e b₁ n
-  rest-text {e} {t} r w =
+  pub rest-text : {e : Entry (List ℕ)} {t : List ℕ} {w₁ : Writer} → PrintLoop whole w₀ (texts (λ u. t ++ u) e) w
+      → Writes w t w₁ → PrintLoop whole w₀ e w₁
+  rest-text {e} {t} r v =
       record {
         readable = readable_value (λ u. t ++ u) e r.readable;
-        rest = continues_step r.rest (record { goes = λ b' p q. prints_after w q });
+        rest = λ w' at q. r.rest w' at (prints_after v q);
       }
 
   -- an entry of it is written
-  pub rest_then : {e : Entry (List ℕ)} (f : ℕ → Entry (List ℕ)) {b₁ : List ℕ} {at n : ℕ}
-      → PrintLoop whole b₀ to (entry_then e f) b next → Prints e b next b₁ at n → PrintLoop whole b₀ to (f at) b₁ n
+  pub rest_then : {e : Entry (List ℕ)} (f : ℕ → Entry (List ℕ)) {w₁ : Writer} {at : ℕ}
+      → PrintLoop whole w₀ (entry_then e f) w → Prints e w w₁ at → PrintLoop whole w₀ (f at) w₁
   rest_then {e} f r p = rest-text (rest_same (ap (λ (x : Entry (List ℕ)). entry_then x f) p.reads) r) p.wrote
 
   -- its last text is written
-  pub rest_end : {t b₁ : List ℕ} {at n : ℕ} → PrintLoop whole b₀ to (entry t at) b next → Wrote b next t b₁ n
-      → Prints whole b₀ to b₁ at n
-  rest_end {b₁ = b₁} {at = at} {n = n} r w = r.rest.goes b₁ (record { at = at; to = n }) (prints_text w)
+  pub rest_end : {t : List ℕ} {w₁ : Writer} {at : ℕ} → PrintLoop whole w₀ (entry t at) w → Writes w t w₁
+      → Prints whole w₀ w₁ at
+  rest_end {w₁ = w₁} {at = at} r v = r.rest w₁ at (prints_text v)
 
 -- ---- bounds
 -- an element from an offset on ends after it, within the message; an octet of it has less than 4,096 octets of text
-abbrev pub Within : Position → ℕ → ℕ → ℕ → Type 0
-Within p at to end = (at < p.at) × (p.at ≤ end) × (p.to + 4096 * at < to + 4096 * p.at)
+abbrev pub Within : ℕ → ℕ → Writer → Writer → ℕ → Type 0
+Within at next w w' end = (at < next) × (next ≤ end) × (w'.to + 4096 * at < w.to + 4096 * next)

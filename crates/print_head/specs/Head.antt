@@ -3,7 +3,8 @@ use Rattle.std.specs.Prelude.{◌≡◌, refl, List, [], ◌∷◌, ◌++◌, �
 use Rattle.std.proofs.Common.{ap, append_assoc}
 use Rattle.octets.specs.Lists.{ascii, row_text}
 use Rattle.octets.specs.Decimal.{decimal}
-use Rattle.octets.specs.Overlay.{Wrote, then}
+use Rattle.octets.specs.Writes.{Writes, writes_then}
+use Rattle.octets.specs.declared.writer.Writer.{Writer}
 use Rattle.json_text.specs.Document.{ad_titles}
 
 -- a member: its name with what is around it, and a number
@@ -48,14 +49,8 @@ unfolding with_low
 low_after [] x = refl
 low_after (y ∷ l) x = ap (λ m. y ∷ m) (low_after l x)
 
--- ---- writing them
-pub wrote_number : (title : List ℕ) (n : ℕ) {b b₁ b₂ : List ℕ} {at r₁ r₂ : ℕ} → Wrote b at title b₁ r₁
-    → Wrote b₁ r₁ (decimal n) b₂ r₂ → Wrote b at (number_text title n) b₂ r₂
+-- ---- a member is written after a text
+pub number_after : (title : List ℕ) {n m : ℕ} {l : List ℕ} {w w₁ w₂ : Writer} → n ≡ m → Writes w l w₁
+    → Writes w₁ (number_text title n) w₂ → Writes w (l ++ title ++ decimal m) w₂
 unfolding number_text
-wrote_number title n p q = then p q
-
--- a member after a text
-pub number_after : (title : List ℕ) {n m : ℕ} {xs b b₁ b₂ : List ℕ} {at r₁ r₂ : ℕ} → n ≡ m → Wrote b at xs b₁ r₁
-    → Wrote b₁ r₁ (number_text title n) b₂ r₂ → Wrote b at (xs ++ title ++ decimal m) b₂ r₂
-unfolding number_text
-number_after title {n} {m} {xs} e p q = rw (← e, append_assoc xs title (decimal n)) (then p q)
+number_after title {n} {m} {l} e p q = rw (← e, append_assoc l title (decimal n)) (writes_then p q)

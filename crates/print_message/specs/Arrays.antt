@@ -1,11 +1,12 @@
 -- Arrays, sections and the whole text of a message by its octets, and the ways of their writers.
 use Rattle.std.specs.Prelude.{◌≡◌, refl, Bool, false, List, [], ◌∷◌, ◌++◌, ℕ, zero, suc, ◌+◌, ◌-◌, ◌*◌, ◌≤◌, ◌<◌, eqb}
-use Rattle.std.proofs.Common.{sym, ap, append_assoc, ne_eqb, eq-eqb}
+use Rattle.std.proofs.Common.{sym, ap, append_assoc, ne_eqb}
 use Rattle.std.proofs.Math.Bool.{true}
 use native.Mathlib.Omega.{arith}
 use Rattle.octets.specs.Lists.{ascii}
 use Rattle.octets.specs.Fields.{be16_at}
-use Rattle.octets.specs.Overlay.{Wrote, nothing}
+use Rattle.octets.specs.Writes.{Writes, writes_none}
+use Rattle.octets.specs.declared.writer.Writer.{Writer}
 use Rattle.records.specs.Read.{Entry, entry, bad}
 use Rattle.print_entry.specs.Prints.{texts, entry_then, Readable, readable_value, readable_first, readable_then}
 use Rattle.print_entry.specs.Prints.{Prints, prints_text, prints_after, prints_then}
@@ -13,7 +14,6 @@ use Rattle.print_entry.specs.Prints.{PrintLoop, rest_all, rest_same, rest_then, 
 use Rattle.print_entry.specs.Elements.{text_at}
 use Rattle.print_entry.specs.declared.Element.{Element}
 use Rattle.print_entry.specs.declared.Element.TheVariants as element
-use Rattle.print_entry.specs.declared.Position.{Position}
 use Rattle.print_message.specs.Head.{head_text_at}
 
 -- ---- arrays
@@ -71,30 +71,20 @@ whole_text lone s = texts (λ t. head_text_at s ++ t) (from_questions lone s 12)
 
 -- ---- bounds
 -- an array's end, within the message: an octet of it has less than 4,096 octets of text, and two are the brackets
-abbrev pub Arrives : Position → ℕ → ℕ → ℕ → Type 0
-Arrives p at to end = (p.at ≤ end) × (p.to + 4096 * at ≤ to + 2 + 4096 * p.at)
+abbrev pub Arrives : ℕ → ℕ → Writer → Writer → ℕ → Type 0
+Arrives at next w w' end = (next ≤ end) × (w'.to + 4096 * at ≤ w.to + 2 + 4096 * next)
 
 -- the offset and the place before a section, by the offset of its count
-abbrev pub Placed : Position → ℕ → ℕ → Type 0
-Placed p end n = (p.at ≤ end) × (p.to ≤ 4096 * p.at + 20 * n)
+abbrev pub Placed : ℕ → Writer → ℕ → ℕ → Type 0
+Placed at w end n = (at ≤ end) × (w.to ≤ 4096 * at + 20 * n)
 
 -- ---- writing an array
--- before an element
-pub comma_first : {first : Bool} {b : List ℕ} {at : ℕ} → first ≡ true → Wrote b at (comma first) b at
-comma_first {b = b} {at = at} e = rw e (nothing b at)
+-- before the element of a turn
+pub comma_first : {i : ℕ} {w : Writer} → i ≤ 0 → Writes w (comma (eqb i 0)) w
+comma_first {i} {w} h = let e : i ≡ 0 = omega arith in rw e (writes_none w)
 
-pub comma-later : {first : Bool} {b b' : List ℕ} {at r : ℕ} → first ≡ false → Wrote b at (44 ∷ []) b' r
-    → Wrote b at (comma first) b' r
-comma-later e w = rw e w
-
-module _ (e : Element) (s : List ℕ) (count at : ℕ) where
-  -- after the bracket all elements are left
-  pub left-all : {b : List ℕ} {to : ℕ} → Readable (array_text e s count at)
-      → PrintLoop (rest_text e s true count at) b to (rest_text e s (eqb count count) count at) b to
-  unfolding array_text
-  left-all h =
-      rest_same (ap (λ (first : Bool). rest_text e s first count at) (sym (eq-eqb count count refl)))
-      (rest_all (readable_value (λ t. (91 ∷ []) ++ t) (rest_text e s true count at) h))
+pub comma-later : {i : ℕ} {w w' : Writer} → 0 < i → Writes w (44 ∷ []) w' → Writes w (comma (eqb i 0)) w'
+comma-later {i} h v = rw (ne_eqb i 0 (λ e. omega arith)) v
 
 -- the first of the rest
 first_rest : (e : Element) (s : List ℕ) (first : Bool) (left from : ℕ) → 0 < left
@@ -104,33 +94,45 @@ unfolding rest_text
 first_rest e s first zero from h = absurd (omega arith)
 first_rest e s first (suc n) from h = let z : suc n - 1 ≡ n = omega arith in rw z
 
-module _ (e : Element) (s : List ℕ) (count at left from : ℕ) {b₀ b : List ℕ} {to next : ℕ}
-    (r : PrintLoop (rest_text e s true count at) b₀ to (rest_text e s (eqb left count) left from) b next) where
-  -- no element is left, and the bracket is there from before the loop
-  pub left_none : {b₋ b₁ : List ℕ} {n₋ n : ℕ} → left ≤ 0 → Wrote b₋ n₋ (91 ∷ []) b₀ to → Wrote b next (93 ∷ []) b₁ n
-      → Prints (array_text e s count at) b₋ n₋ b₁ from n
-  unfolding rest_text array_text
-  left_none h p q =
-      let z : left ≡ 0 = omega arith in
-      prints_after p (rest_end (rest_same (ap (λ (l : ℕ). rest_text e s (eqb left count) l from) z) r) q)
+module _ (e : Element) (s : List ℕ) (count at : ℕ) where
+  -- what is left before a turn
+  abbrev pub ArrayLoop : ℕ → ℕ → Writer → Writer → Type 0
+  ArrayLoop i from w₀ w = PrintLoop (rest_text e s true count at) w₀ (rest_text e s (eqb i 0) (count - i) from) w
 
-  module _ (h : 0 < left) where
-    -- the next element has no fault
-    pub left_readable : Readable (text_at e s from)
-    left_readable =
-        readable_value (λ t. comma (eqb left count) ++ t) (text_at e s from)
-        (readable_first _ (rest_text e s false (left - 1))
-        (rest_same (first_rest e s (eqb left count) left from h) r).readable)
+  -- after the bracket all elements are left
+  pub left-all : {w : Writer} → Readable (array_text e s count at) → ArrayLoop 0 at w w
+  unfolding array_text
+  left-all h =
+      let z : count - 0 ≡ count = omega arith in
+      rw z (rest_all (readable_value (λ t. (91 ∷ []) ++ t) (rest_text e s true count at) h))
 
-    -- one less is left
-    pub left_less : {b₁ b₂ : List ℕ} {n₁ n₂ after : ℕ} → left ≤ count → Wrote b next (comma (eqb left count)) b₁ n₁
-        → Prints (text_at e s from) b₁ n₁ b₂ after n₂
-        → PrintLoop (rest_text e s true count at) b₀ to (rest_text e s (eqb (left - 1) count) (left - 1) after) b₂ n₂
-    left_less {after = after} k p d =
-        let z : eqb (left - 1) count ≡ false = ne_eqb (left - 1) count (λ x. omega arith) in
-        rest_same (ap (λ (first : Bool). rest_text e s first (left - 1) after) (sym z))
-        (rest_then (rest_text e s false (left - 1)) (rest_same (first_rest e s (eqb left count) left from h) r)
-        (prints_after p d))
+  module _ (i from : ℕ) {w₀ w : Writer} (r : ArrayLoop i from w₀ w) where
+    -- no element is left, and the bracket is there from before the loop
+    pub left_none : {w₋ w₁ : Writer} → count ≤ i → Writes w₋ (91 ∷ []) w₀ → Writes w (93 ∷ []) w₁
+        → Prints (array_text e s count at) w₋ w₁ from
+    unfolding rest_text array_text
+    left_none h p q =
+        let z : count - i ≡ 0 = omega arith in
+        prints_after p (rest_end (rest_same (ap (λ (n : ℕ). rest_text e s (eqb i 0) n from) z) r) q)
+
+    module _ (h : i < count) where
+      -- the next element has no fault
+      pub left_readable : Readable (text_at e s from)
+      left_readable =
+          let some : 0 < count - i = omega arith in
+          readable_value (λ t. comma (eqb i 0) ++ t) (text_at e s from)
+          (readable_first _ (rest_text e s false (count - i - 1))
+          (rest_same (first_rest e s (eqb i 0) (count - i) from some) r).readable)
+
+      -- one less is left
+      pub left_less : {w₁ w₂ : Writer} {after : ℕ} → Writes w (comma (eqb i 0)) w₁
+          → Prints (text_at e s from) w₁ w₂ after → ArrayLoop (i + 1) after w₀ w₂
+      left_less {after = after} p d =
+          let some : 0 < count - i = omega arith in
+          let later = ne_eqb (i + 1) 0 (λ x. omega arith) in
+          let z : count - i - 1 ≡ count - (i + 1) = omega arith in
+          rw (later, ← z) (rest_then (rest_text e s false (count - i - 1))
+          (rest_same (first_rest e s (eqb i 0) (count - i) from some) r) (prints_after p d))
 
 -- ---- writing a section
 module _ (s title : List ℕ) (e : Element) (at : ℕ) {n count : ℕ} (c : count ≡ n) where
@@ -138,8 +140,8 @@ module _ (s title : List ℕ) (e : Element) (at : ℕ) {n count : ℕ} (c : coun
   unfolding section_text
   section_readable h = rw c (readable_value (λ t. title ++ t) (array_text e s n at) h)
 
-  pub section_prints : {b b₁ b₂ : List ℕ} {to n₁ n₂ next : ℕ} → Wrote b to title b₁ n₁
-      → Prints (array_text e s count at) b₁ n₁ b₂ next n₂ → Prints (section_text title e s n at) b to b₂ next n₂
+  pub section_prints : {w w₁ w₂ : Writer} {next : ℕ} → Writes w title w₁
+      → Prints (array_text e s count at) w₁ w₂ next → Prints (section_text title e s n at) w w₂ next
   unfolding section_text
   section_prints p d = prints_after p (rw c at d)
 
@@ -151,13 +153,12 @@ module _ (s : List ℕ) (at : ℕ) where
     unfolding front_text
     questions_readable = readable_first (questions_text s at) (answers_text s) h
 
-    pub answers_readable : {b b₁ : List ℕ} {to i n : ℕ} → Prints (questions_text s at) b to b₁ i n
-        → Readable (answers_text s i)
+    pub answers_readable : {w w₁ : Writer} {i : ℕ} → Prints (questions_text s at) w w₁ i → Readable (answers_text s i)
     unfolding front_text
     answers_readable q = readable_then (questions_text s at) (answers_text s) q h
 
-  pub front_prints : {b b₁ b₂ : List ℕ} {to i₁ n₁ i₂ n₂ : ℕ} → Prints (questions_text s at) b to b₁ i₁ n₁
-      → Prints (answers_text s i₁) b₁ n₁ b₂ i₂ n₂ → Prints (front_text s at) b to b₂ i₂ n₂
+  pub front_prints : {w w₁ w₂ : Writer} {i₁ i₂ : ℕ} → Prints (questions_text s at) w w₁ i₁
+      → Prints (answers_text s i₁) w₁ w₂ i₂ → Prints (front_text s at) w w₂ i₂
   unfolding front_text
   front_prints q a = prints_then (questions_text s at) (answers_text s) q a
 
@@ -168,16 +169,16 @@ module _ (lone : Bool) (s : List ℕ) (at : ℕ) where
     unfolding from_authority
     authority_readable = readable_first (authority_text s at) (from_additional lone s) h
 
-    pub additional_readable : {b b₁ : List ℕ} {to i n : ℕ} → Prints (authority_text s at) b to b₁ i n
+    pub additional_readable : {w w₁ : Writer} {i : ℕ} → Prints (authority_text s at) w w₁ i
         → Readable (additional_text lone s i)
     unfolding from_authority
     additional_readable {i = i} u =
         readable_first (additional_text lone s i) (λ next. entry (ascii "}") next)
         (readable_then (authority_text s at) (from_additional lone s) u h)
 
-  pub back_prints : {b b₁ b₂ b₃ : List ℕ} {to i₁ n₁ i₂ n₂ n₃ : ℕ} → Prints (authority_text s at) b to b₁ i₁ n₁
-      → Prints (additional_text lone s i₁) b₁ n₁ b₂ i₂ n₂ → Wrote b₂ n₂ (125 ∷ []) b₃ n₃
-      → Prints (from_authority lone s at) b to b₃ i₂ n₃
+  pub back_prints : {w w₁ w₂ w₃ : Writer} {i₁ i₂ : ℕ} → Prints (authority_text s at) w w₁ i₁
+      → Prints (additional_text lone s i₁) w₁ w₂ i₂ → Writes w₂ (125 ∷ []) w₃
+      → Prints (from_authority lone s at) w w₃ i₂
   unfolding from_authority
   back_prints {i₁ = i₁} u d z =
       prints_then (authority_text s at) (from_additional lone s) u

@@ -4,7 +4,8 @@ use Rattle.std.proofs.Common.{ap}
 use Rattle.octets.specs.Lists.{ascii}
 use Rattle.octets.specs.Fields.{be16_at}
 use Rattle.octets.specs.Decimal.{decimal}
-use Rattle.octets.specs.Overlay.{Wrote, then}
+use Rattle.octets.specs.Writes.{Writes, writes_then}
+use Rattle.octets.specs.declared.writer.Writer.{Writer}
 use Rattle.records.specs.Decode.{header_of}
 use Rattle.json_text.specs.Document.{Document, head_text}
 use Rattle.print_head.specs.Head.{number_text, with_high, with_low, high_text, low_text, high_after, low_after}
@@ -60,9 +61,9 @@ unfolding head_text head_text_at header_of with_high with_low with_counts
 head_parts s = refl
 
 -- ---- writing it
-pub wrote_head : (s : List ℕ) {n : ℕ} {b b₁ b₂ b₃ b₄ : List ℕ} {at r₁ r₂ r₃ r₄ : ℕ} → n ≡ be16_at s 0
-    → Wrote b at (number_text (ascii "{\"ID\":") n) b₁ r₁ → Wrote b₁ r₁ (high_text (get_or s 2 0)) b₂ r₂
-    → Wrote b₂ r₂ (low_text (get_or s 3 0)) b₃ r₃ → Wrote b₃ r₃ (counts_text s) b₄ r₄
-    → Wrote b at (head_text_at s) b₄ r₄
+pub wrote_head : (s : List ℕ) {n : ℕ} {w w₁ w₂ w₃ w₄ : Writer} → n ≡ be16_at s 0
+    → Writes w (number_text (ascii "{\"ID\":") n) w₁ → Writes w₁ (high_text (get_or s 2 0)) w₂
+    → Writes w₂ (low_text (get_or s 3 0)) w₃ → Writes w₃ (counts_text s) w₄ → Writes w (head_text_at s) w₄
 unfolding number_text
-wrote_head s e t u v w = rw (head_parts s, counts_after, low_after, high_after, ← e) (then (then (then t u) v) w)
+wrote_head s e t u v x =
+    rw (head_parts s, counts_after, low_after, high_after, ← e) (writes_then (writes_then (writes_then t u) v) x)

@@ -7,7 +7,8 @@ use mathlib.Core.List.{List, [], ◌∷◌, ◌++◌, map, append_assoc}
 use Prim.Native.Nat.{ℕ, zero, suc, ◌≤◌}
 use Rattle.octets.specs.Lists.{ascii, ended, listed, count}
 use Rattle.octets.specs.Fields.{be16_at}
-use Rattle.octets.specs.Overlay.{Wrote}
+use Rattle.octets.specs.Writes.{Writes}
+use Rattle.octets.specs.declared.writer.Writer.{Writer}
 use Rattle.records.specs.Message.{Record, Message, opt?}
 use Rattle.records.specs.Read.{Entry, entry, bad, Reached, reached, stopped, Section, question_at, record_at, section_at}
 use Rattle.records.specs.Read.{section_from}
@@ -244,13 +245,13 @@ module _ {s : List ℕ} {lone : Bool} (a : AcceptedMessage s lone) where
   front_readable = readable_first (front_text s 12) (from_authority lone s) sections_readable
 
   -- two sections are written, and then the rest
-  module _ {b₁ b₂ : List ℕ} {at n₁ n₂ : ℕ} (p : Prints (front_text s 12) b₁ n₁ b₂ at n₂) where
+  module _ {w₁ w₂ : Writer} {at : ℕ} (p : Prints (front_text s 12) w₁ w₂ at) where
     pub back_readable : Readable (from_authority lone s at)
     back_readable = readable_then (front_text s 12) (from_authority lone s) p sections_readable
 
-    pub accepted_text : {b b₃ : List ℕ} {next n₃ : ℕ} → Wrote b 0 (head_text_at s) b₁ n₁
-        → Prints (from_authority lone s at) b₂ n₂ b₃ next n₃ → Wrote b 0 (profile_text s) b₃ n₃
-    accepted_text {b} {b₃} {next} {n₃} h q =
-        let w : Prints (whole_text lone s) b 0 b₃ next n₃ =
+    pub accepted_text : {w w₃ : Writer} {next : ℕ} → Writes w (head_text_at s) w₁
+        → Prints (from_authority lone s at) w₂ w₃ next → Writes w (profile_text s) w₃
+    accepted_text {w} {w₃} {next} h q =
+        let v : Prints (whole_text lone s) w w₃ next =
         rw (whole_parts lone s) (prints_after h (prints_then (front_text s 12) (from_authority lone s) p q)) in
-        subst (λ (t : List ℕ). Wrote b 0 t b₃ n₃) (entry_value (sym w.reads ∙ whole-text.1)) w.wrote
+        subst (λ (t : List ℕ). Writes w t w₃) (entry_value (sym v.reads ∙ whole-text.1)) v.wrote

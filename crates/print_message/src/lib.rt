@@ -5,127 +5,83 @@ ghost use Rattle.std.specs.Prelude.{◌+◌, ◌*◌, ◌^◌, ◌<◌, ◌≤�
 ghost use Rattle.octets.specs.Fields.{be16_at};
 ghost use Rattle.octets.specs.Overlay.{Wrote};
 ghost use Rattle.print_entry.specs.Prints.{Readable, Prints};
-ghost use Rattle.print_message.specs.Arrays.{comma, array_text, section_text, front_text, from_authority};
-ghost use Rattle.print_message.specs.Arrays.{Arrives, Placed};
+ghost use Rattle.print_message.specs.Arrays.{array_text, section_text, front_text, from_authority, Arrives, Placed};
 ghost use Rattle.print_message.specs.Whole.{profile_text, AcceptedMessage};
 
 use head::put_head;
-use octets::{be16_at, put, put_all};
-use print_entry::{Element, Position, put_element};
+use octets::{Writer, be16_at};
+use print_entry::{Element, put_element};
 
 mod head;
 
-// Writes what is before an element.
-fn put_comma(first: bool, out: &mut [u8], to: usize) -> usize
-    requires { to < 2 ^ 37 }
-    ensures wrote { Wrote out.old to (comma first) out.new result }
-    ensures upper_bound { result ≤ to + 1 }
-{
-    if first {
-        return to;
-    }
-    put(b',', out, to)
-}
-
-// Writes an array of `count` elements without a fault, from the one at an offset on.
-fn put_array(
-    s: &[u8],
-    element: Element,
-    count: u32,
-    at: usize,
-    out: &mut [u8],
-    to: usize,
-) -> Position
-    requires { (12 ≤ length s.now) × (length s.now ≤ 65535) × (at ≤ length s.now) × (to ≤ 4096 * at + 400)
+// Writes an array of `count` elements without a fault, from the one at an offset on, and returns the offset after them.
+fn put_array(s: &[u8], element: Element, count: u32, at: usize, w: &mut Writer) -> usize
+    requires { (12 ≤ length s.now) × (length s.now ≤ 65535) × (at ≤ length s.now) × (w.old.to ≤ 4096 * at + 400)
         × Readable (array_text element s.now count at) }
-    ensures prints { Prints (array_text element s.now count at) out.old to out.new
-        result.at result.to }
-    ensures arrives { Arrives result at to (length s.now) }
+    ensures prints { Prints (array_text element s.now count at) w.old w.new result }
+    ensures arrives { Arrives at result w.old w.new (length s.now) }
 {
-    let mut left = count;
-    let mut from = at;
-    let mut next = put(b'[', out, to);
-    while left > 0 {
-        let place = put_comma(left == count, out, next);
-        let end = put_element(s, element, from, out, place);
-        from = end.at;
-        next = end.to;
-        left -= 1;
+    w.put(b'[');
+    let mut next = at;
+    for turn in 0..count {
+        if turn > 0 {
+            w.put(b',');
+        }
+        next = put_element(s, element, next, w);
     }
-    Position {
-        at: from,
-        to: put(b']', out, next),
-    }
+    w.put(b']');
+    next
 }
 
-// Writes a section's title and array, without a fault, from where the section before it ended; `place` is the offset of
-// its count.
+// Writes a section's title and array, without a fault, from where the section before it ended, and returns the offset
+// where this one ends; `place` is the offset of its count.
 fn put_section(
     s: &[u8],
-    start: Position,
+    at: usize,
     title: &[u8],
     element: Element,
     place: usize,
-    out: &mut [u8],
-) -> Position
+    w: &mut Writer,
+) -> usize
     requires { (12 ≤ length s.now) × (length s.now ≤ 65535) × (length title.now ≤ 18) × (place ≤ 10)
-        × Placed start (length s.now) place
-        × Readable (section_text title.now element s.now (be16_at s.now place) start.at) }
-    ensures prints { Prints (section_text title.now element s.now (be16_at s.now place)
-        start.at) out.old start.to out.new result.at result.to }
-    ensures placed { Placed result (length s.now) (place + 2) }
+        × Placed at w.old (length s.now) place
+        × Readable (section_text title.now element s.now (be16_at s.now place) at) }
+    ensures prints { Prints (section_text title.now element s.now (be16_at s.now place) at) w.old w.new result }
+    ensures placed { Placed result w.new (length s.now) (place + 2) }
 {
     let count = be16_at(s, place);
-    let next = put_all(title, out, start.to);
-    put_array(s, element, count, start.at, out, next)
+    w.put_all(title);
+    put_array(s, element, count, at, w)
 }
 
-// Writes the question and the answer section, without a fault.
-fn put_front(s: &[u8], start: Position, out: &mut [u8]) -> Position
-    requires { (12 ≤ length s.now) × (length s.now ≤ 65535) × Placed start (length s.now) 4
-        × Readable (front_text s.now start.at) }
-    ensures prints { Prints (front_text s.now start.at) out.old start.to
-        out.new result.at result.to }
-    ensures placed { Placed result (length s.now) 8 }
+// Writes the question and the answer section, without a fault, and returns the offset after them.
+fn put_front(s: &[u8], at: usize, w: &mut Writer) -> usize
+    requires { (12 ≤ length s.now) × (length s.now ≤ 65535) × Placed at w.old (length s.now) 4
+        × Readable (front_text s.now at) }
+    ensures prints { Prints (front_text s.now at) w.old w.new result }
+    ensures placed { Placed result w.new (length s.now) 8 }
 {
-    let questions = put_section(s, start, b",\"questionRRs\":", Element::Question, 4, out);
-    put_section(
-        s,
-        questions,
-        b",\"answerRRs\":",
-        Element::Record(false),
-        6,
-        out,
-    )
+    let answers = put_section(s, at, b",\"questionRRs\":", Element::Question, 4, w);
+    put_section(s, answers, b",\"answerRRs\":", Element::Record(false), 6, w)
 }
 
-// Writes the authority and the additional section, without a fault, and the brace.
-fn put_back(s: &[u8], start: Position, lone: bool, out: &mut [u8]) -> Position
-    requires { (12 ≤ length s.now) × (length s.now ≤ 65535) × Placed start (length s.now) 8
-        × Readable (from_authority lone s.now start.at) }
-    ensures { Prints (from_authority lone s.now start.at) out.old start.to
-        out.new result.at result.to }
+// Writes the authority and the additional section, without a fault, and the brace, and returns the offset after them.
+fn put_back(s: &[u8], at: usize, lone: bool, w: &mut Writer) -> usize
+    requires { (12 ≤ length s.now) × (length s.now ≤ 65535) × Placed at w.old (length s.now) 8
+        × Readable (from_authority lone s.now at) }
+    ensures { Prints (from_authority lone s.now at) w.old w.new result }
 {
-    let authority = put_section(
+    let additional = put_section(s, at, b",\"authorityRRs\":", Element::Record(false), 8, w);
+    let end = put_section(
         s,
-        start,
-        b",\"authorityRRs\":",
-        Element::Record(false),
-        8,
-        out,
-    );
-    let additional = put_section(
-        s,
-        authority,
+        additional,
         b",\"additionalRRs\":",
         Element::Record(lone),
         10,
-        out,
+        w,
     );
-    Position {
-        at: additional.at,
-        to: put(b'}', out, additional.to),
-    }
+    w.put(b'}');
+    end
 }
 
 // Writes the text of an accepted message; `lone` says whether its additional section has one TYPE 41 record.
@@ -133,11 +89,9 @@ pub fn put_text(s: &[u8], lone: bool, out: &mut [u8]) -> usize
     requires { AcceptedMessage s.now lone }
     ensures { Wrote out.old 0 (profile_text s.now) out.new result }
 {
-    let head = Position {
-        at: 12,
-        to: put_head(s, out, 0),
-    };
-    let front = put_front(s, head, out);
-    let back = put_back(s, front, lone, out);
-    back.to
+    let mut w = Writer::at(out, 0);
+    put_head(s, &mut w);
+    let authority = put_front(s, 12, &mut w);
+    let _end = put_back(s, authority, lone, &mut w);
+    w.place()
 }

@@ -1,5 +1,6 @@
 -- The text of a name from its octets without pointers.
-use Rattle.std.specs.Prelude.{◌≡◌, refl, cond, List, [], ◌∷◌, ◌++◌, ℕ, zero, suc, T, eqb, length, get_or, take, drop}
+use Rattle.std.specs.Prelude.{◌≡◌, refl, cond, List, [], ◌∷◌, ◌++◌, ℕ, zero, suc, ◌<◌, T, eqb, length, get_or, take}
+use Rattle.std.specs.Prelude.{drop}
 use Rattle.std.proofs.Common.{ap, append_assoc, append-nil, arith, ne_eqb}
 use Rattle.std.proofs.Math.Seq.{take-append_seam, drop-append_seam}
 use Rattle.octets.specs.Lists.{ascii, ended}
@@ -62,7 +63,7 @@ pub form-text : (n : Name) → T (name? n) → form_text (name_form n) ≡ name_
 form-text n h = rw append-nil at (form-text_more n [] h)
 
 -- but for the root alone, the quote and the text from the first length octet on are the whole
-pub form-labels : (s : List ℕ) → (get_or s 0 0 ≡ 0 → ⊥) → form_text s ≡ 34 ∷ labels s
+pub form-labels : (s : List ℕ) → (0 < length s → get_or s 0 0 ≡ 0 → ⊥) → form_text s ≡ 34 ∷ labels s
 unfolding form_text labels
 form-labels [] z = refl
-form-labels (x ∷ s) z = rw (ne_eqb x 0 z)
+form-labels (x ∷ s) z = rw (ne_eqb x 0 (z (omega arith)))

@@ -2,145 +2,110 @@
 #![tactic(auto)]
 
 ghost use Rattle.std.specs.Prelude.{◌≡◌, ◌∷◌, ◌+◌, ◌*◌, ◌^◌, ◌<◌, ◌≤◌, length};
-ghost use Rattle.octets.specs.Overlay.{Wrote};
+ghost use Rattle.octets.specs.Writes.{Writes};
 ghost use Rattle.spelling.specs.Spelling.{three_digits, spelled, label_text, signed, signed_text, string_octet};
 ghost use Rattle.spelling.specs.Spelling.{string_text};
 ghost use Rattle.spelling.specs.Form.{form_text};
 
-use octets::{put, put_all, put_decimal, wide};
+use octets::Writer;
 
 // Writes an octet as `\\DDD`, DDD three decimal digits.
-fn put_digits(x: u8, out: &mut [u8], to: usize) -> usize
-    requires { to < 2 ^ 39 }
-    ensures { Wrote out.old to (92 ∷ 92 ∷ three_digits x) out.new result }
+fn put_digits(x: u8, w: &mut Writer)
+    requires { w.old.to < 2 ^ 39 }
+    ensures { Writes w.old (92 ∷ 92 ∷ three_digits x) w.new }
 {
-    let first = put_all(b"\\\\", out, to);
-    let second = put(48 + x / 100, out, first);
-    let third = put(48 + x / 10 % 10, out, second);
-    put(48 + x % 10, out, third)
+    w.put_all(&[
+        b'\\',
+        b'\\',
+        b'0' + x / 100,
+        b'0' + x / 10 % 10,
+        b'0' + x % 10,
+    ]);
 }
 
-// The width of the spelling of an octet of a label: a dot is `\\.`, a backslash `\\\\`, the quote and every octet outside
-// 0x21 to 0x7E `\\DDD`, any other octet itself.
-fn width(x: u8) -> usize
-    ensures value { result ≡ length (spelled x) }
-    ensures lower_bound { (1 ≤ result) × (result ≤ 5) }
+// Writes an octet of a label: a dot is `\\.`, a backslash `\\\\`, the quote and every octet outside 0x21 to 0x7E
+// `\\DDD`, any other octet itself.
+fn put_spelled(x: u8, w: &mut Writer)
+    requires { w.old.to < 2 ^ 39 }
+    ensures wrote { Writes w.old (spelled x) w.new }
+    ensures upper_bound { w.new.to ≤ w.old.to + 5 }
 {
     match x {
-        b'.' => 3,
-        b'\\' => 4,
-        b'"' | 0..=0x20 | 0x7F..=0xFF => 5,
-        _ => 1,
+        b'.' => w.put_all(b"\\\\."),
+        b'\\' => w.put_all(b"\\\\\\\\"),
+        b'"' | 0..=0x20 | 0x7F..=0xFF => put_digits(x, w),
+        _ => w.put(x),
     }
-}
-
-// Writes an octet of a label.
-fn put_spelled(x: u8, out: &mut [u8], to: usize) -> usize
-    requires { to < 2 ^ 39 }
-    ensures wrote { Wrote out.old to (spelled x) out.new result }
-    ensures upper_bound { result ≤ to + 5 }
-{
-    let w = width(x);
-    if to >= out.len() {
-        return to + w;
-    }
-    if w == 1 {
-        return put(x, out, to);
-    }
-    if x == 46 {
-        return put_all(b"\\\\.", out, to);
-    }
-    if x == 92 {
-        return put_all(b"\\\\\\\\", out, to);
-    }
-    put_digits(x, out, to)
 }
 
 // Writes a label and its dot.
-fn put_label(label: &[u8], out: &mut [u8], to: usize) -> usize
-    requires { to + 5 * length label.now < 2 ^ 39 }
-    ensures wrote { Wrote out.old to (label_text label.now) out.new result }
-    ensures upper_bound { result ≤ to + 5 * length label.now + 1 }
+fn put_label(label: &[u8], w: &mut Writer)
+    requires { w.old.to + 5 * length label.now < 2 ^ 39 }
+    ensures wrote { Writes w.old (label_text label.now) w.new }
+    ensures upper_bound { w.new.to ≤ w.old.to + 5 * length label.now + 1 }
 {
-    let mut next = to;
-    let mut i = 0;
-    while i < label.len() {
-        next = put_spelled(label[i], out, next);
-        i += 1;
+    for &x in label {
+        put_spelled(x, w);
     }
-    put(46, out, next)
+    w.put(b'.');
 }
 
-// Writes the name whose octets without pointers are `form`, in quotes.
-pub fn put_name(form: &[u8], out: &mut [u8], to: usize) -> usize
-    requires { (to < 2 ^ 38) × (length form.now ≤ 255) }
-    ensures wrote { Wrote out.old to (form_text form.now) out.new result }
-    ensures upper_bound { result ≤ to + 1281 }
+// Writes the name whose octets without pointers are `form`, in quotes: each label with its dot, and for the root alone
+// a dot.
+pub fn put_name(form: &[u8], w: &mut Writer)
+    requires { (w.old.to < 2 ^ 38) × (length form.now ≤ 255) }
+    ensures wrote { Writes w.old (form_text form.now) w.new }
+    ensures upper_bound { w.new.to ≤ w.old.to + 1281 }
 {
-    let mut next = put(34, out, to);
-    if form.len() == 0 {
-        return put(34, out, next);
+    w.put(b'"');
+    if let [0, ..] = form {
+        w.put(b'.');
     }
-    if form[0] == 0 {
-        return put_all(b".\"", out, next);
+    let mut left = form;
+    while let [size @ 1.., octets @ ..] = left {
+        let (label, next) = octets.split_at(usize::from(*size).min(octets.len()));
+        put_label(label, w);
+        left = next;
     }
-    let mut i = 0;
-    while i < form.len() {
-        let n = wide(form[i]);
-        if n == 0 {
-            return put(34, out, next);
-        }
-        let start = i + 1;
-        if n > form.len() - start {
-            let last = put_label(&form[start..form.len()], out, next);
-            return put(34, out, last);
-        }
-        let end = start + n;
-        next = put_label(&form[start..end], out, next);
-        i = end;
-    }
-    put(34, out, next)
+    w.put(b'"');
 }
 
 // Writes the 32 bits of a TTL as the number that they are in two's complement.
-pub fn put_signed(n: u32, out: &mut [u8], to: usize) -> usize
-    requires { to < 2 ^ 38 }
-    ensures wrote { Wrote out.old to (signed_text (signed n)) out.new result }
-    ensures upper_bound { result ≤ to + 11 }
+pub fn put_signed(n: u32, w: &mut Writer)
+    requires { w.old.to < 2 ^ 38 }
+    ensures wrote { Writes w.old (signed_text (signed n)) w.new }
+    ensures upper_bound { w.new.to ≤ w.old.to + 11 }
 {
-    if n < 2147483648 {
-        return put_decimal(n, out, to);
+    let ttl = n.cast_signed();
+    if ttl.is_negative() {
+        w.put(b'-');
     }
-    let next = put(45, out, to);
-    put_decimal(4294967295 - n + 1, out, next)
+    w.put_decimal(ttl.unsigned_abs());
 }
 
 // Writes an octet of a string.
-fn put_string_octet(x: u8, out: &mut [u8], to: usize) -> usize
-    requires { to + 2 < 2 ^ 40 }
-    ensures wrote { Wrote out.old to (string_octet x) out.new result }
-    ensures upper_bound { result ≤ to + 2 }
+#[tactic(auto, unfolding(crate::specs::Spelling::string_octet))]
+fn put_string_octet(x: u8, w: &mut Writer)
+    requires { w.old.to + 2 < 2 ^ 40 }
+    ensures wrote { Writes w.old (string_octet x) w.new }
+    ensures upper_bound { w.new.to ≤ w.old.to + 2 }
 {
-    if x == 34 {
-        return put_all(b"\\\"", out, to);
+    match x {
+        b'"' => w.put_all(b"\\\""),
+        b'\\' => w.put_all(b"\\\\"),
+        _ => w.put(x),
     }
-    if x == 92 {
-        return put_all(b"\\\\", out, to);
-    }
-    put(x, out, to)
 }
 
 // Writes a string in quotes.
-pub fn put_string(src: &[u8], out: &mut [u8], to: usize) -> usize
-    requires { to + 2 * length src.now + 2 < 2 ^ 40 }
-    ensures wrote { Wrote out.old to (string_text src.now) out.new result }
-    ensures upper_bound { result ≤ to + 2 * length src.now + 2 }
+pub fn put_string(src: &[u8], w: &mut Writer)
+    requires { w.old.to + 2 * length src.now + 2 < 2 ^ 40 }
+    ensures wrote { Writes w.old (string_text src.now) w.new }
+    ensures upper_bound { w.new.to ≤ w.old.to + 2 * length src.now + 2 }
 {
-    let mut next = put(34, out, to);
-    let mut i = 0;
-    while i < src.len() {
-        next = put_string_octet(src[i], out, next);
-        i += 1;
+    w.put(b'"');
+    for &x in src {
+        put_string_octet(x, w);
     }
-    put(34, out, next)
+    w.put(b'"');
 }

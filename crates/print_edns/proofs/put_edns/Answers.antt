@@ -1,13 +1,15 @@
 -- `print_edns::put_edns` meets its contract: its parts in order.
-use Rattle.print_edns.proofs.Writing.{shows_rise, wrote_element}
 use borrow.Author.Rules.{rules}
+use Rattle.octets.specs.Writes.{writes_as, writes_then}
+use Rattle.print_edns.proofs.Writing.{shows_rise, element_parts}
 use Rattle.print_edns.proofs.put_edns.Goals as goal
 
-pub put_options-next-requires : goal.put_options-next-requires
-put_options-next-requires c = (search rules, search rules, search (shows_rise, rules))
+pub put_options-requires : goal.put_options-requires
+put_options-requires c = (search rules, search rules, search (shows_rise, rules))
 
-pub returns : goal.returns
-returns c = record {
-  wrote = wrote_element _ _ _ _ c.put_head-next.ensures.wrote c.put_all-next.ensures c.put_decimal-next.ensures.wrote c.put_options-next.ensures.wrote c.put_all.ensures;
-  upper_bound = search rules;
-}
+pub returns-clause-wrote : goal.returns-clause-wrote
+returns-clause-wrote c =
+    writes_as (element_parts _ _ _ _)
+    (writes_then c.put_head.ensures.wrote
+    (writes_then c.put_all.ensures
+    (writes_then c.put_decimal.ensures.wrote (writes_then c.put_options.ensures.wrote c.put_all-2.ensures))))

@@ -1,12 +1,17 @@
--- `print_edns::put_options` meets its contract: what is left to write, written from `to` on, makes the whole text.
-use Prim.Native.Nat.{◌+◌, ◌*◌, ◌-◌, ◌≤◌}
+-- `print_edns::put_options` meets its contract: the options that are left divide what is left of RDATA.
+use Prim.Native.Nat.{◌+◌, ◌*◌, ◌≤◌}
 use lib.ListN.{length}
-use Rattle.print_edns.proofs.Writing.{OptionsLoop}
+use Rattle.octets.specs.Writes.{Left}
+use Rattle.edns.specs.Element.{options_text}
+use Rattle.print_edns.proofs.Writing.{Divides}
 use Rattle.print_edns.proofs.put_options.Given as goal
 
-abbrev pub invariant-loop-at : goal.invariant-loop-at
-invariant-loop-at l = (l.at ≤ length l.rdata) × (l.next ≤ l.to + 64 * l.at)
-    × OptionsLoop l.rdata l.initial.out l.to l.out l.next l.at
+abbrev pub invariant-loop-rest : goal.invariant-loop-rest
+invariant-loop-rest l = record {
+  divides : Divides l.rest;
+  left : Left l.fn.w (options_text l.rdata) l.w (options_text l.rest);
+  room : l.w.to + 64 * length l.rest ≤ l.fn.w.to + 64 * length l.rdata;
+}
 
-abbrev pub decreases-loop-at : goal.decreases-loop-at
-decreases-loop-at l = length l.rdata - l.at
+abbrev pub decreases-loop-rest : goal.decreases-loop-rest
+decreases-loop-rest l = length l.rest

@@ -1,22 +1,20 @@
 -- `print_entry::put_element` meets its contract: a question or a record.
 use borrow.Author.Rules.{rules}
-use Rattle.print_entry.proofs.Showing.{question_of, element_question, record_of_lem, element_record}
+use Rattle.print_entry.specs.Elements.{text_at}
 use Rattle.print_entry.proofs.put_element.Goals as goal
 
 pub put_question-requires : goal.put_question-requires
-put_question-requires c = (search rules, search rules, search (question_of, rules))
+unfolding text_at
+put_question-requires c = let h = c.requires in (search rules, search rules, rw c.in-Question.is at c.requires.3)
 
 pub put_record-requires : goal.put_record-requires
-put_record-requires c = (search rules, search rules, search rules, search (record_of_lem, rules))
+unfolding text_at
+put_record-requires c = (search rules, search rules, search rules, rw c.in-Record.is at c.requires.3)
 
-pub returns-in-Question : goal.returns-in-Question
-returns-in-Question c = record {
-  prints = search (element_question, rules);
-  within = search rules;
-}
+pub returns-in-Question-clause-prints : goal.returns-in-Question-clause-prints
+unfolding text_at
+returns-in-Question-clause-prints c = rw c.in-Question.is c.put_question.ensures.prints
 
-pub returns-in-Record : goal.returns-in-Record
-returns-in-Record c = record {
-  prints = search (element_record, rules);
-  within = search rules;
-}
+pub returns-in-Record-clause-prints : goal.returns-in-Record-clause-prints
+unfolding text_at
+returns-in-Record-clause-prints c = rw c.in-Record.is c.put_record.ensures.prints

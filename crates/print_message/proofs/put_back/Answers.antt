@@ -3,8 +3,8 @@ use borrow.Author.Rules.{rules}
 use Rattle.print_message.specs.Arrays.{authority_readable, additional_readable, back_prints}
 use Rattle.print_message.proofs.put_back.Goals as goal
 
-pub put_section-authority-requires : goal.put_section-authority-requires
-put_section-authority-requires c = (
+pub put_section-additional-requires : goal.put_section-additional-requires
+put_section-additional-requires c = (
   search rules,
   search rules,
   search rules,
@@ -13,8 +13,8 @@ put_section-authority-requires c = (
   search (authority_readable, rules),
 )
 
-pub put_section-additional-requires : goal.put_section-additional-requires
-put_section-additional-requires c = (
+pub put_section-end-requires : goal.put_section-end-requires
+put_section-end-requires c = (
   search rules,
   search rules,
   search rules,

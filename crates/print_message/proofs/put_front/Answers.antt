@@ -3,8 +3,8 @@ use borrow.Author.Rules.{rules}
 use Rattle.print_message.specs.Arrays.{questions_readable, answers_readable, front_prints}
 use Rattle.print_message.proofs.put_front.Goals as goal
 
-pub put_section-questions-requires : goal.put_section-questions-requires
-put_section-questions-requires c = (
+pub put_section-answers-requires : goal.put_section-answers-requires
+put_section-answers-requires c = (
   search rules,
   search rules,
   search rules,

@@ -1,10 +1,11 @@
 -- `print_options::put_other` meets its contract: the name with the code, and the value in hexadecimal.
-use borrow.Author.Rules.{rules}
-use Rattle.print_options.specs.Writing.{other_is}
+use Rattle.std.proofs.Common.{append_assoc}
+use Rattle.octets.specs.Writes.{writes_then}
+use Rattle.options.specs.Options.{member_text}
 use Rattle.print_options.proofs.put_other.Goals as goal
 
-pub returns : goal.returns
-returns c = record {
-  wrote = search (other_is, rules);
-  upper_bound = search rules;
-}
+pub returns-clause-wrote : goal.returns-clause-wrote
+unfolding member_text
+returns-clause-wrote c =
+    simp append_assoc
+    (writes_then c.put_all.ensures (writes_then c.put_decimal.ensures.wrote c.put_hex_text.ensures.wrote))

@@ -1,16 +1,14 @@
 -- `print_values::put_error_tail` meets its contract: no text, and text.
 use borrow.Author.Rules.{rules}
-use Rattle.print_values.proofs.Parts.{error_bare, error_text_lem}
+use Rattle.octets.specs.Writes.{writes_as, writes_then}
+use Rattle.print_values.proofs.Parts.{tail_none, tail_some}
 use Rattle.print_values.proofs.put_error_tail.Goals as goal
+use Rattle.print_values.proofs.put_error_tail.Goals.{then-not-is_empty, else-not-is_empty}
 
-pub returns-then-text-eq0 : goal.returns-then-text-eq0
-returns-then-text-eq0 c = record {
-  wrote = search (error_bare, rules);
-  upper_bound = search rules;
-}
-
-pub returns : goal.returns
-returns c = record {
-  wrote = search (error_text_lem, rules);
-  upper_bound = search rules;
-}
+pub returns-clause-wrote : goal.returns-clause-wrote
+returns-clause-wrote c = elim c.if-not-is_empty.branch [
+  | then-not-is_empty w ↦
+      writes_as (tail_some c.args.text.now (search rules))
+      (writes_then w.put_all.ensures (writes_then w.put_string.ensures.wrote (rw w.w-is at c.put.ensures)))
+  | else-not-is_empty w ↦ writes_as (tail_none c.args.text.now (search rules)) (rw w.w-is at c.put.ensures)
+]

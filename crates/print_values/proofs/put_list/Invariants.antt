@@ -1,19 +1,18 @@
--- `print_values::put_list` meets its contract: the first number after the bracket, then one a turn after a comma.
+-- `print_values::put_list` meets its contract: what is left are the numbers of the octets left, and the bracket.
 use mathlib.Core.Path.{◌≡◌}
-use Prim.Native.Nat.{◌≤◌, ◌+◌, ◌*◌, ◌-◌}
-use lib.ListN.{length, drop}
-use Rattle.octets.specs.Overlay.{Wrote}
-use Rattle.octets.specs.Loops.{Continues}
+use Prim.Native.Nat.{◌≤◌, ◌+◌, ◌*◌}
+use lib.ListN.{length}
+use Rattle.std.specs.Slice.Iter.{chunks_exact_rest, chunks_exact_size}
+use Rattle.octets.specs.Lists.{listed}
+use Rattle.octets.specs.Decimal.{decimal}
+use Rattle.octets.specs.Writes.{Left}
 use Rattle.print_values.specs.Entries.{numbers, entries}
 use Rattle.print_values.proofs.put_list.Given as goal
 
-abbrev pub invariant-loop-at : goal.invariant-loop-at
-invariant-loop-at l =
-    (l.at ≤ length l.value)
-    × (l.next ≤ l.to + 4 * l.at)
-    × (length l.out ≡ length l.initial.out)
-    × Continues (Wrote l.out l.next (entries (numbers l.width (drop l.at l.value))))
-    (Wrote l.initial.out l.initial.next (entries (numbers l.width (drop l.width l.value))))
-
-abbrev pub decreases-loop-at : goal.decreases-loop-at
-decreases-loop-at l = length l.value - l.at
+abbrev pub invariant-loop-entry : goal.invariant-loop-entry
+invariant-loop-entry g l = record {
+  size : chunks_exact_size l.entry-iterator ≡ g.row.SIZE;
+  left : Left l.fn.w (listed decimal (numbers g.row.SIZE l.value)) l.w
+      (entries (numbers g.row.SIZE (chunks_exact_rest l.entry-iterator)));
+  room : l.w.to + 4 * length (chunks_exact_rest l.entry-iterator) ≤ l.fn.w.to + 4 * length l.value;
+}

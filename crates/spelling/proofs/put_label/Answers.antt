@@ -1,20 +1,14 @@
 use borrow.Author.Rules.{rules}
-use Rattle.octets.specs.Overlay.{each_start, each_step, same_long, then}
-use Rattle.spelling.proofs.Writing.{wrote_label}
+use Rattle.octets.specs.Writes.{writes_start, writes_step, writes_ended}
+use Rattle.spelling.specs.Spelling.{label_text}
 use Rattle.spelling.proofs.put_label.Goals as goal
 
-pub loop-i-init : goal.loop-i-init
-loop-i-init c = (search rules, search rules, each_start _ _ _)
+pub loop-x-init : goal.loop-x-init
+loop-x-init c = record { wrote = search (writes_start, rules); upper_bound = search rules }
 
-pub loop-i-preserved : goal.loop-i-preserved
-loop-i-preserved c = (search rules, search rules, search (each_step, rules))
+pub loop-x-preserved : goal.loop-x-preserved
+loop-x-preserved c = record { wrote = search (writes_step, rules); upper_bound = search rules }
 
-pub shape_of-out : goal.shape_of-out
-shape_of-out c = same_long
-    (then c.loop-i.invariant.2 c.put.ensures)
-
-pub returns : goal.returns
-returns c = record {
-  wrote = search (wrote_label, rules);
-  upper_bound = search rules;
-}
+pub returns-clause-wrote : goal.returns-clause-wrote
+unfolding label_text
+returns-clause-wrote c = writes_ended _ _ _ _ c.loop-x-test.false c.loop-x.invariant.wrote c.put.ensures

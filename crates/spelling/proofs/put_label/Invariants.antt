@@ -1,14 +1,13 @@
--- `spelling::put_label` meets its contract: after `i` turns the first `i` octets are written.
-use Prim.Native.Nat.{◌≤◌, ◌+◌, ◌*◌, ◌-◌}
-use lib.ListN.{length, take}
+-- `spelling::put_label` meets its contract: the octets up to the loop's are written.
+use Prim.Native.Nat.{◌≤◌, ◌+◌, ◌*◌}
+use lib.ListN.{take}
 use Rattle.octets.specs.Lists.{each}
-use Rattle.octets.specs.Overlay.{Wrote}
+use Rattle.octets.specs.Writes.{Writes}
 use Rattle.spelling.specs.Spelling.{spelled}
 use Rattle.spelling.proofs.put_label.Given as goal
 
-abbrev pub invariant-loop-i : goal.invariant-loop-i
-invariant-loop-i l = (l.i ≤ length l.label) × (l.next ≤ l.to + 5 * l.i)
-    × Wrote l.initial.out l.to (each spelled (take l.i l.label)) l.out l.next
-
-abbrev pub decreases-loop-i : goal.decreases-loop-i
-decreases-loop-i l = length l.label - l.i
+abbrev pub invariant-loop-x : goal.invariant-loop-x
+invariant-loop-x l = record {
+  wrote : Writes l.initial.w (each spelled (take l.x-index l.label)) l.w;
+  upper_bound : l.w.to ≤ l.initial.w.to + 5 * l.x-index;
+}

@@ -1,15 +1,15 @@
--- `spelling::put_name` meets its contract: at each length octet, what is written and the text from there on are the
--- whole.
-use mathlib.Core.Path.{◌≡◌}
-use Prim.Native.Nat.{◌≤◌, ◌+◌, ◌*◌, ◌-◌}
+-- `spelling::put_name` meets its contract: what is left is the text from a length octet on.
+use Prim.Native.Nat.{◌≤◌, ◌+◌, ◌*◌}
 use lib.ListN.{length}
-use Rattle.spelling.proofs.Writing.{Begun}
+use Rattle.octets.specs.Writes.{Left}
+use Rattle.spelling.specs.Form.{labels, form_text}
 use Rattle.spelling.proofs.put_name.Given as goal
 
-abbrev pub invariant-loop-i : goal.invariant-loop-i
-invariant-loop-i l = (l.i ≤ length l.form) × (l.next ≤ l.initial.next + 5 * l.i)
-    × (length l.out ≡ length l.initial.out)
-    × Begun l.form l.initial.out l.initial.next l.out l.next l.i
+abbrev pub invariant-loop-left : goal.invariant-loop-left
+invariant-loop-left l = record {
+  left : Left l.fn.w (form_text l.form) l.w (labels l.left);
+  room : l.w.to + 5 * length l.left ≤ l.fn.w.to + 2 + 5 * length l.form;
+}
 
-abbrev pub decreases-loop-i : goal.decreases-loop-i
-decreases-loop-i l = length l.form - l.i
+abbrev pub decreases-loop-left : goal.decreases-loop-left
+decreases-loop-left l = length l.left

@@ -1,35 +1,22 @@
--- `spelling::put_spelled` meets its contract: past the end nothing is written; else one way for each kind of spelling.
+-- `spelling::put_spelled` meets its contract: one way for each kind of spelling.
 use borrow.Author.Rules.{rules}
-use Rattle.octets.specs.Overlay.{wrote_past}
-use Rattle.spelling.proofs.Writing.{wrote_plain, wrote_dot, wrote_backslash, wrote_other}
+use native.Mathlib.Omega.{arith}
+use Rattle.octets.specs.Writes.{writes_as}
+use Rattle.spelling.specs.Spelling.{plain?, spelled}
+use Rattle.spelling.proofs.Writing.{spelled_plain, spelled_quote, spelled_low, spelled_high}
 use Rattle.spelling.proofs.put_spelled.Goals as goal
 
-pub returns-then-to-out : goal.returns-then-to-out
-returns-then-to-out c = record {
-  wrote = wrote_past _ _ _ c.if-to-out.true (search rules);
-  upper_bound = search rules;
-}
+pub returns-in-46-clause-wrote : goal.returns-in-46-clause-wrote
+unfolding spelled plain?
+returns-in-46-clause-wrote c = rw c.in-46.is c.put_all.ensures
 
-pub returns-then-w-eq1 : goal.returns-then-w-eq1
-returns-then-w-eq1 c = record {
-  wrote = search (wrote_plain, rules);
-  upper_bound = search rules;
-}
+pub returns-in-92-clause-wrote : goal.returns-in-92-clause-wrote
+unfolding spelled plain?
+returns-in-92-clause-wrote c = rw c.in-92.is c.put_all-in-92.ensures
 
-pub returns-then-x-eq46 : goal.returns-then-x-eq46
-returns-then-x-eq46 c = record {
-  wrote = search (wrote_dot, rules);
-  upper_bound = search rules;
-}
+pub returns-in_default-clause-wrote : goal.returns-in_default-clause-wrote
+returns-in_default-clause-wrote c = writes_as (search (spelled_plain, rules)) c.put.ensures
 
-pub returns-then-x-eq92 : goal.returns-then-x-eq92
-returns-then-x-eq92 c = record {
-  wrote = search (wrote_backslash, rules);
-  upper_bound = search rules;
-}
-
-pub returns : goal.returns
-returns c = record {
-  wrote = search (wrote_other, rules);
-  upper_bound = search rules;
-}
+pub returns-in-34-clause-wrote : goal.returns-in-34-clause-wrote
+returns-in-34-clause-wrote c =
+    writes_as (grind (arith, spelled_quote, spelled_low, spelled_high)) c.put_digits.ensures

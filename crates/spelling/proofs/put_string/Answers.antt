@@ -1,19 +1,15 @@
 use borrow.Author.Rules.{rules}
-use Rattle.octets.specs.Overlay.{each_start, each_step, same_long}
-use Rattle.spelling.proofs.Writing.{wrote_string}
+use Rattle.octets.specs.Writes.{writes_start, writes_step, writes_ended, writes_then}
+use Rattle.spelling.specs.Spelling.{string_text}
 use Rattle.spelling.proofs.put_string.Goals as goal
 
-pub loop-i-init : goal.loop-i-init
-loop-i-init c = (search rules, search rules, each_start _ _ _)
+pub loop-x-init : goal.loop-x-init
+loop-x-init c = record { wrote = search (writes_start, rules); upper_bound = search rules }
 
-pub loop-i-preserved : goal.loop-i-preserved
-loop-i-preserved c = (search rules, search rules, search (each_step, rules))
+pub loop-x-preserved : goal.loop-x-preserved
+loop-x-preserved c = record { wrote = search (writes_step, rules); upper_bound = search rules }
 
-pub shape_of-out : goal.shape_of-out
-shape_of-out c = search (same_long c.loop-i.invariant.2, rules)
-
-pub returns : goal.returns
-returns c = record {
-  wrote = search (wrote_string, rules);
-  upper_bound = search rules;
-}
+pub returns-clause-wrote : goal.returns-clause-wrote
+unfolding string_text
+returns-clause-wrote c =
+    writes_then c.put.ensures (writes_ended _ _ _ _ c.loop-x-test.false c.loop-x.invariant.wrote c.put-2.ensures)

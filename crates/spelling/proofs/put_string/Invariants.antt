@@ -1,14 +1,13 @@
--- `spelling::put_string` meets its contract: after `i` turns the first `i` octets are written.
-use Prim.Native.Nat.{◌≤◌, ◌+◌, ◌*◌, ◌-◌}
-use lib.ListN.{length, take}
+-- `spelling::put_string` meets its contract: the octets up to the loop's are written.
+use Prim.Native.Nat.{◌≤◌, ◌+◌, ◌*◌}
+use lib.ListN.{take}
 use Rattle.octets.specs.Lists.{each}
-use Rattle.octets.specs.Overlay.{Wrote}
+use Rattle.octets.specs.Writes.{Writes}
 use Rattle.spelling.specs.Spelling.{string_octet}
 use Rattle.spelling.proofs.put_string.Given as goal
 
-abbrev pub invariant-loop-i : goal.invariant-loop-i
-invariant-loop-i l = (l.i ≤ length l.src) × (l.next ≤ l.initial.next + 2 * l.i)
-    × Wrote l.initial.out l.initial.next (each string_octet (take l.i l.src)) l.out l.next
-
-abbrev pub decreases-loop-i : goal.decreases-loop-i
-decreases-loop-i l = length l.src - l.i
+abbrev pub invariant-loop-x : goal.invariant-loop-x
+invariant-loop-x l = record {
+  wrote : Writes l.initial.w (each string_octet (take l.x-index l.src)) l.w;
+  upper_bound : l.w.to ≤ l.initial.w.to + 2 * l.x-index;
+}
