@@ -1,2 +1,3 @@
 -- Laws that no definition needs.
-pub mod Character
+pub mod Digits
+pub mod Found

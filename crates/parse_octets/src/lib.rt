@@ -4,16 +4,12 @@
 ghost use Rattle.std.specs.Prelude.{◌≡◌, true, false, ◌+◌, ◌-◌, ◌*◌, ◌<◌, ◌≤◌, length};
 ghost use Rattle.spelling.specs.Spelling.{plain?};
 ghost use Rattle.strict.specs.Spelt.{coded?, ddd, escape, spelled_at, bare?, string_at};
-ghost use Rattle.parse_octets.specs.Octet.{Lowest, Highest, LetterAt};
+ghost use Rattle.parse_octets.specs.Octet.{LetterAt, from_to, lowest, highest};
 
-use octets::wide;
-use parse_tokens::octet_at;
-
-// An octet that was read, and the place after it; or the place at which nothing goes on.
+// An octet that was read, and the place after it.
 #[derive(Clone, Copy)]
 pub struct Letter {
     pub at: usize,
-    pub found: bool,
     pub value: u8,
 }
 
@@ -21,256 +17,125 @@ pub struct Letter {
 fn is_plain(x: u8) -> bool
     ensures { result ≡ plain? x }
 {
-    if x < 33 {
-        return false;
-    }
-    if x > 126 {
-        return false;
-    }
-    if x == 34 {
-        return false;
-    }
-    if x == 46 {
-        return false;
-    }
-    if x == 92 {
-        return false;
-    }
-    true
+    matches!(x, 33..=126) && !matches!(x, b'"' | b'.' | b'\\')
 }
 
 // Whether it is an octet that is written `\\DDD`.
-fn is_coded(v: usize) -> bool
-    ensures { result ≡ coded? v }
+fn is_coded(x: u8) -> bool
+    ensures { result ≡ coded? x }
 {
-    if v > 255 {
-        return false;
-    }
-    if is_plain(v as u8) {
-        return false;
-    }
-    if v == 46 {
-        return false;
-    }
-    if v == 92 {
-        return false;
-    }
-    true
+    !is_plain(x) && !matches!(x, b'.' | b'\\')
 }
 
-// The least second digit after the first digit `n`.
-fn lowest_second(n: u8) -> u8
-    ensures { Lowest n result }
+// A digit from `low` to `high`, as its number.
+fn digit(text: &[u8], at: usize, low: u8, high: u8) -> Result<Letter, usize>
+    requires { (at ≤ length text.now) × (48 ≤ low) }
+    ensures { LetterAt (from_to low high) text.now at result }
 {
-    if n == 1 {
-        return 50;
-    }
-    48
-}
-
-// The greatest second digit after the first digit `n`.
-fn highest_second(n: u8) -> u8
-    requires { n < 3 }
-    ensures { Highest n result }
-{
-    if n == 0 {
-        return 51;
-    }
-    if n == 1 {
-        return 57;
-    }
-    53
-}
-
-// The third digit of an octet, after two digits that make `n`.
-fn third_digit(text: &[u8], at: usize, n: u8) -> Letter
-    requires { (at ≤ length text.now) × (n < 26) }
-    ensures { LetterAt (ddd 1 n) text.now at result }
-{
-    let none = Letter {
-        at: at,
-        found: false,
-        value: 0,
-    };
-    let x = octet_at(text, at);
-    if x < 48 {
-        return none;
-    }
-    if x > 57 {
-        return none;
-    }
-    let v = wide(n) * 10 + (wide(x) - 48);
-    if !is_coded(v) {
-        return none;
-    }
-    Letter {
-        at: at + 1,
-        found: true,
-        value: v as u8,
+    match text.get(at) {
+        Some(&x) if low <= x && x <= high => Ok(Letter {
+            at: at + 1,
+            value: x - b'0',
+        }),
+        _ => Err(at),
     }
 }
 
-// The second digit of an octet, after the digit `n`.
-fn second_digit(text: &[u8], at: usize, n: u8) -> Letter
-    requires { (at ≤ length text.now) × (n < 3) }
-    ensures { LetterAt (ddd 2 n) text.now at result }
+// The least and the greatest second digit after a first one, as octets of the text.
+fn seconds(first: u8) -> (u8, u8)
+    ensures { (result.0 ≡ lowest first) × (result.1 ≡ highest first) }
 {
-    let none = Letter {
-        at: at,
-        found: false,
-        value: 0,
-    };
-    let x = octet_at(text, at);
-    let low = lowest_second(n);
-    if x < low {
-        return none;
+    match first {
+        0 => (b'0', b'3'),
+        1 => (b'2', b'9'),
+        _ => (b'0', b'5'),
     }
-    let high = highest_second(n);
-    if x > high {
-        return none;
-    }
-    third_digit(text, at + 1, n * 10 + (x - 48))
 }
 
 // Three digits that make an octet which is written so.
-fn digits(text: &[u8], at: usize) -> Letter
+fn coded(text: &[u8], at: usize) -> Result<Letter, usize>
     requires { at ≤ length text.now }
     ensures { LetterAt (ddd 3 0) text.now at result }
 {
-    let none = Letter {
-        at: at,
-        found: false,
-        value: 0,
-    };
-    let x = octet_at(text, at);
-    if x < 48 {
-        return none;
+    let first = digit(text, at, b'0', b'2')?;
+    let (low, high) = seconds(first.value);
+    let second = digit(text, first.at, low, high)?;
+    let third = digit(text, second.at, b'0', b'9')?;
+    let value = u16::from(first.value) * 100
+        + u16::from(second.value) * 10
+        + u16::from(third.value);
+    match u8::try_from(value) {
+        Ok(value) if is_coded(value) => Ok(Letter {
+            at: third.at,
+            value: value,
+        }),
+        _ => Err(second.at),
     }
-    if x > 50 {
-        return none;
-    }
-    second_digit(text, at + 1, x - 48)
 }
 
 // What follows two backslashes.
-fn escaped(text: &[u8], at: usize) -> Letter
+fn escaped(text: &[u8], at: usize) -> Result<Letter, usize>
     requires { at ≤ length text.now }
     ensures { LetterAt escape text.now at result }
 {
-    let x = octet_at(text, at);
-    if x == b'.' {
-        return Letter {
+    match text.get(at) {
+        Some(b'.') => Ok(Letter {
             at: at + 1,
-            found: true,
             value: b'.',
-        };
+        }),
+        Some(b'\\') => match text.get(at + 1) {
+            Some(b'\\') => Ok(Letter {
+                at: at + 2,
+                value: b'\\',
+            }),
+            _ => Err(at + 1),
+        },
+        _ => coded(text, at),
     }
-    if x == b'\\' {
-        let y = octet_at(text, at + 1);
-        if y != b'\\' {
-            return Letter {
-                at: at + 1,
-                found: false,
-                value: 0,
-            };
-        }
-        return Letter {
-            at: at + 2,
-            found: true,
-            value: b'\\',
-        };
-    }
-    digits(text, at)
 }
 
 // An octet of a label.
-pub fn octet(text: &[u8], at: usize) -> Letter
+pub fn octet(text: &[u8], at: usize) -> Result<Letter, usize>
     requires { at ≤ length text.now }
     ensures { LetterAt spelled_at text.now at result }
 {
-    let x = octet_at(text, at);
-    if is_plain(x) {
-        return Letter {
+    match text.get(at) {
+        Some(&x) if is_plain(x) => Ok(Letter {
             at: at + 1,
-            found: true,
             value: x,
-        };
+        }),
+        Some(b'\\') => match text.get(at + 1) {
+            Some(b'\\') => escaped(text, at + 2),
+            _ => Err(at + 1),
+        },
+        _ => Err(at),
     }
-    if x != b'\\' {
-        return Letter {
-            at: at,
-            found: false,
-            value: 0,
-        };
-    }
-    let second = octet_at(text, at + 1);
-    if second != b'\\' {
-        return Letter {
-            at: at + 1,
-            found: false,
-            value: 0,
-        };
-    }
-    escaped(text, at + 2)
 }
 
 // Whether an octet of a string stands for itself.
-fn is_bare(c: u8) -> bool
-    ensures { result ≡ bare? c }
+fn is_bare(x: u8) -> bool
+    ensures { result ≡ bare? x }
 {
-    if c < 32 {
-        return false;
-    }
-    if c > 126 {
-        return false;
-    }
-    if c == 34 {
-        return false;
-    }
-    if c == 92 {
-        return false;
-    }
-    true
+    matches!(x, 32..=126) && !matches!(x, b'"' | b'\\')
 }
 
 // An octet of a string.
-pub fn char_at(text: &[u8], at: usize) -> Letter
+pub fn char_at(text: &[u8], at: usize) -> Result<Letter, usize>
     requires { at ≤ length text.now }
     ensures { LetterAt string_at text.now at result }
 {
-    let x = octet_at(text, at);
-    if is_bare(x) {
-        return Letter {
+    match text.get(at) {
+        Some(&x) if is_bare(x) => Ok(Letter {
             at: at + 1,
-            found: true,
             value: x,
-        };
-    }
-    if x != b'\\' {
-        return Letter {
-            at: at,
-            found: false,
-            value: 0,
-        };
-    }
-    let y = octet_at(text, at + 1);
-    if y == b'"' {
-        return Letter {
-            at: at + 2,
-            found: true,
-            value: b'"',
-        };
-    }
-    if y == b'\\' {
-        return Letter {
-            at: at + 2,
-            found: true,
-            value: b'\\',
-        };
-    }
-    Letter {
-        at: at + 1,
-        found: false,
-        value: 0,
+        }),
+        Some(b'\\') => match text.get(at + 1) {
+            Some(&x @ (b'"' | b'\\')) => Ok(Letter {
+                at: at + 2,
+                value: x,
+            }),
+            _ => Err(at + 1),
+        },
+        _ => Err(at),
     }
 }

@@ -1,145 +1,102 @@
 -- The code's walk over the pieces of RDATA by itself, without pointers.
 use mathlib.Core.Path.{◌≡◌, refl, sym, ap, ◌∙◌}
 use mathlib.Core.Bool.{Bool, true, false, cond}
+use mathlib.Core.Option.{none, some}
 use mathlib.Core.List.{List, [], ◌∷◌}
 use Prim.Native.Nat.{ℕ, ◌+◌, ◌-◌, ◌≤◌, ◌<◌}
 use native.Mathlib.Nat.{zero-add}
 use native.Mathlib.Omega.{arith}
-use borrow.Author.Tests.{le-leb, lt-leb, le-ltb, lt-ltb, ltb-true, ltb-false}
-use lib.Dec.{leb, ltb}
-use lib.ListN.{length, drop, length-drop}
-use lib.Seq.{drop-drop}
+use borrow.Author.Tests.{le-leb, lt-leb, le-ltb, lt-ltb, ltb-true, ltb-false, ne_eqb, eqb-false}
+use lib.Dec.{leb, ltb, eqb}
+use lib.ListN.{length, drop, drop_of_length-le}
+use Rattle.std.specs.Prelude.{None, Some}
 use Rattle.names.specs.Name.{name_form, surplus}
 use Rattle.names.specs.Walk.{part, rdata, Named, named, faulty, name_from}
-use Rattle.records.specs.Layout.{Piece, fixed, name, Laid, laid, misfit, before, pieces, laid?, rdata_fits?}
-use Rattle.records.specs.Parts.{layout_in, rdata_pieces}
-use Rattle.records.specs.Answer.{piece_read}
-use Rattle.records.proofs.Pieces.{layout_small, layout_head}
-use Rattle.records.specs.declared.Piece.{Piece as PieceRead}
-use Rattle.records.specs.declared.Piece.TheVariants as piece
-use Rattle.parse_rdata.specs.Skipping.{skipped, name_end}
-use Rattle.parse_rdata.specs.declared.Skipped.{Skipped}
-use Rattle.parse_rdata.specs.declared.Skipped.TheVariants.{To, Unfit}
+use Rattle.records.specs.Layout.{Piece, fixed, name, layout_of, Laid, laid, misfit, before, pieces, rdata_at, laid?, rdata_fits?}
+use Rattle.parse_rdata.specs.Skipping.{skipped, name_end, name_ends}
 
 -- what comes before does not matter
 laid_before : (l : List ℕ) (m : Laid) → laid? (before l m) ≡ laid? m
 laid_before l (laid m) = refl
 laid_before l (misfit fault) = refl
 
+-- ---- the whole of RDATA
+-- of a listed TYPE, by its layout
+pub fits_listed : (s : List ℕ) (rtype : ℕ) (l : List Piece) {size : ℕ} {r : Bool} → size ≡ length s → 0 < size
+    → layout_of rtype ≡ some l
+    → r ≡ laid? (pieces false l s 0 (length s) 0) → r ≡ rdata_fits? rtype s
+unfolding rdata_fits? rdata_at
+fits_listed s rtype l e h q p = rw (ne_eqb (length s) 0 (λ z. omega (arith, e)), q, rdata_at, zero-add) p
+
+-- of another TYPE, or of no octets, RDATA fits
+pub fits_plain : (s : List ℕ) (rtype : ℕ) → (0 < length s → layout_of rtype ≡ none) → true ≡ rdata_fits? rtype s
+unfolding rdata_fits? rdata_at
+fits_plain s rtype free = go (eqb (length s) 0) refl
+  where
+    go : (t : Bool) → eqb (length s) 0 ≡ t → true ≡ rdata_fits? rtype s
+    go true z = rw z
+    go false z =
+        let n : 0 < length s = let k = eqb-false (length s) 0 z in omega arith in
+        rw (z, free n, rdata_at)
+
+-- ---- the loop
 -- v is the whole answer, by the pieces from the i-th on, at the place `at`
-pub record FitLoop (s : List ℕ) (rtype size : ℕ) (v : Bool) (i at : ℕ) : Type 0 where
+pub record FitLoop (s : List ℕ) (l : List Piece) (size : ℕ) (v : Bool) (i at : ℕ) : Type 0 where
+  pub within : at ≤ size
   pub long : size ≡ length s
-  pub goes : v ≡ laid? (pieces false (drop i (layout_in rtype size)) s 0 size at)
+  pub goes : v ≡ laid? (pieces false (drop i l) s 0 (length s) at)
 
-pub fits_start : (s : List ℕ) (rtype : ℕ) {size : ℕ} → size ≡ length s → FitLoop s rtype size (rdata_fits? rtype s) 0 0
-unfolding rdata_fits?
-fits_start s rtype e = record { long = e; goes = ap laid? (rdata_pieces false s rtype 0 (length s)) ∙ rw (e, zero-add) }
-
--- ---- the first piece of a layout
-module _ (s : List ℕ) (size at : ℕ) (l : List Piece) where
-  -- whether RDATA from `at` on is what a layout says
-  abbrev fit : List Piece → ℕ → Bool
-  fit m i = laid? (pieces false m s 0 size i)
-
-  -- there is none: RDATA has ended, or not
-  end_fits : l ≡ [] → leb size at ≡ fit l at
+module _ {s : List ℕ} {l : List Piece} {size : ℕ} {v : Bool} {i at : ℕ} (f : FitLoop s l size v i at) where
+  -- after the last piece: RDATA has ended, or not
+  pub fits_end : length l ≤ i → leb size at ≡ v
   unfolding pieces
-  end_fits q = rw q (go (ltb at size) refl)
+  fits_end h = rw (f.long, f.goes, drop_of_length-le l h) (go (ltb at (length s)) refl)
     where
-      go : (b : Bool) → ltb at size ≡ b
-          → leb size at ≡ laid? (cond b (misfit (record { kind = surplus; octet = at })) (laid []))
-      go true h = lt-leb size at (ltb-true at size h)
-      go false h = le-leb size at (ltb-false at size h)
+      go : (b : Bool) → ltb at (length s) ≡ b
+          → leb (length s) at ≡ laid? (cond (ltb at (length s)) (misfit (record { kind = surplus; octet = at })) (laid []))
+      go true h = rw (h, lt-leb (length s) at (ltb-true at (length s) h))
+      go false h = rw (h, le-leb (length s) at (ltb-false at (length s) h))
 
   -- n octets: RDATA ends before them, or not
-  module _ {n : ℕ} (q : l ≡ fixed n ∷ drop 1 l) where
-    short_fits : size < at + n → false ≡ fit l at
+  module _ {n : ℕ} (q : drop i l ≡ fixed n ∷ drop (i + 1) l) where
+    pub fits_short : size - at < n → false ≡ v
     unfolding pieces
-    short_fits h = sym (ap (λ (m : List Piece). fit m at) q ∙ rw (lt-ltb size (at + n) h))
+    fits_short h = sym (f.goes ∙ rw (q, lt-ltb (length s) (at + n) (omega (arith, f.within, f.long))))
 
-    part_fits : at + n ≤ size → fit l at ≡ fit (drop 1 l) (at + n)
+    pub fits_part : n ≤ size - at → FitLoop s l size v (i + 1) (at + n)
     unfolding pieces
-    part_fits h = ap (λ (m : List Piece). fit m at) q
-        ∙ rw (le-ltb size (at + n) h) (laid_before (part s at n) (pieces false (drop 1 l) s 0 size (at + n)))
+    fits_part h =
+        record {
+          within = omega (arith, f.within);
+          long = f.long;
+          goes = f.goes ∙ rw (q, le-ltb (length s) (at + n) (omega (arith, f.within, f.long)))
+              (laid_before (part s at n) (pieces false (drop (i + 1) l) s 0 (length s) (at + n)));
+        }
 
   -- a name: there is none, or it ends at a place
-  module _ (q : l ≡ name ∷ drop 1 l) where
-    name-fit : (w : Named) → name_from s (rdata 0 size) 0 at ≡ w
-        → fit l at ≡ laid? (elim w as
-        (λ x. Laid) [
-          | named labels next ↦ before (name_form labels)
-              (pieces false (drop 1 l) s 0 size next)
-          | faulty fault ↦ misfit fault
-        ])
-    unfolding pieces
-    name-fit w e = ap (λ (m : List Piece). fit m at) q ∙ rw (e, pieces)
-
-    unfit_fits : skipped (name_from s (rdata 0 size) 0 at) ≡ Unfit → false ≡ fit l at
-    unfit_fits k = go (name_from s (rdata 0 size) 0 at) refl k
+  module _ (q : drop i l ≡ name ∷ drop (i + 1) l) where
+    pub fits_unfit : None ≡ name_end s at → false ≡ v
+    unfolding name_end pieces
+    fits_unfit k = go (name_from s (rdata 0 (length s)) 0 at) refl k
       where
-        go : (w : Named) → name_from s (rdata 0 size) 0 at ≡ w → skipped w ≡ Unfit → false ≡ fit l at
-        go (named n next) e h = let z : ◌≡◌ {A = ℕ} 0 1 = cc in absurd (omega arith)
-        go (faulty fault) e h = sym (name-fit (faulty fault) e)
+        go : (w : Named) → name_from s (rdata 0 (length s)) 0 at ≡ w → None ≡ skipped w → false ≡ v
+        go (named n next) e h = cc
+        go (faulty fault) e h = sym (f.goes ∙ rw (q, e, pieces))
 
-    name_fits : (next : ℕ) → skipped (name_from s (rdata 0 size) 0 at) ≡ To next → fit l at ≡ fit (drop 1 l) next
-    name_fits next k = go (name_from s (rdata 0 size) 0 at) refl k
+    pub fits_name : (next : ℕ) → Some next ≡ name_end s at → FitLoop s l size v (i + 1) next
+    unfolding name_end pieces
+    fits_name next k =
+        record {
+          within = omega (arith, f.long, name_ends s at k);
+          long = f.long;
+          goes = f.goes ∙ rw q (go (name_from s (rdata 0 (length s)) 0 at) refl k);
+        }
       where
-        go : (w : Named) → name_from s (rdata 0 size) 0 at ≡ w → skipped w ≡ To next → fit l at ≡ fit (drop 1 l) next
-        go (named n i) e h =
-            let same : i ≡ next = cc in
-            name-fit (named n i) e ∙ laid_before (name_form n) (pieces false (drop 1 l) s 0 size i)
-            ∙ ap (fit (drop 1 l)) same
-        go (faulty fault) e h = let z : ◌≡◌ {A = ℕ} 0 1 = cc in absurd (omega arith)
-
--- ---- the ways of the code
-module _ {s : List ℕ} {rtype size : ℕ} {v : Bool} {i at : ℕ} (f : FitLoop s rtype size v i at) {p : PieceRead}
-    (e : p ≡ piece_read (drop i (layout_in rtype size))) where
-  -- the pieces after the i-th
-  behind : {next : ℕ} → v ≡ laid? (pieces false (drop 1 (drop i (layout_in rtype size))) s 0 size next)
-      → FitLoop s rtype size v (i + 1) next
-  behind {next} h = record {
-    long = f.long;
-    goes = h ∙ ap (λ (m : List Piece). laid? (pieces false m s 0 size next))
-        (drop-drop 1 i (layout_in rtype size));
-  }
-
-  -- only the first three pieces are there
-  some : 1 ≤ length (drop i (layout_in rtype size)) → i < 3
-  some h =
-      let k = layout_small rtype size in
-      omega (arith, k.0, length-drop i (layout_in rtype size))
-
-  -- after the last piece
-  pub fits_end : p ≡ piece.End → leb size at ≡ v
-  fits_end q = end_fits s size at _ (layout_head _ piece.End (sym q ∙ e)) ∙ sym f.goes
-
-  module _ {n : ℕ} (q : p ≡ piece.Fixed n) where
-    octets : drop i (layout_in rtype size) ≡ fixed n ∷ drop 1 (drop i (layout_in rtype size))
-    octets = layout_head _ (piece.Fixed n) (sym q ∙ e)
-
-    pub fits_some : i < 3
-    fits_some = some (omega (arith, ap length octets))
-
-    pub fits_short : at ≤ size → size - at < n → false ≡ v
-    fits_short h k = short_fits s size at _ octets (omega arith) ∙ sym f.goes
-
-    pub fits_part : at ≤ size → n ≤ size - at → FitLoop s rtype size v (i + 1) (at + n)
-    fits_part h k = behind (f.goes ∙ part_fits s size at _ octets (omega arith))
-
-  module _ (q : p ≡ piece.Name) where
-    naming : drop i (layout_in rtype size) ≡ name ∷ drop 1 (drop i (layout_in rtype size))
-    naming = layout_head _ piece.Name (sym q ∙ e)
-
-    pub fits_named : i < 3
-    fits_named = some (omega (arith, ap length naming))
-
-    module _ {r : Skipped} (k : r ≡ name_end s at) where
-      same : r ≡ skipped (name_from s (rdata 0 size) 0 at)
-      unfolding name_end
-      same = k ∙ rw f.long
-
-      pub fits_unfit : r ≡ Unfit → false ≡ v
-      fits_unfit h = unfit_fits s size at _ naming (sym same ∙ h) ∙ sym f.goes
-
-      pub fits_name : {next : ℕ} → r ≡ To next → FitLoop s rtype size v (i + 1) next
-      fits_name {next} h = behind (f.goes ∙ name_fits s size at _ naming next (sym same ∙ h))
+        go : (w : Named) → name_from s (rdata 0 (length s)) 0 at ≡ w → Some next ≡ skipped w
+            → laid? (pieces false (name ∷ drop (i + 1) l) s 0 (length s) at)
+            ≡ laid? (pieces false (drop (i + 1) l) s 0 (length s) next)
+        go (named n j) e h =
+            let same : j ≡ next = cc in
+            rw (e, pieces) (laid_before (name_form n) (pieces false (drop (i + 1) l) s 0 (length s) j))
+            ∙ ap (λ m. laid? (pieces false (drop (i + 1) l) s 0 (length s) m)) same
+        go (faulty fault) e h = cc

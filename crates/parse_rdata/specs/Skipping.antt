@@ -1,37 +1,35 @@
 -- The code's walk over a name in octets by themselves, where no pointer is taken: only the lengths of labels are read.
-use Rattle.std.specs.Prelude.{◌≡◌, refl, List, ℕ, ◌+◌, ◌≤◌, ◌<◌, length, get_or}
+use Rattle.std.specs.Prelude.{◌≡◌, refl, List, ℕ, ◌+◌, ◌≤◌, ◌<◌, length, get_or, Option, None, Some}
 use Rattle.std.proofs.Common.{sym, ap, ◌∙◌, arith}
 use Rattle.octets.specs.Loops.{Remains}
 use Rattle.names.specs.Walk.{part, rdata, Named, named, faulty, labelled, name_from}
 use Rattle.names.specs.NameLaws.{read_sized}
 use Rattle.names.specs.Steps.{walk_on, name-walk, LengthOctet, step_past, step_root, step_cut, step_long, step_label}
 use Rattle.names.specs.Steps.{step_none}
-use Rattle.parse_rdata.specs.declared.Skipped.{Skipped}
-use Rattle.parse_rdata.specs.declared.Skipped.TheVariants.{To, Unfit}
 
--- where a name ends, or that there is none
-abbrev pub skipped : Named → Skipped
-skipped (named n next) = To next
-skipped (faulty fault) = Unfit
+-- where a name ends, if there is one
+abbrev pub skipped : Named → Option ℕ
+skipped (named n next) = Some next
+skipped (faulty fault) = None
 
 -- the name at a place of octets by themselves, without pointers
-unfoldable pub name_end : List ℕ → ℕ → Skipped
+unfoldable pub name_end : List ℕ → ℕ → Option ℕ
 name_end s at = skipped (name_from s (rdata 0 (length s)) 0 at)
 
 -- it ends within them
-pub name_ends : (s : List ℕ) (at : ℕ) {r : Skipped} {next : ℕ} → r ≡ name_end s at → r ≡ To next → next ≤ length s
+pub name_ends : (s : List ℕ) (at : ℕ) {next : ℕ} → Some next ≡ name_end s at → next ≤ length s
 unfolding name_end
-name_ends s at {r} {next} p q = go (name_from s (rdata 0 (length s)) 0 at) refl (sym p ∙ q)
+name_ends s at {next} p = go (name_from s (rdata 0 (length s)) 0 at) refl p
   where
-    go : (w : Named) → name_from s (rdata 0 (length s)) 0 at ≡ w → skipped w ≡ To next → next ≤ length s
+    go : (w : Named) → name_from s (rdata 0 (length s)) 0 at ≡ w → Some next ≡ skipped w → next ≤ length s
     go (named n i) e f =
         let same : i ≡ next = cc in
         let k = read_sized s (rdata 0 (length s)) 0 at n i (omega arith) e in
         omega (arith, k.3)
-    go (faulty fault) e f = let z : ◌≡◌ {A = ℕ} 0 1 = cc in absurd (omega arith)
+    go (faulty fault) e f = cc
 
 -- where the walk ends from the length octet at `at` on; `total` counts the octets of the labels so far
-abbrev pub skipped_from : List ℕ → ℕ → ℕ → Skipped
+abbrev pub skipped_from : List ℕ → ℕ → ℕ → Option ℕ
 skipped_from s total at = skipped (walk_on s (rdata 0 (length s)) 0 total at)
 
 pub from_start : (s : List ℕ) (at : ℕ) → Remains (name_end s at) (skipped_from s 0 at)
@@ -43,10 +41,10 @@ skipped-label : (l : List ℕ) (w : Named) → skipped (labelled l w) ≡ skippe
 skipped-label l (named n next) = refl
 skipped-label l (faulty fault) = refl
 
-module _ (s : List ℕ) {v : Skipped} (total at : ℕ) (w : Remains v (skipped_from s total at)) {size : ℕ}
+module _ (s : List ℕ) {v : Option ℕ} (total at : ℕ) (w : Remains v (skipped_from s total at)) {size : ℕ}
     (b : size ≡ length s) where
   -- the length octet is past the end
-  pub skip_past : size ≤ at → Unfit ≡ v
+  pub skip_past : size ≤ at → None ≡ v
   skip_past h = sym (w.goes ∙ ap skipped (step_past s (rdata 0 (length s)) 0 total at (omega arith)))
 
   -- x is the length octet, as a number
@@ -55,21 +53,21 @@ module _ (s : List ℕ) {v : Skipped} (total at : ℕ) (w : Remains v (skipped_f
     here = record { within = omega arith; octet = g ∙ e }
 
     -- the root octet
-    pub skip_root : x ≡ 0 → To (at + 1) ≡ v
+    pub skip_root : x ≡ 0 → Some (at + 1) ≡ v
     skip_root p = sym (w.goes ∙ ap skipped (step_root here 0 total p))
 
     -- top bits 01, 10 or 11
-    pub skip_bits : 63 < x → Unfit ≡ v
+    pub skip_bits : 63 < x → None ≡ v
     skip_bits c = sym (w.goes ∙ ap skipped (step_none here total c).1)
 
     module _ (z : x ≡ 0 → ⊥) (c : x ≤ 63) where
       -- the end comes inside the label
-      pub skip_cut : size < at + (x + 1) → Unfit ≡ v
+      pub skip_cut : size < at + (x + 1) → None ≡ v
       skip_cut i = sym (w.goes ∙ ap skipped (step_cut here 0 total z c (omega arith)))
 
       module _ (i : at + (x + 1) ≤ size) where
         -- the name has over 255 octets
-        pub skip_long : 254 < total + (x + 1) → Unfit ≡ v
+        pub skip_long : 254 < total + (x + 1) → None ≡ v
         skip_long j = sym (w.goes ∙ ap skipped (step_long here 0 total z c (omega arith) j))
 
         -- the walk goes on after the label

@@ -1,106 +1,94 @@
-// RDATA in hexadecimal in place in a text, judged and written without a buffer. The definitions are in specs/.
+// RDATA in place in a text, judged and written without a buffer. The definitions are in specs/.
 #![tactic(auto)]
 
-ghost use Rattle.std.specs.Prelude.{◌≡◌, ◌+◌, ◌^◌, ◌<◌, length};
-ghost use Rattle.octets.specs.Lists.{paired};
+ghost use Rattle.std.specs.Prelude.{◌≡◌, ◌+◌, ◌^◌, ◌<◌, false, length, map};
 ghost use Rattle.octets.specs.Overlay.{Wrote};
-ghost use Rattle.hex_or_octets.specs.Digits.{Hexes};
-ghost use Rattle.records.specs.Layout.{rdata_fits?};
+ghost use Rattle.records.specs.Answer.{piece_of};
+ghost use Rattle.records.specs.Layout.{pieces, laid?, rdata_fits?};
 ghost use Rattle.parse_rdata.specs.Skipping.{name_end};
 
-use hex_or_octets::{count, octet};
+use hex_or_octets::Octets;
 use octets::{put, wide};
-use records::{Piece, layout_piece};
+use records::{Piece, layout_of};
 
 // Writes the octets.
-pub fn put_octets(hex: &[u8], out: &mut [u8], to: usize) -> usize
-    requires { Hexes hex.now × (to + length hex.now < 2 ^ 40) }
-    ensures { Wrote out.old to (paired hex.now) out.new result }
+pub fn put_octets<O: Octets>(octets: O, out: &mut [u8], to: usize) -> usize
+    requires { to + length (O.octets octets) < 2 ^ 40 }
+    ensures { Wrote out.old to (O.octets octets) out.new result }
 {
-    let size = count(hex, true);
-    let end = to + size;
     if to >= out.len() {
-        return end;
+        return to + octets.count();
     }
     let mut next = to;
-    let mut i = 0;
-    while i < size {
-        next = put(octet(hex, true, i), out, next);
-        i += 1;
+    for octet in octets.iter() {
+        next = put(octet, out, next);
     }
     next
 }
 
 // ---- RDATA
-// The place after a name, or that there is none.
-#[derive(Clone, Copy)]
-enum Skipped {
-    To(usize),
-    Unfit,
-}
-
-// The end of the name at a place: pointers are not taken. `place` is the length octet, and `total` counts the octets of
-// the labels so far.
-fn skip_name(hex: &[u8], at: usize) -> Skipped
-    requires { Hexes hex.now }
-    ensures { result ≡ name_end (paired hex.now) at }
+// The end of the name at a place, if one is there: pointers are not taken. `place` is the length octet, and `total`
+// counts the octets of the labels so far.
+fn skip_name<O: Octets>(rdata: O, at: usize) -> Option<usize>
+    ensures { result ≡ name_end (O.octets rdata) at }
 {
-    let size = count(hex, true);
+    let size = rdata.count();
     let mut place = at;
     let mut total = 0;
     loop {
         if place >= size {
-            return Skipped::Unfit;
+            return None;
         }
-        let x = wide(octet(hex, true, place));
+        let x = wide(rdata.octet(place));
         if x == 0 {
-            return Skipped::To(place + 1);
+            return Some(place + 1);
         }
         if x > 63 {
-            return Skipped::Unfit;
+            return None;
         }
-        let next = place + (x + 1);
-        if next > size {
-            return Skipped::Unfit;
+        if size - place < x + 1 {
+            return None;
         }
         let more = total + (x + 1);
         if more > 254 {
-            return Skipped::Unfit;
+            return None;
         }
         total = more;
-        place = next;
+        place += x + 1;
     }
 }
 
-// Whether RDATA, without pointers, is what the layout of its TYPE says.
-pub fn fits_layout(rtype: u32, hex: &[u8]) -> bool
-    requires { Hexes hex.now }
-    ensures { result ≡ rdata_fits? rtype (paired hex.now) }
+// Whether RDATA, without pointers, is what a layout says.
+fn follows<O: Octets>(layout: &[Piece], rdata: O) -> bool
+    ensures { result ≡ laid? (pieces false (map piece_of layout.now) (O.octets rdata) 0 (length (O.octets rdata)) 0) }
 {
-    let size = count(hex, true);
-    let mut i = 0;
+    let size = rdata.count();
     let mut at = 0;
-    loop {
-        match layout_piece(rtype, size, i) {
-            Piece::End => {
-                return at >= size;
-            }
+    for piece in layout {
+        match piece {
             Piece::Fixed(n) => {
-                if size - at < n {
+                if size - at < *n {
                     return false;
                 }
-                at += n;
-                i += 1;
+                at += *n;
             }
-            Piece::Name => match skip_name(hex, at) {
-                Skipped::Unfit => {
+            Piece::Name => {
+                let Some(next) = skip_name(rdata, at) else {
                     return false;
-                }
-                Skipped::To(next) => {
-                    at = next;
-                    i += 1;
-                }
-            },
+                };
+                at = next;
+            }
         }
+    }
+    at >= size
+}
+
+// Whether RDATA, without pointers, is what the layout of its TYPE says.
+pub fn fits_layout<O: Octets>(rtype: u32, rdata: O) -> bool
+    ensures { result ≡ rdata_fits? rtype (O.octets rdata) }
+{
+    match layout_of(rtype) {
+        Some(layout) if rdata.count() > 0 => follows(layout, rdata),
+        _ => true,
     }
 }

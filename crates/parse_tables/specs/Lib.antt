@@ -1,3 +1,2 @@
 -- The titles of a text that a table has.
-pub mod Table
 pub mod Rows

@@ -1,70 +1,40 @@
 // The titles of a text that a table has, read as the definitions' parser of the table reads them.
 #![tactic(auto)]
 
-ghost use Rattle.std.specs.Prelude.{◌<◌};
+ghost use Rattle.std.specs.Prelude.{◌<◌, IfOk};
 ghost use Rattle.octets.specs.Codec.{table_parser};
 ghost use Rattle.options.specs.Options.{members};
 ghost use Rattle.edns.specs.Edns.{flags, rcodes};
+ghost use Rattle.edns.specs.Table.{held};
 ghost use Rattle.json_text.specs.Document.{ad_titles};
 ghost use Rattle.parse_tokens.specs.Cursor.{Safe};
-ghost use Rattle.parse_tables.specs.Table.{tried_in};
-ghost use Rattle.parse_tables.specs.Rows.{RowRead};
+ghost use Rattle.parse_tables.specs.Rows.{tried, RowRead};
 
-use edns::rcode_names;
-use octets::wide;
-use parse_tokens::{Cursor, fail_at, furthest_failure, literal};
+use edns::rcode_table;
+use parse_tokens::{Cursor, Stop, literal};
 
-// A title of a table that was read, and its key. On a stop the key is 0.
-#[derive(Clone, Copy)]
-pub struct Row {
-    pub cursor: Cursor,
-    pub key: u32,
-}
-
-// The title of one of a table's rows, tried in order. Where none is there, the reader stops at the furthest place that
-// a row reached. A table has for each row its key, the length of its title, and its title; it ends before a row that is
-// not whole.
-fn row_of(text: &[u8], c: Cursor, table: &[u8]) -> Row
+// The title of one of a table's rows, tried in order, and its key. Where none is there, the reader stops at the furthest
+// place that a row reached.
+#[tactic(auto, using(crate::specs::Rows::row_steps))]
+fn row_of(text: &[u8], c: Cursor, table: &[(u32, &[u8])]) -> Result<(Cursor, u32), Stop>
     requires { Safe text.now c }
-    ensures { RowRead (tried_in table.now) text.now c result }
+    ensures { RowRead (tried (held table.now)) text.now c result }
 {
-    let start = c.at;
-    let mut far = fail_at(c, start);
-    let mut from = 0;
-    loop {
-        if table.len() - from < 2 {
-            return Row {
-                cursor: far,
-                key: 0,
-            };
+    let mut far = c.at;
+    for row in table {
+        match literal(text, c, row.1) {
+            Ok(c) => return Ok((c, row.0)),
+            Err(at) => far = far.max(at),
         }
-        let size = wide(table[from + 1]);
-        let title = from + 2;
-        if table.len() - title < size {
-            return Row {
-                cursor: far,
-                key: 0,
-            };
-        }
-        let next = title + size;
-        let d = literal(text, c, &table[title..next]);
-        if d.grammatical {
-            return Row {
-                cursor: d,
-                key: wide(table[from]) as u32,
-            };
-        }
-        far = furthest_failure(far, d.at);
-        from = next;
     }
+    Err(far)
 }
 
 // FLAGS by the DO bit.
-const FLAGS: [u8; 12] = *b"\x00\x02[]\
-    \x01\x06[\"DO\"]";
+static FLAGS: [(u32, &[u8]); 2] = [(0, b"[]"), (1, b"[\"DO\"]")];
 
 // FLAGS.
-pub fn flags(text: &[u8], c: Cursor) -> Row
+pub fn flags(text: &[u8], c: Cursor) -> Result<(Cursor, u32), Stop>
     requires { Safe text.now c }
     ensures { RowRead (table_parser flags) text.now c result }
 {
@@ -72,41 +42,41 @@ pub fn flags(text: &[u8], c: Cursor) -> Row
 }
 
 // AD's titles by Z.
-const AD_TITLES: [u8; 22] = *b"\x00\x06,\"AD\":\
-    \x01\x0C,\"Z\":1,\"AD\":";
+static AD_TITLES: [(u32, &[u8]); 2] = [(0, b",\"AD\":"), (1, b",\"Z\":1,\"AD\":")];
 
 // AD's title, with or without Z's member before it.
-pub fn ad_title(text: &[u8], c: Cursor) -> Row
+pub fn ad_title(text: &[u8], c: Cursor) -> Result<(Cursor, u32), Stop>
     requires { Safe text.now c }
     ensures row_read { RowRead (table_parser ad_titles) text.now c result }
-    ensures key_bound { result.key < 2 }
+    ensures key_bound { IfOk result (λ x. x.1 < 2) }
 {
     row_of(text, c, &AD_TITLES)
 }
 
 // RCODE.
-pub fn rcode(text: &[u8], c: Cursor) -> Row
+pub fn rcode(text: &[u8], c: Cursor) -> Result<(Cursor, u32), Stop>
     requires { Safe text.now c }
     ensures { RowRead (table_parser rcodes) text.now c result }
 {
-    let table = rcode_names();
-    row_of(text, c, &table)
+    row_of(text, c, rcode_table())
 }
 
 // Option names by code.
-const OPTIONS: [u8; 70] = *b"\x03\x04NSID\
-    \x05\x03DAU\
-    \x06\x03DHU\
-    \x07\x03N3U\
-    \x09\x06EXPIRE\
-    \x0A\x06COOKIE\
-    \x0B\x09KEEPALIVE\
-    \x0C\x07PADDING\
-    \x0E\x06KEYTAG\
-    \x0F\x03EDE";
+static OPTIONS: [(u32, &[u8]); 10] = [
+    (3, b"NSID"),
+    (5, b"DAU"),
+    (6, b"DHU"),
+    (7, b"N3U"),
+    (9, b"EXPIRE"),
+    (10, b"COOKIE"),
+    (11, b"KEEPALIVE"),
+    (12, b"PADDING"),
+    (14, b"KEYTAG"),
+    (15, b"EDE"),
+];
 
 // An option's name.
-pub fn option_name(text: &[u8], c: Cursor) -> Row
+pub fn option_name(text: &[u8], c: Cursor) -> Result<(Cursor, u32), Stop>
     requires { Safe text.now c }
     ensures { RowRead (table_parser members) text.now c result }
 {

@@ -1,33 +1,20 @@
 -- Things with a comma before each, or between them, and an octet after the last: how a loop reads them, turn by turn.
-use Rattle.std.specs.Prelude.{◌≡◌, refl, Bool, true, false, not, List, [], ◌∷◌, ◌++◌, ℕ, ◌+◌, ◌-◌, ◌≤◌, ◌<◌, length, drop, get_or}
+use Rattle.std.specs.Prelude.{◌≡◌, refl, Bool, true, false, List, [], ◌∷◌, ◌++◌, ℕ, ◌+◌, ◌-◌, ◌≤◌, ◌<◌, length, drop, get_or, Ok, Err}
 use Rattle.std.proofs.Common.{sym, ◌∙◌, ap, append_assoc, append-nil, arith, eq-eqb, length-append, length-drop}
-use Rattle.std.proofs.lemmas.Bool.{not-true, not-false}
 use Rattle.octets.specs.Parsed.{Parsed, parsed, failed, and_then, otherwise, strip, is_failed, strip_sound}
 use Rattle.octets.specs.Codec.{Avoids, Codec, exact, ◌▷◌}
 use Rattle.octets.specs.Fields.{drop_one}
 use Rattle.parse_tokens.specs.declared.Cursor.{Cursor}
-use Rattle.parse_tokens.specs.Cursor.{left_of_lem, Safe, Keeps, Advanced, went_keeps, keeps_same, Passed}
-use Rattle.parse_tokens.specs.Cursor.{reads_parsed}
-use Rattle.parse_tokens.specs.Cursor.{reads_stop, reads_got, reads_bad, Got}
-use Rattle.parse_tokens.specs.Step.{Found, Moves, moves, moves_then, found_there}
-use Rattle.parse_tokens.specs.Place.{Byte, inside, no_strip}
+use Rattle.parse_tokens.specs.Cursor.{Safe, Moves, moves_then, Alike, Advanced, went_keeps, keeps_same}
+use Rattle.parse_tokens.specs.Cursor.{reads_parsed, reads_stop, reads_got, reads_bad, Got}
+use Rattle.parse_tokens.specs.Step.{Found}
+use Rattle.parse_tokens.specs.Place.{At, no_strip}
 use Rattle.parse_tokens.specs.Many.{run_of, going_start, going_end, going_more, going_stop}
 
 -- what comes before an item: the first has no comma
 abbrev pub comma_of : Bool → List ℕ
 comma_of true = []
 comma_of false = 44 ∷ []
-
-pub comma_none : {first : Bool} {t : List ℕ} {c : Cursor} → first ≡ true → Safe t c → Passed (comma_of first) t c c
-comma_none {first} {t} {c} e h = rw e record { left = go c.grammatical; keeps = keeps_same h }
-  where
-    go : (b : Bool) → left_of_lem b (drop c.at t) ≡ and_then (left_of_lem b (drop c.at t)) (λ u w. parsed tt w)
-    go true = refl
-    go false = refl
-
-pub comma_some : {first : Bool} {t : List ℕ} {c r : Cursor} → first ≡ false → Passed (44 ∷ []) t c r
-    → Passed (comma_of first) t c r
-comma_some e q = rw e q
 
 module _ {A : Type 0} {I : A → Type 0} {f : A → List ℕ} {F : List ℕ → Type 0} (p : Codec I f F) (stop : ℕ) where
   -- a comma before each
@@ -51,8 +38,7 @@ module _ {A : Type 0} {I : A → Type 0} {f : A → List ℕ} {F : List ℕ → 
       (first : Bool) : Type 0 where
     pub l : List A
     pub goes : part_of start (drop c.at t) ≡ and_then (part_of first (drop d.at t)) (λ u r. parsed (l ++ u) r)
-    pub grammatical : d.grammatical ≡ true
-    pub moves : Moves t c d
+    pub moves : Moves t (Ok c) (Ok d)
     pub holds : Q l
 
 module _ {A : Type 0} {I : A → Type 0} {f : A → List ℕ} {F : List ℕ
@@ -78,11 +64,11 @@ module _ {A : Type 0} {I : A → Type 0} {f : A → List ℕ} {F : List ℕ
       go (failed w) = refl
   next_at false at n a e = (going_more ("," ▷ p) stop apart refl (going_start (more_of p stop) t at) {n = n} e).goes
 
-  stuck_at : (first : Bool) (at x : ℕ) (w : List ℕ) → Byte t at x → (x ≡ stop → ⊥)
+  stuck_at : (first : Bool) (at : ℕ) (w : List ℕ) → (At t at stop → ⊥)
       → item_of p stop first (drop at t) ≡ failed w → part_of p stop first (drop at t) ≡ failed w
-  stuck_at true at x w k d e = rw (no_strip stop [] k d, e)
-  stuck_at false at x w k d e =
-      going_stop ("," ▷ p) stop apart refl (going_start (more_of p stop) t at) (λ z. d (k.is ∙ z)) e
+  stuck_at true at w d e = rw (no_strip stop [] d, e)
+  stuck_at false at w d e =
+      going_stop ("," ▷ p) stop apart refl (going_start (more_of p stop) t at) d e
 
   -- an item has an octet
   far_at : (first : Bool) (at n : ℕ) (a : A) → at ≤ length t → n ≤ length t
@@ -103,13 +89,12 @@ module _ {A : Type 0} {I : A → Type 0} {f : A → List ℕ} {F : List ℕ
       omega (arith, ap length x.1, length-append (f a) (drop n t), length-drop n t, length-drop at t)
 
   -- ---- a loop that reads them
-  module _ {c : Cursor} {start : Bool} (g : not c.grammatical ≡ false) where
+  module _ {c : Cursor} {start : Bool} where
     pub items_start : {Q : List A → Type 0} → Safe t c → Q [] → Items p stop Q t c start c start
     items_start h q = record {
       l = [];
       goes = go (part_of p stop start (drop c.at t));
-      grammatical = not-false c.grammatical g;
-      moves = record { safe = h; onward = omega arith };
+      moves = (keeps_same h).moves;
       holds = q;
     }
       where
@@ -118,39 +103,34 @@ module _ {A : Type 0} {I : A → Type 0} {f : A → List ℕ} {F : List ℕ
         go (failed w) = refl
 
     module _ {Q : List A → Type 0} {d : Cursor} {first : Bool} (w : Items p stop Q t c start d first) where
-      pub items_end : {R : List A → Type 0} {x : ℕ} {r : Cursor} → Byte t d.at x → x ≡ stop → 0 < stop
-          → Advanced d (d.at + 1) r → (Keeps t d r → (l : List A) → Q l → R l) → Found (part_of p stop start) R t c r
-      items_end {R} {x} {r} k e z s q =
-          let h = inside k (omega arith) in
-          let m = went_keeps w.moves.safe s (omega arith) (omega arith) in
+      pub items_end : {R : List A → Type 0} {r : Cursor} → At t d.at stop → Advanced d (d.at + 1) r
+          → (Alike d r → (l : List A) → Q l → R l) → Found (part_of p stop start) R t (Ok c) (Ok r)
+      items_end {R} {r} k s q =
+          let m = went_keeps w.moves.within.0 s (omega arith) (omega (arith, k.inside)) in
           record {
-            reads = reads_parsed (rw (not-false c.grammatical g)
-                (w.goes ∙ rw (ended_at first d.at h (sym k.is ∙ e), append-nil))) s.is s.at
-                (q m w.l w.holds);
-            moves = moves_then w.moves (moves m);
+            reads = reads_parsed (w.goes ∙ rw (ended_at first d.at k.inside k.is, append-nil)) s.at
+                (q m.alike.holds w.l w.holds);
+            moves = moves_then w.moves m.moves;
           }
 
-      module _ {P : A → Type 0} {r : Cursor} (y : Found (item_of p stop first) P t d r) where
-        pub items_stop : {R : List A → Type 0} {x : ℕ} → Byte t d.at x → (x ≡ stop → ⊥) → not r.grammatical ≡ true
-            → Found (part_of p stop start) R t c r
-        items_stop k e j = record {
-          reads = reads_stop (rw (not-false c.grammatical g)
-              (w.goes ∙ rw (stuck_at first d.at _ _ k e
-              (reads_bad (found_there y w.grammatical) (not-true r.grammatical j)))))
-              (not-true r.grammatical j) refl;
+      module _ {P : A → Type 0} where
+        pub items_stop : {R : List A → Type 0} {n : ℕ} → (At t d.at stop → ⊥)
+            → Found (item_of p stop first) P t (Ok d) (Err n) → Found (part_of p stop start) R t (Ok c) (Err n)
+        items_stop e y = record {
+          reads = reads_stop (w.goes ∙ rw (stuck_at first d.at _ e (reads_bad y.reads)));
           moves = moves_then w.moves y.moves;
         }
 
-        module _ (j : not r.grammatical ≡ false) where
+        module _ {r : Cursor} (y : Found (item_of p stop first) P t (Ok d) (Ok r)) where
           got : Got (item_of p stop first (drop d.at t)) P (drop r.at t)
-          got = reads_got (found_there y w.grammatical) (not-false r.grammatical j)
+          got = reads_got y.reads
 
           -- less is left to read
           pub items_less : length t - r.at < length t - d.at
           items_less = omega (
             arith,
-            far_at first d.at r.at got.value w.moves.safe.inside y.moves.safe.inside got.is,
-            y.moves.safe.inside,
+            far_at first d.at r.at got.value w.moves.within.0.inside y.moves.within.0.inside got.is,
+            y.moves.within.0.inside,
           )
 
           pub items_more : {R : List A → Type 0} → ((l : List A) (a : A) → Q l → P a → R (l ++ (a ∷ [])))
@@ -159,7 +139,6 @@ module _ {A : Type 0} {I : A → Type 0} {f : A → List ℕ} {F : List ℕ
             l = w.l ++ (got.value ∷ []);
             goes = w.goes ∙ rw (next_at first d.at r.at got.value got.is)
                 (go (more_of p stop (drop r.at t)));
-            grammatical = not-false r.grammatical j;
             moves = moves_then w.moves y.moves;
             holds = q w.l got.value w.holds got.holds;
           }

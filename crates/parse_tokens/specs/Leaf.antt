@@ -1,102 +1,89 @@
 -- How a reader that goes by its own tests shows what it found.
-use Rattle.std.specs.Prelude.{◌≡◌, refl, Bool, true, false, cond, List, [], ◌∷◌, ◌++◌, ℕ, ◌+◌, ◌≤◌, eqb, length, drop}
+use Rattle.std.specs.Prelude.{◌≡◌, refl, Bool, true, false, cond, List, [], ◌∷◌, ◌++◌, ℕ, ◌+◌, ◌≤◌, eqb, length, drop, Ok, Err}
 use Rattle.std.proofs.Common.{sym, ◌∙◌, ap, subst, arith, length-append, length-drop}
 use Rattle.octets.specs.Parsed.{Parsed, parsed, failed, and_then, then_then, strip, strip_sound, strip_back, held}
 use Rattle.octets.specs.Parsed.{parsed≢failed}
 use Rattle.parse_tokens.specs.declared.Cursor.{Cursor}
-use Rattle.parse_tokens.specs.Cursor.{left_of_lem, Safe, Passed, Advanced, FailedAt, went_keeps, Finds, stopped}
-use Rattle.parse_tokens.specs.Cursor.{taken}
-use Rattle.parse_tokens.specs.Cursor.{reads_parsed, reads_stop, reads_as}
-use Rattle.parse_tokens.specs.Step.{Found, moves, found_lit, Put, put_from}
+use Rattle.parse_tokens.specs.Cursor.{Reached, rest, Safe, Between, between_ended, between_then, Alike, Passed}
+use Rattle.parse_tokens.specs.Cursor.{Advanced, went_keeps, stop_keeps, Finds, stopped, taken, reads_parsed, reads_stop}
+use Rattle.parse_tokens.specs.Step.{Found, found_as, found_lit, Put, put_from}
 
-module _ {A : Type 0} {P : A → Type 0} {p : List ℕ → Parsed A} {t : List ℕ} {c r : Cursor} where
+module _ {A : Type 0} {P : A → Type 0} {p : List ℕ → Parsed A} {t : List ℕ} where
   -- it took a value, and came to place n
-  pub found_took : {a : A} {n : ℕ} → Safe t c → c.grammatical ≡ true → p (drop c.at t) ≡ parsed a (drop n t)
-      → c.at ≤ n
-      → n ≤ length t → Advanced c n r → P a → Found p P t c r
-  found_took f g e h k s v =
-      record { reads = reads_parsed (rw g e) s.is s.at v; moves = moves (went_keeps f s h k) }
+  pub found_took : {a : A} {c r : Cursor} {n : ℕ} → Safe t c → p (drop c.at t) ≡ parsed a (drop n t) → c.at ≤ n
+      → n ≤ length t → Advanced c n r → P a → Found p P t (Ok c) (Ok r)
+  found_took f e h k s v = record { reads = reads_parsed e s.at v; moves = (went_keeps f s h k).moves }
 
   -- it stopped at place n
-  pub found_stop : {n : ℕ} → Safe t c → c.grammatical ≡ true → p (drop c.at t) ≡ failed (drop n t) → c.at ≤ n
-      → n ≤ length t → FailedAt c n r → Found p P t c r
-  found_stop f g e h k s = record { reads = reads_stop (rw g e) s.is s.at; moves = moves (went_keeps f s h k) }
+  pub found_stop : {c : Cursor} {n : ℕ} → p (drop c.at t) ≡ failed (drop n t) → c.at ≤ n → n ≤ length t
+      → Found p P t (Ok c) (Err n)
+  found_stop e h k = record { reads = reads_stop e; moves = (stop_keeps h k).moves }
 
-  -- another parser that answers the same there
-  pub found_same : (q : List ℕ → Parsed A) → (c.grammatical ≡ true → p (drop c.at t) ≡ q (drop c.at t))
-      → Found p P t c r → Found q P t c r
-  found_same q e x = record { reads = go c.grammatical e x.reads; moves = x.moves }
+  -- another parser that answers the same there, or anywhere
+  pub found_same : (q : List ℕ → Parsed A) {c : Cursor} {r : Reached} → p (drop c.at t) ≡ q (drop c.at t)
+      → Found p P t (Ok c) r → Found q P t (Ok c) r
+  found_same q {r = r} e x = record { reads = subst (Finds t P r) e x.reads; moves = x.moves }
+
+  pub found_equal : (q : List ℕ → Parsed A) {c r : Reached} → ((w : List ℕ) → p w ≡ q w) → Found p P t c r
+      → Found q P t c r
+  found_equal q {c} {r} e x = record { reads = go c x.reads; moves = x.moves }
     where
-      go : (b : Bool) → (b ≡ true → p (drop c.at t) ≡ q (drop c.at t))
-          → Finds t P r (and_then (left_of_lem b (drop c.at t)) (λ u w. p w))
-          → Finds t P r (and_then (left_of_lem b (drop c.at t)) (λ u w. q w))
-      go true e y = subst (Finds t P r) (e refl) y
-      go false e y = y
+      go : (c : Reached) → Finds t P r (and_then (rest t c) (λ u w. p w))
+          → Finds t P r (and_then (rest t c) (λ u w. q w))
+      go (Ok c) y = subst (Finds t P r) (e (drop c.at t)) y
+      go (Err n) y = y
 
 -- ---- fixed octets that stand for a value
 -- the octets, and what they stand for
 abbrev pub row_parser : {A : Type 0} → List ℕ → A → List ℕ → Parsed A
 row_parser title a w = and_then (strip title w) λ u r. parsed a r
 
-module _ {l t : List ℕ} {c r : Cursor} (q : Passed l t c r) where
-  pub found_entry : {A : Type 0} {P : A → Type 0} (a : A) → P a → Found (row_parser l a) P t c r
-  found_entry {A} {P} a v =
-      found_lit {p = λ w. parsed a w} q record {
-        reads = go r.grammatical refl;
-        moves = record { safe = q.keeps.safe; onward = omega arith };
-      }
-    where
-      go : (b : Bool) → r.grammatical ≡ b → Finds t P r (and_then (left_of_lem b (drop r.at t)) (λ u w. parsed a w))
-      go true e = taken e v
-      go false e = stopped e
+pub found_entry : {A : Type 0} {P : A → Type 0} {l t : List ℕ} {c r : Reached} → Passed l t c r → (a : A) → P a
+    → Found (row_parser l a) P t c r
+found_entry {A} {P} {l} {t} {c} {r} q a v = record {
+  reads = subst (Finds t P r) (then_then (rest t c) (λ u w. strip l w) (λ u w. parsed a w)) (rw (← q.left) (go r));
+  moves = q.keeps.moves;
+}
+  where
+    go : (r : Reached) → Finds t P r (and_then (rest t r) (λ u w. parsed a w))
+    go (Ok r) = taken v
+    go (Err n) = stopped
 
+module _ {l t : List ℕ} {c : Cursor} where
   -- what was stripped, where the reader went on and where it stopped
-  pub passed_took : r.grammatical ≡ true → strip l (drop c.at t) ≡ parsed tt (drop r.at t)
-  passed_took g = go c.grammatical (rw g at q.left)
-    where
-      go : (b : Bool) → parsed tt (drop r.at t) ≡ and_then (left_of_lem b (drop c.at t)) (λ u w. strip l w)
-          → strip l (drop c.at t) ≡ parsed tt (drop r.at t)
-      go true e = sym e
-      go false e = absurd (parsed≢failed e)
+  pub passed_took : {r : Cursor} → Passed l t (Ok c) (Ok r) → strip l (drop c.at t) ≡ parsed tt (drop r.at t)
+  passed_took q = sym q.left
 
   -- how far it went on
-  pub passed_place : r.grammatical ≡ true → r.at ≡ c.at + length l
-  passed_place g =
-      let e = ap length (held (strip_sound l (drop c.at t)) (passed_took g)) in
-      omega (
-        arith,
-        e,
-        length-append l (drop r.at t),
-        length-drop c.at t,
-        length-drop r.at t,
-        q.keeps.safe.inside,
-        q.keeps.onward,
-      )
+  pub passed_place : {r : Cursor} → Passed l t (Ok c) (Ok r) → r.at ≡ c.at + length l
+  passed_place {r} q = omega (
+    arith,
+    ap length (held (strip_sound l (drop c.at t)) (passed_took q)),
+    length-append l (drop r.at t),
+    length-drop c.at t,
+    length-drop r.at t,
+    q.keeps.moves.within.0.inside,
+    q.keeps.moves.within.1,
+  )
 
-  pub passed_stop : r.grammatical ≡ false → c.grammatical ≡ true → strip l (drop c.at t) ≡ failed (drop r.at t)
-  passed_stop g h = sym (rw (g, h) at q.left)
+  pub passed_stop : {n : ℕ} → Passed l t (Ok c) (Err n) → strip l (drop c.at t) ≡ failed (drop n t)
+  passed_stop q = sym q.left
 
 -- the quote, and a value after it; the place where that ends tells whether it is empty
 pub found_quoted : {A : Type 0} {ok empty : A → Bool} {wire : A → List ℕ} {p : List ℕ → Parsed A} {t b b' : List ℕ}
-    {c o r : Cursor} (k : ℕ) → Passed (34 ∷ []) t c o
-    → Found p (λ a. Put ok wire o b r b' a × (empty a ≡ eqb r.at (o.at + k))) t o r
+    {c o r : Reached} (k : ℕ) → Passed (34 ∷ []) t c o
+    → Found p (λ a. Between (λ o r. Put ok wire o b r b' a × (empty a ≡ eqb r.at (o.at + k))) o r) t o r
     → Found (λ w. and_then (strip (34 ∷ []) w) (λ u r. p r))
-    (λ a. Put ok wire c b r b' a × (empty a ≡ eqb r.at (c.at + (k + 1)))) t c r
-found_quoted {A} {ok} {empty} {wire} {p} {t} {b} {b'} {c} {o} {r} k q x =
-    found_lit q record { reads = go o.grammatical refl x.reads; moves = x.moves }
+    (λ a. Between (λ c r. Put ok wire c b r b' a × (empty a ≡ eqb r.at (c.at + (k + 1)))) c r) t c r
+found_quoted {t = t} {c = c} {o = o} k q x =
+    found_lit q (found_as x λ a h. between_then (step c o q) h λ c o r d z.
+    let f : o.at + k ≡ c.at + (k + 1) = omega (arith, d.1) in
+    (put_from d.0 z.0, z.1 ∙ ap (eqb r.at) f))
   where
-    Told : Cursor → ℕ → A → Type 0
-    Told c k a = Put ok wire c b r b' a × (empty a ≡ eqb r.at (c.at + k))
-
-    same : {w : List ℕ} → Finds t (Told o k) r (failed w) → Finds t (Told c (k + 1)) r (failed w)
-    same (stopped g) = stopped g
-
-    go : (d : Bool) → o.grammatical ≡ d → Finds t (Told o k) r (and_then (left_of_lem d (drop o.at t)) (λ u w. p w))
-        → Finds t (Told c (k + 1)) r (and_then (left_of_lem d (drop o.at t)) (λ u w. p w))
-    go true e y =
-        let f : o.at + k ≡ c.at + (k + 1) = omega (arith, passed_place q e) in
-        reads_as y λ a h. (put_from q.keeps h.0, h.1 ∙ ap (eqb r.at) f)
-    go false e y = same y
+    step : (c o : Reached) → Passed (34 ∷ []) t c o → Between (λ c o. Alike c o × (o.at ≡ c.at + 1)) c o
+    step c (Err n) q = between_ended
+    step (Ok c) (Ok o) q = record { holds = (q.keeps.alike.holds, passed_place q) }
+    step (Err n) (Ok o) q = absurd q.keeps.alike.holds
 
 -- fixed octets in two parts, taken at once
 strip-append : (l m w : List ℕ) → strip (l ++ m) w ≡ and_then (strip l w) (λ u r. strip m r)
@@ -109,12 +96,11 @@ strip-append (x ∷ l) m (y ∷ w) = go (eqb x y) (strip-append l m w)
     go true e = e
     go false e = refl
 
-pub found_lits : {A : Type 0} {P : A → Type 0} {p : List ℕ → Parsed A} {t : List ℕ} {c r s : Cursor} (l m : List ℕ)
+pub found_lits : {A : Type 0} {P : A → Type 0} {p : List ℕ → Parsed A} {t : List ℕ} {c r s : Reached} (l m : List ℕ)
     → Passed (l ++ m) t c r → Found p P t r s
     → Found (λ w. and_then (strip l w) λ u w. and_then (strip m w) λ v r. p r) P t c s
-found_lits {p = p} {t = t} {c = c} l m q x =
-    let w = drop c.at t in
-    found_same _ (λ g. ap (λ (o : Parsed (Unit {0})). and_then o λ v r. p r) (strip-append l m w)
+found_lits {p = p} l m q x =
+    found_equal _ (λ w. ap (λ (o : Parsed (Unit {0})). and_then o λ v r. p r) (strip-append l m w)
     ∙ then_then (strip l w) (λ u r. strip m r) (λ v r. p r)) (found_lit q x)
 
 -- one octet: it is there, or the reader stops before it

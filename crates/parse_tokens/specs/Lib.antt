@@ -2,11 +2,12 @@
 -- of them.
 pub mod Cursor
 pub mod Step
-pub mod Many
 pub mod Place
+pub mod Many
 pub mod Leaf
 pub mod Items
 pub mod Choice
+pub mod Value
 pub mod Number
 pub mod Signed
 pub mod Hex

@@ -1,17 +1,14 @@
 -- How a loop reads what `many` describes, turn by turn.
-use Rattle.std.specs.Prelude.{◌≡◌, refl, ◌⊎◌, ℕ, zero, suc, ◌+◌, ◌≤◌, ◌<◌, length, drop, get_or}
-use Rattle.std.proofs.Common.{sym, ◌∙◌, ap, inl, inr, ⊎_elim, arith, eq-eqb, drop_of_length-le, length-append}
+use Rattle.std.specs.Prelude.{◌≡◌, refl, ℕ, zero, suc, ◌+◌, ◌≤◌, ◌<◌, length, drop, get_or}
+use Rattle.std.proofs.Common.{sym, ◌∙◌, ap, ⊎_elim, arith, eq-eqb, drop_of_length-le, length-append}
+use Rattle.std.proofs.lemmas.Bool.{cases_lt}
 use mathlib.Core.List.{List, [], ◌∷◌, ◌++◌, append_assoc, append-nil, nil≢cons, head-eq_of_cons-eq}
 use Rattle.octets.specs.Parsed.{Parsed, parsed, failed, and_then, otherwise, strip, Holds, missed, found, held}
 use Rattle.octets.specs.Parsed.{is_failed}
 use Rattle.octets.specs.Parsed.{strip_sound}
 use Rattle.octets.specs.Codec.{Avoids, Codec, repeated}
 use Rattle.octets.specs.Fields.{drop_one}
-
-pub le_or_lt : (a b : ℕ) → (a ≤ b) ⊎ (b < a)
-le_or_lt zero b = inl (omega arith)
-le_or_lt (suc a) zero = inr (omega arith)
-le_or_lt (suc a) (suc b) = ⊎_elim (λ p. inl (omega arith)) (λ q. inr (omega arith)) (le_or_lt a b)
+use Rattle.parse_tokens.specs.Place.{At}
 
 -- what the parser of `many` answers
 abbrev pub run_of : {A : Type 0} {I : A → Type 0} {f : A → List ℕ} {F : List ℕ → Type 0} → ℕ → Codec I f F → List ℕ
@@ -97,11 +94,11 @@ module _ {A : Type 0} {I : A → Type 0} {f : A → List ℕ} {F : List ℕ
         go (failed u) = refl
 
     -- neither an element nor the end
-    pub going_stop : {w : List ℕ} → (get_or t at 0 ≡ stop → ⊥) → p.parse (drop at t) ≡ failed w → v ≡ failed w
+    pub going_stop : {w : List ℕ} → (At t at stop → ⊥) → p.parse (drop at t) ≡ failed w → v ≡ failed w
     going_stop d e = let s = is_failed (strip_sound (stop ∷ []) (drop at t)) no in turn s.0 s.1 _ e
       where
         no : (u : Unit {0}) (r : List ℕ) → (stop ∷ []) ++ r ≡ drop at t → ⊥
         no u r k = ⊎_elim
+            (λ h. d (record { inside = h; is = sym (head-eq_of_cons-eq (k ∙ drop_one t at h)) }))
             (λ h. nil≢cons (sym (k ∙ drop_of_length-le t h)))
-            (λ h. d (sym (head-eq_of_cons-eq (k ∙ drop_one t at h))))
-            (le_or_lt (length t) at)
+            (cases_lt at (length t))

@@ -1,31 +1,27 @@
 -- Signed numbers: what is kept of one, and how it is read.
-use Rattle.std.specs.Prelude.{◌≡◌, refl, Bool, true, false, cond, List, [], ◌∷◌, ℕ, ◌+◌, ◌-◌, ◌*◌, ◌≤◌, ◌<◌, T, ltb, eqb, length, drop}
+use Rattle.std.specs.Prelude.{◌≡◌, refl, Bool, true, false, cond, List, [], ◌∷◌, ℕ, ◌+◌, ◌-◌, ◌*◌, ◌≤◌, ◌<◌, ltb, eqb, length, drop, Option, Some, None, Result, Ok, Err}
 use Rattle.std.proofs.Common.{sym, ◌∙◌, ap, inl, inr, arith, lt-ltb, le-ltb, le-leb}
-use Rattle.std.proofs.lemmas.Bool.{lt-leb}
+use Rattle.std.proofs.lemmas.Bool.{lt-leb, cases_lt}
 use Rattle.octets.specs.Parsed.{Parsed, parsed, failed, and_then, or_else, strip, parsed≢failed}
 use Rattle.octets.specs.Decimal.{digit?, leading?, run, positive, natural}
 use Rattle.spelling.specs.Spelling.{Signed, plus, minus}
 use Rattle.strict.specs.Spelt.{from_sum, signed_number}
 use Rattle.strict.specs.Meaning.{ttl?, unsigned}
 use Rattle.parse_tokens.specs.declared.Cursor.{Cursor}
-use Rattle.parse_tokens.specs.declared.Amount.{Amount}
-use Rattle.parse_tokens.specs.declared.Ttl.{Ttl}
-use Rattle.parse_tokens.specs.Cursor.{Keeps, keeps_then, Passed, clash}
+use Rattle.parse_tokens.specs.Cursor.{Reached, keeps_then, Passed}
 use Rattle.parse_tokens.specs.Step.{Found, found_lit, found_map}
 use Rattle.parse_tokens.specs.Leaf.{found_same, passed_took, passed_stop, strip_first, AtOnce, goes, stays}
 use Rattle.parse_tokens.specs.Leaf.{strip_at_once}
+use Rattle.parse_tokens.specs.Value.{ValueRead, value_stop}
 use Rattle.parse_tokens.specs.Number.{capped, NumberRead, PositiveRead}
 
--- what is known of a TTL that was read: whether it is in range, and if so its 32 bits
-abbrev pub TtlKept : Bool → ℕ → Signed → Type 0
-TtlKept fits bits s = (fits ≡ ttl? s) × (T fits → bits ≡ unsigned s)
+-- the 32 bits of a TTL in range
+abbrev pub ttl_bits : Signed → Option ℕ
+ttl_bits s = cond (ttl? s) (Some (unsigned s)) None
 
--- a signed number was read; on a stop it counts as 0, and out of range the bits are 0
-pub record SignedRead (t : List ℕ) (c : Cursor) (r : Ttl) : Type 0 where
-  pub found : Found signed_number.parse (TtlKept r.fits r.bits) t c r.cursor
-  pub keeps : Keeps t c r.cursor
-  pub stop : r.cursor.grammatical ≡ false → (r.fits ≡ true) × (r.bits ≡ 0)
-  pub over : r.fits ≡ false → r.bits ≡ 0
+-- a signed number was read, and its bits kept if it is in range
+abbrev pub SignedRead : List ℕ → Cursor → Result (Cursor × Option ℕ) ℕ → Type 0
+SignedRead t c r = ValueRead signed_number.parse (λ b s. b ≡ ttl_bits s) t (Ok c) r
 
 -- ---- what the parser answers
 -- a parser of numbers that stops, stops at the first octet
@@ -88,82 +84,67 @@ signed_minus w r e = rw (strip_first 45 w r e) (go (positive_at_once r))
     go stays = rw (lt-ltb (length r) (length (45 ∷ r)) (omega arith))
 
 -- ---- what is kept
-pub record Plus (a : Amount) (r : Ttl) : Type 0 where
-  pub cursor : r.cursor ≡ a.cursor
-  pub kept : (n : ℕ) → a.value ≡ capped n → TtlKept r.fits r.bits (plus n)
-  pub none : a.value ≡ 0 → (r.fits ≡ true) × (r.bits ≡ 0)
-  pub over : r.fits ≡ false → r.bits ≡ 0
-
-pub record Minus (a : Amount) (r : Ttl) : Type 0 where
-  pub cursor : r.cursor ≡ a.cursor
-  pub kept : (n : ℕ) → (0 < n) × (a.value ≡ capped n) → TtlKept r.fits r.bits (minus n)
-  pub none : a.value ≡ 0 → (r.fits ≡ true) × (r.bits ≡ 0)
-  pub over : r.fits ≡ false → r.bits ≡ 0
-
-module _ {a : Amount} where
-  pub plus_over : 2147483647 < a.value → Plus a (record { cursor = a.cursor; bits = 0; fits = false })
+module _ {v : ℕ} where
+  pub plus_out : 2147483648 ≤ v → ttl_bits (plus v) ≡ None
   unfolding ttl?
-  plus_over h = record {
-    cursor = refl;
-    kept = λ n e. (sym (le-ltb n 2147483648 (omega arith)), λ t. absurd t);
-    none = λ e. absurd (omega arith);
-    over = λ e. refl;
-  }
+  plus_out h = rw (le-ltb v 2147483648 h)
 
-  pub plus_fits : {b : ℕ} → a.value ≤ 2147483647 → b ≡ a.value
-      → Plus a (record { cursor = a.cursor; bits = b; fits = true })
+  pub plus_in : v < 2147483648 → ttl_bits (plus v) ≡ Some v
   unfolding ttl? unsigned
-  plus_fits h d = record {
-    cursor = refl;
-    kept = λ n e. (sym (lt-ltb n 2147483648 (omega arith)), λ t. omega arith);
-    none = λ e. (refl, d ∙ e);
-    over = λ e. clash e refl;
-  }
+  plus_in h = rw (lt-ltb v 2147483648 h)
 
-  pub minus_over : 2147483648 < a.value → Minus a (record { cursor = a.cursor; bits = 0; fits = false })
+  pub minus_out : 2147483648 < v → ttl_bits (minus v) ≡ None
   unfolding ttl?
-  minus_over h = record {
-    cursor = refl;
-    kept = λ n e. (sym (lt-leb n 2147483648 (omega (arith, e.1))), λ t. absurd t);
-    none = λ e. absurd (omega arith);
-    over = λ e. refl;
-  }
+  minus_out h = rw (lt-leb v 2147483648 h)
 
-  pub minus_zero : a.value ≡ 0 → Minus a (record { cursor = a.cursor; bits = 0; fits = true })
-  minus_zero h = record {
-    cursor = refl;
-    kept = λ n e. absurd (omega (arith, e));
-    none = λ e. (refl, refl);
-    over = λ e. refl;
-  }
-
-  pub minus_fits : {b : ℕ} → a.value ≤ 2147483648 → (a.value ≡ 0 → ⊥) → b ≡ 4294967296 - a.value
-      → Minus a (record { cursor = a.cursor; bits = b; fits = true })
+  pub minus_in : v ≤ 2147483648 → ttl_bits (minus v) ≡ Some (4294967296 - v)
   unfolding ttl? unsigned
-  minus_fits h z d = record {
-    cursor = refl;
-    kept = λ n e. (sym (le-leb n 2147483648 (omega (arith, e.1))), λ t. omega (arith, e.1));
-    none = λ e. absurd (z e);
-    over = λ e. clash e refl;
-  }
+  minus_in h = rw (le-leb v 2147483648 h)
+
+-- a number above 2^63 counts as one
+plus_kept : {v : ℕ} (n : ℕ) → v ≡ capped n → ttl_bits (plus v) ≡ ttl_bits (plus n)
+plus_kept {v} n e = elim (cases_lt n 2147483648) [
+  | inl h ↦ ap (λ m. ttl_bits (plus m)) (omega arith)
+  | inr h ↦ plus_out (omega arith) ∙ sym (plus_out h)
+]
+
+minus_kept : {v : ℕ} (n : ℕ) → v ≡ capped n → ttl_bits (minus v) ≡ ttl_bits (minus n)
+minus_kept {v} n e = elim (cases_lt 2147483648 n) [
+  | inl h ↦ minus_out (omega arith) ∙ sym (minus_out h)
+  | inr h ↦ ap (λ m. ttl_bits (minus m)) (omega arith)
+]
 
 -- ---- the reader
-module _ {t : List ℕ} {c m : Cursor} (q : Passed (45 ∷ []) t c m) {a : Amount} {r : Ttl} where
-  pub signed_negative : m.grammatical ≡ true → PositiveRead t m a → Minus a r → SignedRead t c r
-  signed_negative g y k = record {
-    found = found_same signed_number.parse
-        (λ h. rw (passed_took q g) (signed_minus (drop c.at t) (drop m.at t) (passed_took q g)))
-        (found_lit q (found_map minus k.kept (rw (← k.cursor) at y.found)));
-    keeps = keeps_then q.keeps (rw (← k.cursor) at y.keeps);
-    stop = λ e. k.none (y.stop (rw (← k.cursor) e));
-    over = k.over;
-  }
+module _ {t : List ℕ} {c : Cursor} where
+  module _ {m : Cursor} (q : Passed (45 ∷ []) t (Ok c) (Ok m)) where
+    negative : {r : Reached} {P : ℕ → Type 0} {Q : Signed → Type 0} → Found positive P t (Ok m) r
+        → ((n : ℕ) → P n → Q (minus n)) → Found signed_number.parse Q t (Ok c) r
+    negative x h = found_same signed_number.parse
+        (rw (passed_took q) (signed_minus (drop c.at t) (drop m.at t) (passed_took q)))
+        (found_lit q (found_map minus h x))
 
-  pub signed-number : m.grammatical ≡ false → NumberRead t c a → Plus a r → SignedRead t c r
-  signed-number g y k = record {
-    found = found_same signed_number.parse (λ h. signed_plus (drop c.at t) _ (passed_stop q g h))
-        (found_map plus k.kept (rw (← k.cursor) at y.found));
-    keeps = rw (← k.cursor) at y.keeps;
-    stop = λ e. k.none (y.stop (rw (← k.cursor) e));
-    over = k.over;
-  }
+    pub signed_negative : {r : Cursor} {v : ℕ} {b : Option ℕ} → PositiveRead t m (Ok (r, v)) → b ≡ ttl_bits (minus v)
+        → SignedRead t c (Ok (r, b))
+    signed_negative y e = record {
+      found = negative y.found λ n k. e ∙ minus_kept n k.1;
+      keeps = keeps_then q.keeps y.keeps;
+    }
+
+    pub negative_stop : {n : ℕ} → PositiveRead t m (Err n) → SignedRead t c (Err n)
+    negative_stop y = value_stop (negative {Q = λ s. Unit {0}} y.found λ n k. tt)
+
+  module _ {n : ℕ} (q : Passed (45 ∷ []) t (Ok c) (Err n)) where
+    unsigned_lem : {r : Reached} {P : ℕ → Type 0} {Q : Signed → Type 0} → Found natural P t (Ok c) r
+        → ((n : ℕ) → P n → Q (plus n)) → Found signed_number.parse Q t (Ok c) r
+    unsigned_lem x h =
+        found_same signed_number.parse (signed_plus (drop c.at t) _ (passed_stop q)) (found_map plus h x)
+
+    pub signed_number_read : {r : Cursor} {v : ℕ} {b : Option ℕ} → NumberRead t c (Ok (r, v)) → b ≡ ttl_bits (plus v)
+        → SignedRead t c (Ok (r, b))
+    signed_number_read y e = record { found = unsigned_lem y.found λ n k. e ∙ plus_kept n k; keeps = y.keeps }
+
+    pub number_stop : {m : ℕ} → NumberRead t c (Err m) → SignedRead t c (Err m)
+    number_stop y = value_stop (unsigned_lem {Q = λ s. Unit {0}} y.found λ n k. tt)
+
+-- for `signed`
+pub ruleset signed_steps = (signed_negative, negative_stop, signed_number_read, number_stop)

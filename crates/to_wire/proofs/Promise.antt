@@ -1,20 +1,15 @@
 -- What the strict reader promises, and how it follows from a run that judges and a run that writes.
-use mathlib.Core.Path.{◌≡◌, refl, sym, ◌∙◌, ap, subst}
-use mathlib.Core.Bool.{Bool, true, false, not, ◌&&◌}
-use mathlib.Core.Option.{none, some}
-use mathlib.Core.List.{List, [], ◌++◌}
-use Prim.Native.Nat.{ℕ, ◌-◌, ◌≤◌, ◌<◌}
-use native.Mathlib.Nat.{zero-add}
-use native.Mathlib.Omega.{arith}
-use borrow.Author.Tests.{not-true, not-false}
-use lib.Dec.{T, leb}
-use lib.ListN.{length, drop, length-drop, drop_of_length-le}
+use Rattle.std.proofs.Common.{◌≡◌, refl, sym, ap, ◌∙◌, subst, Bool, true, false, ◌&&◌, List, [], ◌++◌, ℕ, ◌-◌, ◌≤◌}
+use Rattle.std.proofs.Common.{◌<◌, T, leb, Ok, Err, MatchResult, length, drop, arith, drop_of_length-le}
+use Rattle.std.proofs.Common.{length-drop, zero-add}
+use Rattle.std.proofs.Math.Option.{none, some}
 use Rattle.octets.specs.Bits.{is_true, and_left, and_right}
 use Rattle.octets.specs.Parsed.{parsed, parsed_value, parsed≢failed}
-use Rattle.octets.specs.Answer.{output}
-use Rattle.octets.specs.Calls.{Gives, gives_refusal, gives_none, gives_written}
-use Rattle.octets.specs.declared.Outcome.TheVariants.{Length, Refused}
+use Rattle.octets.specs.Answer.{output, success, refusal}
 use Rattle.octets.specs.Answer as answer
+use Rattle.octets.specs.declared.Rule.TheVariants.{Grammar}
+use Rattle.octets.specs.declared.Refusal.{Refusal}
+use Rattle.octets.specs.Calls.{answer_of, Gives, gives_refusal, gives_none, gives_written}
 use Rattle.octets.specs.Fields.{drop_one, empty}
 use Rattle.octets.specs.Overlay.{Wrote}
 use Rattle.records.specs.Message.{form}
@@ -26,8 +21,8 @@ use Rattle.strict.specs.Meaning.{document_view, counts?, meaning}
 use Rattle.strict.specs.Parser.{document, parse}
 use Rattle.strict.specs.Reading.{reading, to_wire}
 use Rattle.parse_tokens.specs.declared.Cursor.{Cursor}
-use Rattle.parse_tokens.specs.Cursor.{Finds, reads_bad, reads_got, Got}
-use Rattle.parse_tokens.specs.Step.{found_there, Put, Step}
+use Rattle.parse_tokens.specs.Cursor.{Reached, reads_bad, reads_got, Got}
+use Rattle.parse_tokens.specs.Step.{Put, Puts, Step}
 use Rattle.to_wire.specs.Meant.{document_meant?, document_octets, document_meant, document-octets, head_meant?}
 use Rattle.to_wire.specs.Meant.{sections_meant?}
 use Rattle.to_wire.specs.Whole.{start}
@@ -51,7 +46,8 @@ unfolding meaning
 meaning_some d t = rw (sym (document_meant d) ∙ is_true (document_meant? d) t)
 
 -- the limit by the length of the form
-within_same : (d : Document) → T (document_meant? d) → within? (document_view d) ≡ leb (length (document_octets d)) 65535
+within_same : (d : Document) → T (document_meant? d)
+    → within? (document_view d) ≡ leb (length (document_octets d)) 65535
 within_same d t = go (within? (document_view d)) (leb (length (document_octets d)) 65535) refl refl
   where
     go : (a b : Bool) → within? (document_view d) ≡ a → leb (length (document_octets d)) 65535 ≡ b → a ≡ b
@@ -65,30 +61,42 @@ within_same d t = go (within? (document_view d)) (leb (length (document_octets d
         (subst T (sym f ∙ ap (λ l. leb (length l) 65535) (octets-form d t)) tt)))
 
 -- ---- the refusals, and what is written
+-- what a run on the text t shows, over the octets b, where it came to r and left b'
+abbrev Run : List ℕ → List ℕ → Reached → List ℕ → Type 0
+Run t b r b' = Step document_meant? document_octets document.parse t (Ok start) b r b'
+
 -- l is what the first run leaves of no octets
-module _ (t b l : List ℕ) (z : length l ≡ 0) {c : Cursor}
-    (x : Step document_meant? document_octets document.parse t start [] c l) where
-  refuses : (n p : ℕ) → reading t ≡ answer.refused n p → Gives (to_wire t b) (Refused n p) (l ++ b)
+module _ (t b l : List ℕ) (z : length l ≡ 0) where
+  refuses : (n p : ℕ) → reading t ≡ answer.refused n p → Gives (to_wire t b) (refusal n p) (l ++ b)
   unfolding to_wire
   refuses n p e = rw (empty l z, e) (gives_refusal 23 b n p)
 
-  -- the octets before those that are left
-  place : length t - length (drop c.at t) ≡ c.at
-  place = omega (arith, length-drop c.at t, x.moves.safe.inside)
-
   -- the text is not within the grammar
-  pub read_stopped : not c.grammatical ≡ true → Gives (to_wire t b) (Refused 20 c.at) (l ++ b)
+  pub read_stopped : {n : ℕ} → Run t [] (Err n) l → Gives (to_wire t b) (refusal 20 n) (l ++ b)
   unfolding reading parse
-  read_stopped g = refuses 20 c.at (rw (reads_bad (found_there x refl) (not-true c.grammatical g), place))
+  read_stopped {n} x =
+      let place : length t - length (drop n t) ≡ n = omega (arith, length-drop n t, x.moves.within.1) in
+      refuses 20 n (rw (reads_bad x.reads, place))
 
-  module _ (g : not c.grammatical ≡ false) where
-    got : Got (document.parse t) (Put document_meant? document_octets start [] c l) (drop c.at t)
-    got = reads_got (found_there x refl) (not-false c.grammatical g)
+  -- so is the refusal that the stop becomes
+  pub read_refused : (r : Reached) (f : Refusal) → Run t [] r l
+      → MatchResult r (λ c. ⊥) (λ n. f ≡ record { rule = Grammar; place = n })
+      → Gives (to_wire t b) (answer_of (Err f)) (l ++ b)
+  read_refused (Ok c) f x h = absurd h
+  read_refused (Err n) f x h = rw h (read_stopped x)
+
+  module _ {c : Cursor} (x : Run t [] (Ok c) l) where
+    got : Got (document.parse t) (Puts document_meant? document_octets (Ok start) [] (Ok c) l) (drop c.at t)
+    got = reads_got x.reads
+
+    put : Put document_meant? document_octets start [] c l got.value
+    put = got.holds.holds
 
     -- octets are left after it
-    pub read_left : c.at < length t → Gives (to_wire t b) (Refused 20 c.at) (l ++ b)
+    pub read_left : c.at < length t → Gives (to_wire t b) (refusal 20 c.at) (l ++ b)
     unfolding reading parse
     read_left h =
+        let place : length t - length (drop c.at t) ≡ c.at = omega (arith, length-drop c.at t) in
         let left = ap (λ (w : List ℕ). length t - length w) (sym (drop_one t c.at h)) ∙ place in
         refuses 20 c.at (rw (got.is, drop_one t c.at h) (ap (answer.refused 20) left))
 
@@ -97,82 +105,61 @@ module _ (t b l : List ℕ) (z : length l ≡ 0) {c : Cursor}
       unfolding parse
       whole = rw (got.is, drop_of_length-le t h)
 
-      judged : c.meaningful ≡ document_meant? got.value
-      judged = got.holds.meaningful
-
-      pub read_meaningless : not c.meaningful ≡ true → Gives (to_wire t b) (Refused 21 0) (l ++ b)
+      pub read_meaningless : c.meaningful ≡ false → Gives (to_wire t b) (refusal 21 0) (l ++ b)
       unfolding reading
-      read_meaningless k =
-          refuses 21 0 (rw (whole, meaning_none got.value (sym judged ∙ not-true c.meaningful k)))
+      read_meaningless k = refuses 21 0 (rw (whole, meaning_none got.value (sym put.meaningful ∙ k)))
 
-      module _ (k : not c.meaningful ≡ false) where
+      module _ (k : c.meaningful ≡ true) where
         holds : T c.meaningful
-        holds = subst T (sym (not-false c.meaningful k)) tt
+        holds = subst T (sym k) tt
 
         means : T (document_meant? got.value)
-        means = subst T judged holds
+        means = subst T put.meaningful holds
 
         limit : c.bounded ≡ leb (length (document_octets got.value)) 65535
-        limit = got.holds.bounded holds ∙ rw zero-add
+        limit = put.bounded holds ∙ rw zero-add
 
-        pub read_large : not c.bounded ≡ true → Gives (to_wire t b) (Refused 22 0) (l ++ b)
+        pub read_large : c.bounded ≡ false → Gives (to_wire t b) (refusal 22 0) (l ++ b)
         unfolding reading
-        read_large m = refuses 22 0 (rw (
-          whole,
-          meaning_some got.value means,
-          within_same got.value means,
-          sym limit
-              ∙ not-true c.bounded m,
-        ))
+        read_large m = refuses 22 0
+            (rw (whole, meaning_some got.value means, within_same got.value means, sym limit ∙ m))
 
-        module _ (m : not c.bounded ≡ false) where
+        module _ (m : c.bounded ≡ true) where
           bounded : T c.bounded
-          bounded = subst T (sym (not-false c.bounded m)) tt
+          bounded = subst T (sym m) tt
 
           says : reading t ≡ output (document_octets got.value)
           unfolding reading
-          says = rw (
-            whole,
-            meaning_some got.value means,
-            within_same got.value means,
-            sym limit
-                ∙ not-false c.bounded m,
-          ) (ap output (sym (octets-form got.value means)))
+          says = rw (whole, meaning_some got.value means, within_same got.value means, sym limit ∙ m)
+              (ap output (sym (octets-form got.value means)))
 
           size : c.to ≡ length (document_octets got.value)
-          size = omega (arith, (got.holds.wrote holds bounded).place)
+          size = omega (arith, (put.wrote holds bounded).place)
 
-          pub read_long : length (l ++ b) < c.to → Gives (to_wire t b) (Refused 23 0) (l ++ b)
+          pub read_long : length (l ++ b) < c.to → Gives (to_wire t b) (refusal 23 0) (l ++ b)
           unfolding to_wire
-          read_long n = rw (empty l z) (go (rw (empty l z) at n))
-            where
-              go : length b < c.to → Gives (to_wire t b) (Refused 23 0) b
-              go n = rw says (gives_none 23 b (document_octets got.value) (omega (arith, size)))
+          read_long n =
+              let n' : length b < length (document_octets got.value) = omega (arith, size, rw (empty l z) at n) in
+              rw (empty l z, says) (gives_none 23 b (document_octets got.value) n')
 
           -- the second run finds the same, and writes it
-          pub read_message : {c' : Cursor} {b' : List ℕ} → c.to ≤ length (l ++ b)
-              → Step document_meant? document_octets document.parse t start (l ++ b) c' b'
-              → Gives (to_wire t b) (Length c.to) b'
+          pub read_message : {r : Reached} {b' : List ℕ} → c.to ≤ length (l ++ b) → Run t (l ++ b) r b'
+              → Gives (to_wire t b) (success c.to) b'
           unfolding to_wire
-          read_message {c'} {b'} n y = go (rw (empty l z) at n) (rw (empty l z) at y)
+          read_message {r} {b'} n y = go r (rw (empty l z) at n) (rw (empty l z) at y)
             where
-              same : (d : Document) → d ≡ got.value → Put document_meant? document_octets start b c' b' d
+              same : {c' : Cursor} (d : Document) → d ≡ got.value → Put document_meant? document_octets start b c' b' d
                   → Wrote b 0 (document_octets got.value) b' c'.to
-              same d e p =
+              same {c'} d e p =
                   let q : Put document_meant? document_octets start b c' b' got.value =
                   subst (λ (x : Document). Put document_meant? document_octets start b c' b' x) e p in
                   let i : T c'.meaningful = subst T (sym q.meaningful) means in
-                  let j : T c'.bounded =
-                  subst T (sym (q.bounded i)) (subst T (got.holds.bounded holds) bounded) in
+                  let j : T c'.bounded = subst T (sym (q.bounded i)) (subst T (put.bounded holds) bounded) in
                   q.wrote i j
 
-              good : (v : Bool) → c'.grammatical ≡ v
-                  → Finds t (Put document_meant? document_octets start b c' b') c' (document.parse t)
-                  → Wrote b 0 (document_octets got.value) b' c'.to
-              good true e r = let o = reads_got r e in same o.value (parsed_value (sym o.is ∙ got.is)) o.holds
-              good false e r = absurd (parsed≢failed (sym got.is ∙ reads_bad r e))
-
-              go : c.to ≤ length b → Step document_meant? document_octets document.parse t start b c' b'
-                  → Gives (to_wire t b) (Length c.to) b'
-              go n y = rw says (gives_written 23 b (document_octets got.value)
-                  (good c'.grammatical refl (found_there y refl)) size n)
+              go : (r : Reached) → c.to ≤ length b → Run t b r b' → Gives (to_wire t b) (success c.to) b'
+              go (Ok c') n y =
+                  let o = reads_got y.reads in
+                  rw says (gives_written 23 b (document_octets got.value)
+                  (same o.value (parsed_value (sym o.is ∙ got.is)) o.holds.holds) size n)
+              go (Err k) n y = absurd (parsed≢failed (sym got.is ∙ reads_bad y.reads))

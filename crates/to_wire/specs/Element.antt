@@ -1,12 +1,12 @@
 -- The EDNS element after its title: what its reader shows.
-use Rattle.std.specs.Prelude.{◌≡◌, refl, Bool, true, false, ◌&&◌, List, [], ◌∷◌, ◌++◌, map, ℕ, ◌+◌, ◌-◌, ◌*◌, ◌/◌, ◌%◌, ◌≤◌, ◌<◌, T, ltb, eqb, length}
+use Rattle.std.specs.Prelude.{◌≡◌, refl, Bool, true, false, ◌&&◌, List, [], ◌∷◌, ◌++◌, map, ℕ, ◌+◌, ◌-◌, ◌*◌, ◌/◌, ◌%◌, ◌≤◌, ◌<◌, T, ltb, eqb, length, Result, Ok, Err, IfOk}
 use Rattle.std.proofs.Common.{sym, ◌∙◌, ap, subst, arith, eqb-true, lt-ltb, ltb→lt}
 use Rattle.octets.specs.Lists.{ascii, all, All, each, u8?, key?, row_text}
 use Rattle.octets.specs.Bits.{is_true, and_left, and_right}
 use Rattle.octets.specs.Fields.{be16, be32}
 use Rattle.octets.specs.Parsed.{Parsed, parsed, failed, and_then, strip}
 use Rattle.octets.specs.Codec.{Any, Codec, iso, joined, table, ◌▷◌, ◌◁◌, ◌⊗◌, table_parser}
-use Rattle.octets.specs.Decimal.{decimal, number, number_then}
+use Rattle.octets.specs.Decimal.{decimal, natural, number, number_then}
 use Rattle.octets.specs.Overlay.{Wrote, then}
 use Rattle.names.specs.Name.{name_form}
 use Rattle.records.specs.Message.{record_form, bit?}
@@ -19,15 +19,14 @@ use Rattle.strict.specs.Members.{option_of, member?}
 use Rattle.strict.proofs.OptionLaws.{key_holds, option_member_lem}
 use Rattle.strict.specs.Meaning.{item_edns, edns_item?}
 use Rattle.parse_tokens.specs.declared.Cursor.{Cursor}
-use Rattle.parse_tokens.specs.Cursor.{Keeps, keeps_then, Passed}
-use Rattle.parse_tokens.specs.Step.{Found, Put, Step, Held, Judged, found_at, found_from, found_sound, found_map}
-use Rattle.parse_tokens.specs.Step.{found_lit}
-use Rattle.parse_tokens.specs.Step.{found_behind, found_pair, put_from, put_as, put_before, put_judged}
-use Rattle.parse_tables.specs.declared.Row.{Row}
+use Rattle.parse_tokens.specs.Cursor.{Reached, Keeps, keeps_then, Passed}
+use Rattle.parse_tokens.specs.Step.{Found, Put, Puts, Step, Held, Judged, found_at, found_from, found_none, found_stays, found_sound}
+use Rattle.parse_tokens.specs.Step.{found_map, found_lit, found_behind, found_pair, put_from, put_as, put_before, put_judged}
+use Rattle.parse_tokens.specs.Value.{reached, ValueRead, value_stop}
 use Rattle.parse_tokens.specs.Number.{capped, capped_below, capped_is, NumberRead, TillRead}
 use Rattle.parse_tables.specs.Rows.{RowRead}
 use Rattle.to_wire.specs.Options.{options?, OptionsStep}
-use Rattle.to_wire.specs.declared.members.EdnsHead.{EdnsHead}
+use Rattle.to_wire.specs.declared.element.EdnsHead.{EdnsHead}
 
 -- ---- the parser after the title
 abbrev pub behind_text : EdnsItem → List ℕ
@@ -64,17 +63,81 @@ abbrev pub rcode_codec : Codec (λ n. T (key? n rcodes)) (λ n. ascii ",\"RCODE\
     ++ (row_text n rcodes ++ ascii "\",\"UDPSIZE\":")) Any
 rcode_codec = ",\"RCODE\":\"" ▷ table rcodes rcodes-distinct ◁ "\",\"UDPSIZE\":"
 
-pub record RcodeRead (t : List ℕ) (c : Cursor) (r : Row) : Type 0 where
-  pub found : Found rcode_codec.parse (λ n. r.key ≡ n) t c r.cursor
-  pub keeps : Keeps t c r.cursor
+abbrev pub RcodeRead : List ℕ → Cursor → Result (Cursor × ℕ) ℕ → Type 0
+RcodeRead t c r = ValueRead rcode_codec.parse (λ v n. v ≡ n) t (Ok c) r
 
-pub rcode_read : {t : List ℕ} {c r s : Cursor} {n : Row} → Passed (ascii ",\"RCODE\":\"") t c r
-    → RowRead (table_parser rcodes) t r n → Passed (ascii "\",\"UDPSIZE\":") t n.cursor s
-    → RcodeRead t c (record { cursor = s; key = n.key })
-rcode_read q x e = record {
-  found = found_lit q (found_behind x.found e);
-  keeps = keeps_then q.keeps (keeps_then x.keeps e.keeps);
-}
+module _ {t : List ℕ} {c : Cursor} where
+  pub rcode_read : {d e f : Cursor} {n : ℕ} → Passed (ascii ",\"RCODE\":\"") t (Ok c) (Ok d)
+      → RowRead (table_parser rcodes) t d (Ok (e, n)) → Passed (ascii "\",\"UDPSIZE\":") t (Ok e) (Ok f)
+      → RcodeRead t c (Ok (f, n))
+  rcode_read q x e = record {
+    found = found_lit q (found_behind x.found e);
+    keeps = keeps_then q.keeps (keeps_then x.keeps e.keeps);
+  }
+
+  pub rcode_stop : {d : Reached} {r : Result (Cursor × ℕ) ℕ} {n : ℕ} → Passed (ascii ",\"RCODE\":\"") t (Ok c) d
+      → ValueRead (table_parser rcodes) (λ v n. v ≡ n) t d r
+      → Passed (ascii "\",\"UDPSIZE\":") t (reached r) (Err n) → RcodeRead t c (Err n)
+  rcode_stop q x e = value_stop (found_lit q (found_behind x.found e))
+
+-- the fields before the options, one after another
+abbrev Fields : Type 0
+Fields = ℕ × (ℕ × (ℕ × ℕ))
+
+abbrev FieldsKept : EdnsHead → Fields → Type 0
+FieldsKept h u =
+    (h.version ≡ capped u.0) × ((h.flags ≡ u.1.0) × ((h.full ≡ u.1.1.0) × (h.size ≡ capped u.1.1.1)))
+
+pub record EdnsHeadRead (t : List ℕ) (c : Cursor) (r : Result (Cursor × EdnsHead) ℕ) : Type 0 where
+  pub i : Result (Cursor × ℕ) ℕ
+  pub j : Result (Cursor × ℕ) ℕ
+  pub k : Result (Cursor × ℕ) ℕ
+  pub l : Result (Cursor × ℕ) ℕ
+  pub version : TillRead (ascii ",\"FLAGS\":") t c i
+  pub row : ValueRead (table_parser flags) (λ v n. v ≡ n) t (reached i) j
+  pub full : ValueRead rcode_codec.parse (λ v n. v ≡ n) t (reached j) k
+  pub size : ValueRead natural (λ v n. v ≡ capped n) t (reached k) l
+  pub end : reached l ≡ reached r
+  pub told : (u : Fields) → IfOk i (λ x. x.1 ≡ capped u.0) × (IfOk j (λ x. x.1 ≡ u.1.0)
+      × (IfOk k (λ x. x.1 ≡ u.1.1.0) × IfOk l (λ x. x.1 ≡ capped u.1.1.1))) → IfOk r (λ x. FieldsKept x.1 u)
+
+module _ {t : List ℕ} {c : Cursor} where
+  pub edns_head_read : {d e f g : Cursor} {i j k l : ℕ} → TillRead (ascii ",\"FLAGS\":") t c (Ok (d, i))
+      → RowRead (table_parser flags) t d (Ok (e, j)) → RcodeRead t e (Ok (f, k)) → NumberRead t f (Ok (g, l))
+      → EdnsHeadRead t c (Ok (g, record { version = i; flags = j; full = k; size = l }))
+  edns_head_read {d} {e} {f} {g} {i} {j} {k} {l} v w x y = record {
+    i = Ok (d, i);
+    j = Ok (e, j);
+    k = Ok (f, k);
+    l = Ok (g, l);
+    version = v;
+    row = w;
+    full = x;
+    size = y;
+    end = refl;
+    told = λ u h. h;
+  }
+
+  pub edns_head_stop : {i j k : Result (Cursor × ℕ) ℕ} {n : ℕ} → TillRead (ascii ",\"FLAGS\":") t c i
+      → ValueRead (table_parser flags) (λ v n. v ≡ n) t (reached i) j
+      → ValueRead rcode_codec.parse (λ v n. v ≡ n) t (reached j) k
+      → ValueRead natural (λ v n. v ≡ capped n) t (reached k) (Err n) → EdnsHeadRead t c (Err n)
+  edns_head_stop {i} {j} {k} {n} v w x y = record {
+    i = i;
+    j = j;
+    k = k;
+    l = Err n;
+    version = v;
+    row = w;
+    full = x;
+    size = y;
+    end = refl;
+    told = λ u h. tt;
+  }
+
+  pub edns_head_keeps : {r : Result (Cursor × EdnsHead) ℕ} → EdnsHeadRead t c r → Keeps t (Ok c) (reached r)
+  edns_head_keeps x = subst (Keeps t (Ok c)) x.end
+      (keeps_then x.version.keeps (keeps_then x.row.keeps (keeps_then x.full.keeps x.size.keeps)))
 
 -- ---- what they must be
 abbrev pub edns_fits? : ℕ → ℕ → ℕ → ℕ → Bool
@@ -139,23 +202,24 @@ abbrev pub opt_ttl : ℕ → ℕ → ℕ
 opt_ttl full flags = full / 16 * 16777216 + flags * 32768
 
 -- they were written at `start`, where the options end at `to`
-pub record OptFronted (size full flags start to : ℕ) (b b' : List ℕ) (r : ℕ) : Type 0 where
-  pub wrote : size < 65536 → full / 16 < 256 → flags < 2 → start + 11 ≤ to
-      → Wrote b start (opt_front size (opt_ttl full flags) (to - (start + 11))) b' r
+pub record OptFronted (h : EdnsHead) (start to : ℕ) (b b' : List ℕ) : Type 0 where
+  pub wrote : h.size < 65536 → h.full / 16 < 256 → h.flags < 2 → start + 11 ≤ to
+      → Wrote b start (opt_front h.size (opt_ttl h.full h.flags) (to - (start + 11))) b' (start + 11)
 
-pub opt_none : {size full flags start to r : ℕ} (b : List ℕ) → to < start + 11
-    → OptFronted size full flags start to b b r
-opt_none b h = record { wrote = λ i j k l. absurd (omega arith) }
+pub opt_none : {h : EdnsHead} {start to : ℕ} {b : List ℕ} → to < start + 11 → OptFronted h start to b b
+opt_none z = record { wrote = λ i j k l. absurd (omega arith) }
 
-pub opt_fronted : {size full flags start to : ℕ} {b b₁ b₂ b₃ b₄ : List ℕ} {r₁ r₂ r₃ r₄ : ℕ}
-    → Wrote b start (0 ∷ 0 ∷ 41 ∷ []) b₁ r₁ → Wrote b₁ r₁ (be16 (size % 65536)) b₂ r₂
-    → Wrote b₂ r₂ (be32 (full / 16 % 256 * 16777216 + flags % 2 * 32768)) b₃ r₃
-    → Wrote b₃ r₃ (be16 (to - (start + 11))) b₄ r₄ → OptFronted size full flags start to b b₄ r₄
-opt_fronted {size} {full} {flags} {start} {to} {b} {b₄ = b₄} {r₄ = r₄} w x y z = record {
+pub opt_fronted : {h : EdnsHead} {start to : ℕ} {b b₁ b₂ b₃ b₄ : List ℕ} {r₁ r₂ r₃ r₄ : ℕ}
+    → Wrote b start (0 ∷ 0 ∷ 41 ∷ []) b₁ r₁ → Wrote b₁ r₁ (be16 (h.size % 65536)) b₂ r₂
+    → Wrote b₂ r₂ (be32 (h.full / 16 % 256 * 16777216 + h.flags % 2 * 32768)) b₃ r₃
+    → Wrote b₃ r₃ (be16 (to - (start + 11))) b₄ r₄ → OptFronted h start to b b₄
+opt_fronted {h} {start} {to} {b} {b₄ = b₄} {r₁ = r₁} {r₂ = r₂} {r₃ = r₃} {r₄ = r₄} w x y z = record {
   wrote = λ i j k l.
-      let s : size % 65536 ≡ size = omega arith in
-      let u : full / 16 % 256 * 16777216 + flags % 2 * 32768 ≡ opt_ttl full flags = omega arith in
-      then (then (then w (rw s at x)) (rw u at y)) z;
+      let s : h.size % 65536 ≡ h.size = omega arith in
+      let u : h.full / 16 % 256 * 16777216 + h.flags % 2 * 32768 ≡ opt_ttl h.full h.flags = omega arith in
+      let e : r₄ ≡ start + 11 = omega (arith, w.place, x.place, y.place, z.place) in
+      subst (λ (n : ℕ). Wrote b start (opt_front h.size (opt_ttl h.full h.flags) (to - (start + 11))) b₄ n) e
+      (then (then (then w (rw s at x)) (rw u at y)) z);
 }
 
 -- ---- the whole
@@ -175,65 +239,69 @@ form_is : (e : EdnsItem) → element_form e ≡ opt_front e.size (opt_ttl e.rcod
 unfolding record_form edns_record item_edns name_form
 form_is e = rw (each_option e.options)
 
-abbrev pub EdnsStep : ℕ → List ℕ → Cursor → List ℕ → Cursor → List ℕ → Type 0
+abbrev pub EdnsStep : ℕ → List ℕ → Reached → List ℕ → Reached → List ℕ → Type 0
 EdnsStep rcode t c b r b' = Step (element? rcode) element_form edns_rest t c b r b'
 
--- the fields before the options, one after another
-pub record EdnsHeadRead (t : List ℕ) (c : Cursor) (r : EdnsHead) : Type 0 where
-  pub d : Cursor
-  pub e : Cursor
-  pub f : Cursor
-  pub version : TillRead (ascii ",\"FLAGS\":") t c (record { cursor = d; value = r.version })
-  pub row : RowRead (table_parser flags) t d (record { cursor = e; key = r.flags })
-  pub full : RcodeRead t e (record { cursor = f; key = r.full })
-  pub size : NumberRead t f (record { cursor = r.cursor; value = r.size })
-
-pub edns_read : (rcode : ℕ) {t : List ℕ} {c h o j : Cursor} {b b₁ b₂ : List ℕ} {f : EdnsHead} {ok : Bool} {e : ℕ}
-    → EdnsHeadRead t c f → Held 11 f.cursor h → OptionsStep option_members.parse t h b o b₁
-    → ok ≡ edns_fits? f.version f.full rcode f.size → Judged ok o j
-    → OptFronted f.size f.full f.flags f.cursor.to j.to b₁ b₂ e → EdnsStep rcode t c b j b₂
+-- the fields and the options
+edns_found : {t : List ℕ} {c : Cursor} {r : Result (Cursor × EdnsHead) ℕ} {o : Reached} {P : List Member → Type 0}
+    → EdnsHeadRead t c r → Found option_members.parse P t (reached r) o
+    → Found edns_rest (λ e. IfOk r (λ x. FieldsKept x.1 (e.version, (e.flags, (e.rcode, e.size)))) × P e.options) t (Ok c)
+    o
 unfolding edns_rest edns_behind
-edns_read rcode {t} {c} {h} {o} {j} {b} {b₁} {b₂} {f} {ok} {e = end} x places members fit judged front =
-    found_at (found_sound edns_behind fields) judged.at judged.grammatical
-    (omega (arith, judged.to, members.moves.safe.room)) λ e k. done e k.0 k.1
+edns_found {t = t} {o = o} {P = P} x members =
+    found_map edns_from (λ u h. (
+      x.told (u.0, (u.1.0, (u.1.1.0, u.1.1.1.0)))
+          (h.0, (h.1.0, (h.1.1.0, h.1.1.1.0))),
+      h.1.1.1.1,
+    ))
+    (found_pair x.version.found (found_pair x.row.found (found_pair x.full.found (found_pair x.size.found
+    (subst (λ z. Found option_members.parse P t z o) (sym x.end) members)))))
+
+-- a stop in the fields or in the options
+pub edns_stop : (rcode : ℕ) {t b b' : List ℕ} {c : Cursor} {n : ℕ} → EdnsHeadRead t c (Err n)
+    → EdnsStep rcode t (Ok c) b (Err n) b'
+edns_stop rcode x = found_none (edns_found {P = λ l. Unit {0}} x found_stays)
+
+pub options_stop : (rcode : ℕ) {t b b₁ b' : List ℕ} {c d h : Cursor} {f : EdnsHead} {n : ℕ} → EdnsHeadRead t c (Ok (d, f))
+    → Held 11 d h → OptionsStep option_members.parse t (Ok h) b (Err n) b₁ → EdnsStep rcode t (Ok c) b (Err n) b'
+options_stop rcode x places members = found_none (edns_found x (found_from places.at members))
+
+pub edns_read : (rcode : ℕ) {t b b₁ b₂ : List ℕ} {c d h o j : Cursor} {f : EdnsHead} {ok : Bool}
+    → EdnsHeadRead t c (Ok (d, f)) → Held 11 d h → OptionsStep option_members.parse t (Ok h) b (Ok o) b₁
+    → ok ≡ edns_fits? f.version f.full rcode f.size → Judged ok o j → OptFronted f d.to j.to b₁ b₂
+    → EdnsStep rcode t (Ok c) b (Ok j) b₂
+unfolding edns_rest
+edns_read rcode {t} {b} {b₁} {b₂} {c} {d} {h} {o} {j} {f} {ok} x places members fit judged front =
+    found_at (found_sound edns_behind (edns_found x (found_from places.at members))) judged.at
+    (omega (arith, judged.to, members.moves.within.0.room)) λ e k. record { holds = done e k.0 k.1 }
   where
     Q : EdnsItem → Type 0
-    Q e = (f.version ≡ capped e.version)
-        × ((f.flags ≡ e.flags)
-        × ((f.full ≡ e.rcode)
-        × ((f.size ≡ capped e.size) × Put options? (each (λ m. option_form (option_of m))) h b o b₁ e.options)))
-
-    fields : Found edns_behind.parse Q t c o
-    fields = found_map edns_from (λ u k. k)
-        (found_pair x.version.found
-        (found_pair x.row.found
-        (found_pair x.full.found
-        (found_pair x.size.found (found_from places.at places.grammatical members)))))
+    Q e = FieldsKept f (e.version, (e.flags, (e.rcode, e.size)))
+        × Puts options? (each (λ m. option_form (option_of m))) (Ok h) b (Ok o) b₁ e.options
 
     front_of : EdnsItem → List ℕ
     front_of e = opt_front e.size (opt_ttl e.rcode e.flags) (length (rdata_of e))
 
     done : (e : EdnsItem) → EdnsIn e → Q e → Put (element? rcode) element_form c b j b₂ e
-    done e i q = put_from
-        (keeps_then x.version.keeps (keeps_then x.row.keeps (keeps_then x.full.keeps x.size.keeps)))
+    done e i q = put_from (edns_head_keeps x).alike.holds
         (put_as refl (form_is e) (put_before front_of places refl p before))
       where
         fits : ok ≡ edns_fits? e.version e.rcode rcode e.size
         fits = fit ∙ rw (
-          q.0,
+          q.0.0,
           capped_is e.version 0 (omega arith),
-          q.1.1.0,
-          q.1.1.1.0,
+          q.0.1.1.0,
+          q.0.1.1.1,
           capped_below e.size 65536 (omega arith),
         )
 
         p : Put (element? rcode) rdata_of h b j b₁ e
-        p = put_judged (put_as {ok' = λ e. options? e.options} {wire' = rdata_of} {a' = e} refl refl q.1.1.1.1)
+        p = put_judged (put_as {ok' = λ e. options? e.options} {wire' = rdata_of} {a' = e} refl refl q.1.holds)
             judged (element_is rcode e i ∙ ap (λ (k : Bool). options? e.options && k) (sym fits))
 
-        before : T j.meaningful → T j.bounded → Wrote b₁ f.cursor.to (front_of e) b₂ end
+        before : T j.meaningful → T j.bounded → Wrote b₁ d.to (front_of e) b₂ (d.to + 11)
         before y z =
-            let start = f.cursor.to in
+            let start = d.to in
             let w : T (options? e.options && edns_fits? e.version e.rcode rcode e.size) =
             subst T (element_is rcode e i) (and_right h.meaningful (element? rcode e) (subst T p.meaningful y)) in
             let l : e.size < 65536 =
@@ -243,13 +311,7 @@ edns_read rcode {t} {c} {h} {o} {j} {b} {b₁} {b₂} {f} {ok} {e = end} x place
             let u : j.to ≡ start + 11 + length (rdata_of e) =
             omega (arith, places.to (and_left h.bounded _ (subst T (p.bounded y) z)), (p.wrote y z).place) in
             let n : j.to - (start + 11) ≡ length (rdata_of e) = omega (arith, u) in
-            let g : f.size ≡ e.size = omega (arith, q.1.1.1.0) in
-            let k = front.wrote (omega (arith, g)) (rw q.1.1.0 (rcode_octet e.rcode i.1.1.0))
-            (rw q.1.0 (flags-bit e.flags i.1.0)) (omega (arith, u)) in
-            subst (λ (m : ℕ). Wrote b₁ start (opt_front e.size (opt_ttl e.rcode e.flags) m) b₂ end) n
-            (subst (λ (m : ℕ). Wrote b₁ start (opt_front m (opt_ttl e.rcode e.flags) (j.to - (start + 11))) b₂ end)
-            g
-            (subst (λ (m : ℕ). Wrote b₁ start (opt_front f.size (opt_ttl m e.flags) (j.to - (start + 11))) b₂ end)
-            q.1.1.0
-            (subst (λ (m : ℕ). Wrote b₁ start (opt_front f.size (opt_ttl f.full m) (j.to - (start + 11))) b₂ end)
-            q.1.0 k)))
+            let g : f.size ≡ e.size = omega (arith, q.0.1.1.1) in
+            let k = front.wrote (omega (arith, g)) (rw q.0.1.1.0 (rcode_octet e.rcode i.1.1.0))
+            (rw q.0.1.0 (flags-bit e.flags i.1.0)) (omega (arith, u)) in
+            rw (g, q.0.1.1.0, q.0.1.0, n) at k

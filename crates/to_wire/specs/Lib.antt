@@ -6,6 +6,7 @@ pub mod Values
 pub mod Options
 pub mod Element
 pub mod Meant
+pub mod Kept
 pub mod Reading
 pub mod Items
 pub mod Sections

@@ -1,183 +1,192 @@
 // Questions, records and elements of a text, and the arrays of them. What is judged and written of each is defined in
 // specs/.
-ghost use Rattle.std.specs.Prelude.{◌≡◌, ◌+◌, ◌≤◌, ◌<◌};
+ghost use Rattle.std.specs.Prelude.{◌≡◌, ◌+◌, ◌≤◌, ◌<◌, Ok};
+ghost use Rattle.octets.specs.Lists.{paired};
 ghost use Rattle.parse_tokens.specs.Cursor.{Safe};
 ghost use Rattle.parse_tokens.specs.Step.{Step};
-ghost use Rattle.to_wire.specs.Values.{HexSpan};
 ghost use Rattle.records.specs.Message.{question?, question_form};
 ghost use Rattle.strict.specs.Parser.{question_codec};
-ghost use Rattle.to_wire.specs.Reading.{WordRead, TypeClassRead, RdataFits, RdataRead, CouldBeElement};
+ghost use Rattle.to_wire.specs.Reading.{WordRead, TypeClassRead, RdataFits, RdataRead, could_be};
 ghost use Rattle.to_wire.specs.Reading.{TtlRead, TailRead, RecordRead};
-ghost use Rattle.to_wire.specs.Items.{ItemRead};
-ghost use Rattle.to_wire.specs.Sections.{QuestionEntryRead, TitledRead, OneRead, NextRead, InsideRead};
-ghost use Rattle.to_wire.specs.Sections.{SectionRead};
-ghost use Rattle.to_wire.specs.Sections.{at_most_65536, bit};
+ghost use Rattle.to_wire.specs.Items.{TitledRead, ItemRead};
+ghost use Rattle.to_wire.specs.Sections.{QuestionEntryRead, OneRead, NextRead, InsideRead, SectionRead};
+ghost use Rattle.to_wire.specs.Sections.{at_most_65536, bit, one_more};
 
+use crate::element::edns;
 use crate::labels::name;
-use crate::members::{edns, put_hex, size_of};
+use crate::values::put_hex;
 use edns::is_edns;
+use hex_or_octets::{HexDigits, Octets};
 use parse_rdata::fits_layout;
 use parse_tokens::{
-    Amount, Cursor, Span, Ttl, advance, comma, demand, either, emit, furthest_failure, hex,
-    literal, number, octet_at, put_ttl, put_u16, signed,
+    Cursor, Stop, advance, comma, demand, emit, furthest, hex, literal, number, put_number,
+    put_ttl, signed,
 };
 
 // What was read of an entry: whether it is of TYPE 41, whether it is an EDNS element, whether it is an ordinary record
 // that could be one.
 #[derive(Clone, Copy)]
 struct Entry {
-    cursor: Cursor,
     opt: bool,
     shown: bool,
     eligible: bool,
 }
 
 // A number of two octets, and what it is.
-fn u16_field(text: &[u8], c: Cursor, out: &mut [u8]) -> Amount
+#[tactic(auto, using(crate::specs::Reading::word_read, crate::specs::Reading::word_stop))]
+fn u16_field(text: &[u8], c: Cursor, out: &mut [u8]) -> Result<(Cursor, u64), Stop>
     requires { Safe text.now c }
-    ensures { WordRead text.now c out.old result out.new }
+    ensures { WordRead text.now (Ok c) out.old result out.new }
 {
-    let n = number(text, c);
-    Amount {
-        cursor: put_u16(n.cursor, n.value, out),
-        value: n.value,
-    }
+    let (c, value) = number(text, c)?;
+    Ok((put_number::<2>(c, value, out), value))
 }
 
 // TYPE and CLASS, and what TYPE is.
-fn type_class(text: &[u8], c: Cursor, out: &mut [u8]) -> Amount
+#[tactic(auto, using(crate::specs::Reading::type_class_read))]
+fn type_class(text: &[u8], c: Cursor, out: &mut [u8]) -> Result<(Cursor, u64), Stop>
     requires { Safe text.now c }
-    ensures { TypeClassRead text.now c out.old result out.new }
+    ensures { TypeClassRead text.now (Ok c) out.old result out.new }
 {
-    let title = literal(text, c, b",\"TYPE\":");
-    let rtype = u16_field(text, title, out);
-    let next = literal(text, rtype.cursor, b",\"CLASS\":");
-    let class = u16_field(text, next, out);
-    let end = class.cursor;
-    Amount {
-        cursor: end,
-        value: rtype.value,
-    }
+    let c = literal(text, c, b",\"TYPE\":")?;
+    let (c, rtype) = u16_field(text, c, out)?;
+    let c = literal(text, c, b",\"CLASS\":")?;
+    let (c, _class) = u16_field(text, c, out)?;
+    Ok((c, rtype))
 }
 
 // A question.
-fn question(text: &[u8], c: Cursor, out: &mut [u8]) -> Cursor
+fn question(text: &[u8], c: Cursor, out: &mut [u8]) -> Result<Cursor, Stop>
     requires { Safe text.now c }
-    ensures { Step question? question_form question_codec.parse text.now c out.old result
-        out.new }
+    ensures { Step question? question_form question_codec.parse text.now (Ok c) out.old result out.new }
 {
-    let start = literal(text, c, b"{\"NAME\":");
-    let owner = name(text, start, out);
-    let rtype = type_class(text, owner, out);
-    literal(text, rtype.cursor, b"}")
+    let c = literal(text, c, b"{\"NAME\":")?;
+    let c = name(text, c, out)?;
+    let (c, _rtype) = type_class(text, c, out)?;
+    literal(text, c, b"}")
 }
 
-// Whether the RDATA of this span has the layout of its TYPE; a TYPE that is out of range has none.
-fn rdata_fits(text: &[u8], span: Span, rtype: u64) -> bool
-    requires { HexSpan text.now span }
-    ensures { RdataFits text.now span rtype result }
+// Whether RDATA has the layout of its TYPE; a TYPE that is out of range has none.
+#[tactic(auto, using(crate::specs::Reading::fits_any, crate::specs::Reading::fits_layout_lem))]
+fn rdata_fits(rdata: HexDigits, rtype: u64) -> bool
+    ensures { RdataFits (paired rdata.entry.digits.now) rtype result }
 {
-    if rtype > 65535 {
-        return true;
-    }
-    let from = span.from;
-    let end = span.end;
-    fits_layout(rtype as u32, &text[from..end])
+    rtype > 65535 || fits_layout(rtype as u32, rdata)
 }
 
-// RDATA of a TYPE: judged, and written after its length.
-fn rdata(text: &[u8], c: Cursor, rtype: u64, out: &mut [u8]) -> Span
+// RDATA of a TYPE: judged, and written after its length in two octets.
+#[tactic(auto, using(crate::specs::Reading::rdata_stop))]
+fn rdata<'a>(
+    text: &'a [u8],
+    c: Cursor,
+    rtype: u64,
+    out: &mut [u8],
+) -> Result<(Cursor, HexDigits<'a>), Stop>
     requires { Safe text.now c }
-    ensures { RdataRead rtype text.now c out.old result out.new }
+    ensures { RdataRead rtype text.now (Ok c) out.old result out.new }
 {
-    let span = hex(text, c);
-    let size = size_of(span);
-    let d = demand(span.cursor, rdata_fits(text, span, rtype));
-    let e = emit(d, &[(size / 256 % 256) as u8, (size % 256) as u8], out);
-    Span {
-        cursor: put_hex(text, span, e, out),
-        from: span.from,
-        end: span.end,
+    let (c, rdata) = hex(text, c)?;
+    let c = demand(c, rdata_fits(rdata, rtype));
+    let size = rdata.count() as u64;
+    let c = emit(c, &size.to_be_bytes()[6..], out);
+    Ok((put_hex(rdata, c, out), rdata))
+}
+
+// Whether a record with these fields could be an EDNS element.
+fn shows_edns(rdata: HexDigits, rtype: u64, root: bool, ttl: Option<u32>, rcode: u32) -> bool
+    requires { rcode < 16 }
+    ensures { result ≡ could_be rtype root ttl rcode (paired rdata.entry.digits.now) }
+{
+    match ttl {
+        Some(bits) => rtype == 41 && is_edns(root, bits, rcode, rdata),
+        None => false,
     }
 }
 
-// Whether a record with these fields and the RDATA of this span could be an EDNS element.
-fn shows_edns(text: &[u8], span: Span, rtype: u64, root: bool, bits: u32, rcode: u32) -> bool
-    requires { HexSpan text.now span × (rcode < 16) }
-    ensures { CouldBeElement rtype root bits rcode text.now span result }
-{
-    if rtype != 41 {
-        return false;
-    }
-    let from = span.from;
-    let end = span.end;
-    is_edns(root, bits, rcode, &text[from..end], true)
-}
-
-// TTL with the title of RDATA after it.
-fn ttl_field(text: &[u8], c: Cursor, out: &mut [u8]) -> Ttl
+// TTL with the title of RDATA after it: its bits, if it is in range.
+#[tactic(auto, using(crate::specs::Reading::ttl_read, crate::specs::Reading::ttl_stop))]
+fn ttl_field(text: &[u8], c: Cursor, out: &mut [u8]) -> Result<(Cursor, Option<u32>), Stop>
     requires { Safe text.now c }
-    ensures { TtlRead text.now c out.old result out.new }
+    ensures { TtlRead text.now (Ok c) out.old result out.new }
 {
-    let ttl = signed(text, c);
-    let title = literal(text, ttl.cursor, b",\"RDATAHEX\":");
-    Ttl {
-        cursor: put_ttl(title, ttl.bits, ttl.fits, out),
-        bits: ttl.bits,
-        fits: ttl.fits,
-    }
+    let (c, bits) = signed(text, c)?;
+    let c = literal(text, c, b",\"RDATAHEX\":")?;
+    Ok((put_ttl(c, bits, out), bits))
 }
 
 // TTL and RDATA, and the end of a record.
-fn ttl_rdata(text: &[u8], c: Cursor, rtype: u64, root: bool, rcode: u32, out: &mut [u8]) -> Entry
+#[tactic(auto, using(crate::specs::Reading::tail_read))]
+fn ttl_rdata(
+    text: &[u8],
+    c: Cursor,
+    rtype: u64,
+    root: bool,
+    rcode: u32,
+    out: &mut [u8],
+) -> Result<(Cursor, Entry), Stop>
     requires { Safe text.now c × (rcode < 16) }
-    ensures { TailRead rtype root rcode text.now c out.old result out.new }
+    ensures { TailRead rtype root rcode text.now (Ok c) out.old result out.new }
 {
-    let ttl = ttl_field(text, c, out);
-    let span = rdata(text, ttl.cursor, rtype, out);
-    Entry {
-        cursor: literal(text, span.cursor, b"}"),
+    let (c, ttl) = ttl_field(text, c, out)?;
+    let (c, rdata) = rdata(text, c, rtype, out)?;
+    let c = literal(text, c, b"}")?;
+    let entry = Entry {
         opt: rtype == 41,
         shown: false,
-        eligible: shows_edns(text, span, rtype, root, ttl.bits, rcode),
-    }
+        eligible: shows_edns(rdata, rtype, root, ttl, rcode),
+    };
+    Ok((c, entry))
 }
 
 // A record, from its owner on.
-fn record(text: &[u8], c: Cursor, rcode: u32, out: &mut [u8]) -> Entry
+#[tactic(auto, using(crate::specs::Reading::record_read_lem, crate::specs::Reading::record_stop))]
+fn record(text: &[u8], c: Cursor, rcode: u32, out: &mut [u8]) -> Result<(Cursor, Entry), Stop>
     requires { Safe text.now c × (rcode < 16) }
-    ensures { RecordRead rcode text.now c out.old result out.new }
+    ensures { RecordRead rcode text.now (Ok c) out.old result out.new }
 {
-    let start = c.at;
-    let owner = name(text, c, out);
-    let end = owner.at;
-    let rtype = type_class(text, owner, out);
-    let title = literal(text, rtype.cursor, b",\"TTL\":");
-    ttl_rdata(text, title, rtype.value, end - start == 3, rcode, out)
+    let owner = name(text, c, out)?;
+    let root = owner.at == c.at + 3;
+    let (c, rtype) = type_class(text, owner, out)?;
+    let c = literal(text, c, b",\"TTL\":")?;
+    ttl_rdata(text, c, rtype, root, rcode, out)
+}
+
+// A record with its first title.
+fn record_element(
+    text: &[u8],
+    c: Cursor,
+    rcode: u32,
+    out: &mut [u8],
+) -> Result<(Cursor, Entry), Stop>
+    requires { Safe text.now c × (rcode < 16) }
+    ensures { TitledRead rcode text.now (Ok c) out.old result out.new }
+{
+    let c = literal(text, c, b"{\"NAME\":")?;
+    record(text, c, rcode, out)
 }
 
 // An element of the additional section.
-fn additional_element(text: &[u8], c: Cursor, rcode: u32, out: &mut [u8]) -> Entry
+#[tactic(auto, using(crate::specs::Items::item_steps))]
+fn additional_element(
+    text: &[u8],
+    c: Cursor,
+    rcode: u32,
+    out: &mut [u8],
+) -> Result<(Cursor, Entry), Stop>
     requires { Safe text.now c × (rcode < 16) }
-    ensures { ItemRead rcode text.now c out.old result out.new }
+    ensures { ItemRead rcode text.now (Ok c) out.old result out.new }
 {
-    let ordinary = literal(text, c, b"{\"NAME\":");
-    let element = literal(text, c, b"{\"EDNS\":{\"Version\":");
-    if element.grammatical {
-        let end = edns(text, element, rcode, out);
-        return Entry {
-            cursor: furthest_failure(end, ordinary.at),
-            opt: true,
-            shown: true,
-            eligible: false,
-        };
-    }
-    let entry = record(text, ordinary, rcode, out);
-    Entry {
-        cursor: furthest_failure(entry.cursor, element.at),
-        opt: entry.opt,
-        shown: entry.shown,
-        eligible: entry.eligible,
+    match literal(text, c, b"{\"EDNS\":{\"Version\":") {
+        Ok(c) => {
+            let c = edns(text, c, rcode, out)?;
+            let entry = Entry {
+                opt: true,
+                shown: true,
+                eligible: false,
+            };
+            Ok((c, entry))
+        }
+        Err(far) => furthest(record_element(text, c, rcode, out), far),
     }
 }
 
@@ -193,7 +202,6 @@ pub enum Element {
 // element is there, whether a record that could be one is.
 #[derive(Clone, Copy)]
 pub struct Section {
-    pub cursor: Cursor,
     pub count: u64,
     pub opts: u64,
     pub shown: bool,
@@ -201,31 +209,30 @@ pub struct Section {
 }
 
 // A question as an entry.
-fn question_entry(text: &[u8], c: Cursor, out: &mut [u8]) -> Entry
+#[tactic(auto, using(crate::specs::Sections::asked_read, crate::specs::Sections::asked_stop))]
+fn question_entry(text: &[u8], c: Cursor, out: &mut [u8]) -> Result<(Cursor, Entry), Stop>
     requires { Safe text.now c }
-    ensures { QuestionEntryRead text.now c out.old result out.new }
+    ensures { QuestionEntryRead text.now (Ok c) out.old result out.new }
 {
-    Entry {
-        cursor: question(text, c, out),
+    let c = question(text, c, out)?;
+    let entry = Entry {
         opt: false,
         shown: false,
         eligible: false,
-    }
-}
-
-// A record with its first title.
-fn record_element(text: &[u8], c: Cursor, rcode: u32, out: &mut [u8]) -> Entry
-    requires { Safe text.now c × (rcode < 16) }
-    ensures { TitledRead rcode text.now c out.old result out.new }
-{
-    let start = literal(text, c, b"{\"NAME\":");
-    record(text, start, rcode, out)
+    };
+    Ok((c, entry))
 }
 
 // One entry of an array.
-fn array_entry(text: &[u8], c: Cursor, element: Element, rcode: u32, out: &mut [u8]) -> Entry
+fn array_entry(
+    text: &[u8],
+    c: Cursor,
+    element: Element,
+    rcode: u32,
+    out: &mut [u8],
+) -> Result<(Cursor, Entry), Stop>
     requires { Safe text.now c × (rcode < 16) }
-    ensures { OneRead element rcode text.now c out.old result out.new }
+    ensures { OneRead element rcode text.now (Ok c) out.old result out.new }
 {
     match element {
         Element::Question => question_entry(text, c, out),
@@ -239,13 +246,22 @@ fn count_up(n: u64, more: bool) -> u64
     requires { n ≤ 65536 }
     ensures { result ≡ at_most_65536 (n + bit more) }
 {
-    if !more {
-        return n;
+    (n + u64::from(more)).min(65536)
+}
+
+impl Section {
+    // With one entry more.
+    fn with(self, entry: Entry) -> Section
+        requires { (self.count ≤ 65536) × (self.opts ≤ 65536) }
+        ensures { result ≡ one_more self entry }
+    {
+        Section {
+            count: count_up(self.count, true),
+            opts: count_up(self.opts, entry.opt),
+            shown: self.shown || entry.shown,
+            eligible: self.eligible || entry.eligible,
+        }
     }
-    if n > 65535 {
-        return n;
-    }
-    n + 1
 }
 
 // An entry, and the comma before it; the first has none.
@@ -256,68 +272,54 @@ fn comma_entry(
     element: Element,
     rcode: u32,
     out: &mut [u8],
-) -> Entry
+) -> Result<(Cursor, Entry), Stop>
     requires { Safe text.now c × (rcode < 16) }
-    ensures { NextRead element first rcode text.now c out.old result out.new }
+    ensures { NextRead element first rcode text.now (Ok c) out.old result out.new }
 {
-    array_entry(text, comma(text, c, first), element, rcode, out)
+    let c = comma(text, c, first)?;
+    array_entry(text, c, element, rcode, out)
 }
 
 // The entries of an array, and the bracket after them.
-fn elements(text: &[u8], c: Cursor, element: Element, rcode: u32, out: &mut [u8]) -> Section
+#[tactic(auto, using(crate::specs::Sections::gathered_start, crate::specs::Sections::gathered_more))]
+fn elements(
+    text: &[u8],
+    c: Cursor,
+    element: Element,
+    rcode: u32,
+    out: &mut [u8],
+) -> Result<(Cursor, Section), Stop>
     requires { Safe text.now c × (rcode < 16) }
-    ensures { InsideRead element rcode text.now c out.old result out.new }
+    ensures { InsideRead element rcode text.now (Ok c) out.old result out.new }
 {
     let mut d = c;
     let mut first = true;
-    let mut count = 0;
-    let mut opts = 0;
-    let mut shown = false;
-    let mut hidden = false;
-    if !d.grammatical {
-        return Section {
-            cursor: d,
-            count: count,
-            opts: opts,
-            shown: shown,
-            eligible: hidden,
-        };
-    }
-    loop {
-        let at = d.at;
-        if octet_at(text, at) == b']' {
-            return Section {
-                cursor: advance(d, at + 1),
-                count: count,
-                opts: opts,
-                shown: shown,
-                eligible: hidden,
-            };
-        }
-        let entry = comma_entry(text, d, first, element, rcode, out);
-        d = entry.cursor;
-        count = count_up(count, true);
-        opts = count_up(opts, entry.opt);
-        shown = either(shown, entry.shown);
-        hidden = either(hidden, entry.eligible);
-        if !d.grammatical {
-            return Section {
-                cursor: d,
-                count: count,
-                opts: opts,
-                shown: shown,
-                eligible: hidden,
-            };
-        }
+    let mut section = Section {
+        count: 0,
+        opts: 0,
+        shown: false,
+        eligible: false,
+    };
+    while text.get(d.at) != Some(&b']') {
+        let (next, entry) = comma_entry(text, d, first, element, rcode, out)?;
+        section = section.with(entry);
+        d = next;
         first = false;
     }
+    Ok((advance(d, d.at + 1), section))
 }
 
 // An array of entries.
-pub fn read_section(text: &[u8], c: Cursor, element: Element, rcode: u32, out: &mut [u8]) -> Section
+pub fn read_section(
+    text: &[u8],
+    c: Cursor,
+    element: Element,
+    rcode: u32,
+    out: &mut [u8],
+) -> Result<(Cursor, Section), Stop>
     requires { Safe text.now c × (rcode < 16) }
-    ensures { SectionRead element rcode text.now c out.old result out.new }
+    ensures { SectionRead element rcode text.now (Ok c) out.old result out.new }
 {
-    let open = literal(text, c, b"[");
-    elements(text, open, element, rcode, out)
+    let c = literal(text, c, b"[")?;
+    elements(text, c, element, rcode, out)
 }

@@ -2,24 +2,25 @@
 #![tactic(auto)]
 
 ghost use Rattle.std.specs.Prelude.{◌≡◌, ◌<◌};
-ghost use Rattle.to_wire.specs.Meant.{document_meant?, document_octets};
+ghost use Rattle.octets.specs.Calls.{answer_of, Call};
 ghost use Rattle.strict.specs.Parser.{document};
-ghost use Rattle.parse_tokens.specs.Step.{Step};
-ghost use Rattle.parse_tokens.specs.Cursor.{Safe};
-ghost use Rattle.to_wire.specs.Whole.{start, ArrayRead, TwoRead, agreement, settled_section, consistent?};
-ghost use Rattle.to_wire.specs.Whole.{ArraysRead};
-ghost use Rattle.octets.specs.Calls.{Call};
 ghost use Rattle.strict.specs.Reading.{Reads};
+ghost use Rattle.parse_tokens.specs.Cursor.{Safe};
+ghost use Rattle.parse_tokens.specs.Step.{Step};
+ghost use Rattle.to_wire.specs.Meant.{document_meant?, document_octets};
+ghost use Rattle.to_wire.specs.Whole.{start, ArrayRead, settled_section, consistent?};
 
 use entries::{Element, Section, read_section};
-use head::{Counts, Header, head};
-use octets::Outcome;
-use parse_tokens::{Cursor, both, demand, either, literal};
+use head::{Counts, head};
+use octets::{Refusal, Rule};
+use parse_tokens::{Cursor, Stop, demand, literal};
 
+mod element;
 mod entries;
 mod head;
 mod labels;
 mod members;
+mod values;
 
 // A title and the array after it.
 fn array(
@@ -29,56 +30,12 @@ fn array(
     element: Element,
     rcode: u32,
     out: &mut [u8],
-) -> Section
+) -> Result<(Cursor, Section), Stop>
     requires { Safe text.now c × (rcode < 16) }
-    ensures { ArrayRead title.now element rcode text.now c out.old result
-        out.new }
+    ensures { ArrayRead title.now element rcode text.now (Ok c) out.old result out.new }
 {
-    let start = literal(text, c, title);
-    read_section(text, start, element, rcode, out)
-}
-
-#[derive(Clone, Copy)]
-struct TwoSections {
-    first: Section,
-    second: Section,
-}
-
-// Two arrays, one after the other.
-fn two_arrays(
-    text: &[u8],
-    c: Cursor,
-    title: &[u8],
-    element: Element,
-    title2: &[u8],
-    element2: Element,
-    rcode: u32,
-    out: &mut [u8],
-) -> TwoSections
-    requires { Safe text.now c × (rcode < 16) }
-    ensures { TwoRead title.now element title2.now element2 rcode text.now
-        c out.old result out.new }
-{
-    let first = array(text, c, title, element, rcode, out);
-    let second = array(text, first.cursor, title2, element2, rcode, out);
-    TwoSections {
-        first: first,
-        second: second,
-    }
-}
-
-// Whether the counts are those of the arrays.
-fn agree(counts: Counts, questions: u64, answers: u64, authority: u64, additional: u64) -> bool
-    ensures { result ≡ agreement counts questions answers authority additional }
-{
-    let last = both(
-        counts.authority == authority,
-        counts.additional == additional,
-    );
-    both(
-        counts.questions == questions,
-        both(counts.answers == answers, last),
-    )
+    let c = literal(text, c, title)?;
+    read_section(text, c, element, rcode, out)
 }
 
 // Whether an EDNS element is the only entry of TYPE 41, and no record that could be one is written as an ordinary
@@ -87,107 +44,72 @@ fn settled(section: Section) -> bool
     ensures { result ≡ settled_section section }
 {
     let lone = section.opts == 1;
-    let shown = section.shown;
-    let hidden = section.eligible;
-    both(either(!shown, lone), !both(hidden, lone))
+    (!section.shown || lone) && !(section.eligible && lone)
 }
 
 // Whether the counts are those of the arrays, and nothing of the additional section is left unsettled.
-fn consistent(counts: Counts, front: TwoSections, back: TwoSections) -> bool
-    ensures { result ≡ consistent? counts front back }
+fn consistent(told: Counts, found: Counts, additional: Section) -> bool
+    ensures { result ≡ consistent? told found additional }
 {
-    let questions = front.first;
-    let answers = front.second;
-    let authority = back.first;
-    let additional = back.second;
-    both(
-        agree(
-            counts,
-            questions.count,
-            answers.count,
-            authority.count,
-            additional.count,
-        ),
-        settled(additional),
-    )
+    told == found && settled(additional)
 }
 
-// Reads the arrays after the head.
-fn arrays(text: &[u8], h: Header, out: &mut [u8]) -> Cursor
-    requires { Safe text.now h.cursor × (h.rcode < 16) }
-    ensures { ArraysRead text.now h out.old result out.new }
+// Reads the text from its first octet on.
+fn document(text: &[u8], out: &mut [u8]) -> Result<Cursor, Stop>
+    ensures { Step document_meant? document_octets document.parse text.now (Ok start) out.old result out.new }
 {
-    let rcode = h.rcode;
-    let front = two_arrays(
+    let start = Cursor {
+        at: 0,
+        to: 0,
+        meaningful: true,
+        bounded: true,
+    };
+    let (c, head) = head(text, start, out)?;
+    let rcode = head.rcode;
+    let (c, questions) = array(text, c, b",\"questionRRs\":", Element::Question, rcode, out)?;
+    let (c, answers) = array(text, c, b",\"answerRRs\":", Element::Record, rcode, out)?;
+    let (c, authority) = array(text, c, b",\"authorityRRs\":", Element::Record, rcode, out)?;
+    let (c, additional) = array(
         text,
-        h.cursor,
-        b",\"questionRRs\":",
-        Element::Question,
-        b",\"answerRRs\":",
-        Element::Record,
-        rcode,
-        out,
-    );
-    let answers = front.second;
-    let back = two_arrays(
-        text,
-        answers.cursor,
-        b",\"authorityRRs\":",
-        Element::Record,
+        c,
         b",\"additionalRRs\":",
         Element::Additional,
         rcode,
         out,
-    );
-    let additional = back.second;
-    let end = literal(text, additional.cursor, b"}");
-    demand(end, consistent(h.counts, front, back))
-}
-
-// Reads the text from its first octet on.
-fn document(text: &[u8], out: &mut [u8]) -> Cursor
-    ensures { Step document_meant? document_octets document.parse text.now start out.old result
-        out.new }
-{
-    let first = Cursor {
-        at: 0,
-        to: 0,
-        grammatical: true,
-        meaningful: true,
-        bounded: true,
+    )?;
+    let c = literal(text, c, b"}")?;
+    let found = Counts {
+        questions: questions.count,
+        answers: answers.count,
+        authority: authority.count,
+        additional: additional.count,
     };
-    let h = head(text, first, out);
-    arrays(text, h, out)
+    Ok(demand(c, consistent(head.counts, found, additional)))
 }
 
 // Writes the message that a text says. A first run over no octets finds every refusal.
-pub fn read(text: &[u8], message: &mut [u8]) -> Outcome
+pub fn read(text: &[u8], message: &mut [u8]) -> Result<usize, Refusal>
     ensures { Reads
         (record {
           input = text.now;
           before = message.old;
-          answer = result;
+          answer = answer_of result;
           after = message.new;
         }) }
 {
-    let c = document(text, &mut message[..0]);
-    if !c.grammatical {
-        return Outcome::Refused(20, c.at);
+    let end = document(text, &mut message[..0]).map_err(|stop| Rule::Grammar.at(stop))?;
+    if end.at < text.len() {
+        return Err(Rule::Grammar.at(end.at));
     }
-    let end = c.at;
-    if end < text.len() {
-        return Outcome::Refused(20, end);
+    if !end.meaningful {
+        return Err(Rule::Meaning.at(0));
     }
-    if !c.meaningful {
-        return Outcome::Refused(21, 0);
+    if !end.bounded {
+        return Err(Rule::Limit.at(0));
     }
-    if !c.bounded {
-        return Outcome::Refused(22, 0);
-    }
-    let size = c.to;
-    if size > message.len() {
-        return Outcome::Refused(23, 0);
+    if end.to > message.len() {
+        return Err(Rule::MessageRoom.at(0));
     }
     let _again = document(text, message);
-    Outcome::Length(size)
+    Ok(end.to)
 }

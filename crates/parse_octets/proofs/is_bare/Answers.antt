@@ -1,18 +1,13 @@
-use Rattle.parse_octets.proofs.Character.{bare_low, bare_high, bare_quote, bare_backslash, bare_is}
-use borrow.Author.Rules.{rules}
+use Rattle.std.proofs.Common.{arith}
+use Rattle.std.proofs.lemmas.Bool.Decides.{nat_tests}
+use Rattle.strict.specs.Spelt.{bare?}
+use Rattle.spelling.specs.Spelling.{printable?}
 use Rattle.parse_octets.proofs.is_bare.Goals as goal
 
-pub returns-then-c-lt32 : goal.returns-then-c-lt32
-returns-then-c-lt32 c = search (bare_low, rules)
+pub returns-after-matches : goal.returns-after-matches
+unfolding bare? printable?
+returns-after-matches c = grind (arith, nat_tests)
 
-pub returns-then-c-gt126 : goal.returns-then-c-gt126
-returns-then-c-gt126 c = search (bare_high, rules)
-
-pub returns-then-c-eq34 : goal.returns-then-c-eq34
-returns-then-c-eq34 c = search (bare_quote, rules)
-
-pub returns-then-c-eq92 : goal.returns-then-c-eq92
-returns-then-c-eq92 c = search (bare_backslash, rules)
-
-pub returns : goal.returns
-returns c = search (bare_is, rules)
+pub returns-else-matches : goal.returns-else-matches
+unfolding bare? printable?
+returns-else-matches c = grind (arith, nat_tests)

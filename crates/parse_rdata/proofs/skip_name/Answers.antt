@@ -4,22 +4,22 @@ use borrow.Author.Rules.{rules}
 use Rattle.parse_rdata.proofs.skip_name.Goals as goal
 
 pub loop-place-init : goal.loop-place-init
-loop-place-init c = (search rules, from_start _ _)
+loop-place-init g c = (search rules, from_start _ _)
 
 pub returns-then-place-size : goal.returns-then-place-size
-returns-then-place-size c = search (skip_past, rules)
+returns-then-place-size g c = search (skip_past, rules)
 
 pub returns-then-x-eq0 : goal.returns-then-x-eq0
-returns-then-x-eq0 c = search (skip_root, rules)
+returns-then-x-eq0 g c = search (skip_root, rules)
 
 pub returns-then-x-gt63 : goal.returns-then-x-gt63
-returns-then-x-gt63 c = search (skip_bits, rules)
+returns-then-x-gt63 g c = search (skip_bits, rules)
 
-pub returns-then-next-size : goal.returns-then-next-size
-returns-then-next-size c = search (skip_cut, rules)
+pub returns-then-size-place : goal.returns-then-size-place
+returns-then-size-place g c = search (skip_cut, rules)
 
 pub returns-then-more-gt254 : goal.returns-then-more-gt254
-returns-then-more-gt254 c = search (skip_long, rules)
+returns-then-more-gt254 g c = search (skip_long, rules)
 
 pub loop-place-preserved : goal.loop-place-preserved
-loop-place-preserved c = (search rules, search (skip_label, rules))
+loop-place-preserved g c = (search rules, search (skip_label, rules))

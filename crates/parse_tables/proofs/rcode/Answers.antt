@@ -1,7 +1,7 @@
 -- `parse_tables::rcode` meets its contract: the table of RCODE.
-use borrow.Author.Rules.{rules}
-use Rattle.parse_tables.specs.Rows.{row_of}
+use Rattle.edns.specs.Edns.{rcodes}
+use Rattle.parse_tables.specs.Rows.{row_table}
 use Rattle.parse_tables.proofs.rcode.Goals as goal
 
 pub returns : goal.returns
-returns c = search (row_of, rules)
+returns c = row_table rcodes c.rcode_table.ensures c.row_of.ensures

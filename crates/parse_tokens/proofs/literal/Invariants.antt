@@ -1,10 +1,5 @@
-use Prim.Native.Nat.{◌-◌}
-use lib.ListN.{length}
 use Rattle.parse_tokens.specs.Cursor.{Matching}
 use Rattle.parse_tokens.proofs.literal.Given as goal
 
 abbrev pub invariant-loop-i : goal.invariant-loop-i
-invariant-loop-i l = Matching l.lit l.text l.c l.at l.i
-
-abbrev pub decreases-loop-i : goal.decreases-loop-i
-decreases-loop-i l = length l.lit - l.i
+invariant-loop-i l = Matching l.lit l.text l.c l.i

@@ -1,4 +1,3 @@
--- `parse_tokens::pairs` meets its contract: digits in pairs, and the quote after them.
 use Prim.Native.Nat.{◌-◌}
 use lib.ListN.{length}
 use Rattle.parse_tokens.specs.Hex.{Pairs}

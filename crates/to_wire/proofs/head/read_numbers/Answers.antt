@@ -1,6 +1,27 @@
-use borrow.Author.Rules.{rules}
-use Rattle.to_wire.specs.Head.{numbers_read}
+-- `to_wire::head::read_numbers` meets its contract: where it stops, so do the numbers one after another.
+use Rattle.parse_tokens.specs.Value.{at_exit, value_stays}
+use Rattle.to_wire.specs.Head.{NumbersRead, numbers_read, numbers_stop}
 use Rattle.to_wire.proofs.head.read_numbers.Goals as goal
 
+pub returns-in_err-c : goal.returns-in_err-c
+returns-in_err-c c = at_exit (NumbersRead _ _) c.from_residual.ensures.1
+    (numbers_stop c.in_err-c.ensures value_stays value_stays value_stays value_stays)
+
+pub returns-in_err-c-2 : goal.returns-in_err-c-2
+returns-in_err-c-2 c = at_exit (NumbersRead _ _) c.from_residual-in_err-c-2.ensures.1
+    (numbers_stop c.in_ok-c.ensures c.in_err-c-2.ensures value_stays value_stays value_stays)
+
+pub returns-in_err-c-3 : goal.returns-in_err-c-3
+returns-in_err-c-3 c = at_exit (NumbersRead _ _) c.from_residual-in_err-c-3.ensures.1
+    (numbers_stop c.in_ok-c.ensures c.in_ok-c-2.ensures c.in_err-c-3.ensures value_stays value_stays)
+
+pub returns-in_err-c-4 : goal.returns-in_err-c-4
+returns-in_err-c-4 c = at_exit (NumbersRead _ _) c.from_residual-in_err-c-4.ensures.1
+    (numbers_stop c.in_ok-c.ensures c.in_ok-c-2.ensures c.in_ok-c-3.ensures c.in_err-c-4.ensures value_stays)
+
+pub returns-in_err-c-5 : goal.returns-in_err-c-5
+returns-in_err-c-5 c = at_exit (NumbersRead _ _) c.from_residual-in_err-c-5.ensures.1
+    (numbers_stop c.in_ok-c.ensures c.in_ok-c-2.ensures c.in_ok-c-3.ensures c.in_ok-c-4.ensures c.in_err-c-5.ensures)
+
 pub returns : goal.returns
-returns c = search (numbers_read, rules)
+returns c = numbers_read c.in_ok-c.ensures c.in_ok-c-2.ensures c.in_ok-c-3.ensures c.in_ok-c-4.ensures c.in_ok-c-5.ensures

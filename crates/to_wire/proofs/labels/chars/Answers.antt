@@ -1,21 +1,11 @@
-use Rattle.to_wire.specs.String.{chars_start, chars_stuck, chars_end, chars_bad, chars_less, chars_more}
-use borrow.Author.Rules.{rules}
+use Rattle.std.proofs.Common.{rules}
+use Rattle.parse_tokens.specs.Value.{exit_is}
+use Rattle.to_wire.specs.String.{chars_stop, chars_end}
 use Rattle.to_wire.proofs.labels.chars.Goals as goal
 
-pub returns-then-not-c : goal.returns-then-not-c
-returns-then-not-c c = search (chars_stuck, rules)
+pub returns-in_err-letter : goal.returns-in_err-letter
+returns-in_err-letter c =
+    rw (exit_is c.from_residual.ensures.1) (chars_stop c.loop-d.invariant (search rules) c.in_err-letter.ensures)
 
-pub loop-d-init : goal.loop-d-init
-loop-d-init c = search (chars_start, rules)
-
-pub returns-then-y-eq34 : goal.returns-then-y-eq34
-returns-then-y-eq34 c = search (chars_end, rules)
-
-pub returns-then-not-o : goal.returns-then-not-o
-returns-then-not-o c = search (chars_bad, rules)
-
-pub loop-d-smaller : goal.loop-d-smaller
-loop-d-smaller c = search (chars_less, rules)
-
-pub loop-d-preserved : goal.loop-d-preserved
-loop-d-preserved c = search (chars_more, rules)
+pub returns : goal.returns
+returns c = chars_end c.loop-d.invariant (search rules) c.advance-2.ensures

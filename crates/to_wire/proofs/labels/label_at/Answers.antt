@@ -1,25 +1,19 @@
-use Rattle.to_wire.specs.Label.{letters_start, label_none, letters_long, letters_end, letters_bad}
-use Rattle.to_wire.specs.Label.{letters_less, letters_more}
-use borrow.Author.Rules.{rules}
+use Rattle.std.proofs.Common.{rules}
+use Rattle.parse_tokens.specs.Value.{exit_is}
+use Rattle.to_wire.specs.Label.{letters_stop, letters_long, letters_end}
 use Rattle.to_wire.proofs.labels.label_at.Goals as goal
+use Rattle.to_wire.proofs.labels.label_at.Goals.{then-size-le63, else-size-le63}
 
-pub returns-then-first-eq46 : goal.returns-then-first-eq46
-returns-then-first-eq46 c = search (label_none, rules)
+pub returns-in_err-letter : goal.returns-in_err-letter
+returns-in_err-letter c =
+    rw (exit_is c.from_residual.ensures.1) (letters_stop c.loop-letter.invariant c.in_err-letter.ensures)
 
-pub loop-start-init : goal.loop-start-init
-loop-start-init c = search (letters_start, rules)
-
-pub returns-then-n-gt63 : goal.returns-then-n-gt63
-returns-then-n-gt63 c = search (letters_long, rules)
-
-pub returns-then-y-eq46 : goal.returns-then-y-eq46
-returns-then-y-eq46 c = search (letters_end, rules)
-
-pub returns-then-not-o : goal.returns-then-not-o
-returns-then-not-o c = search (letters_bad, rules)
-
-pub loop-start-smaller : goal.loop-start-smaller
-loop-start-smaller c = search (letters_less, rules)
-
-pub loop-start-preserved : goal.loop-start-preserved
-loop-start-preserved c = search (letters_more, rules)
+pub returns-then-eq : goal.returns-then-eq
+returns-then-eq c =
+    let w = c.loop-letter.invariant in
+    elim c.if-size-le63.branch [
+      | then-size-le63 x ↦
+          rw x.out-is (letters_end w c.in_ok-letter.ensures c.store.ensures (search rules) x.put.ensures)
+      | else-size-le63 x ↦
+          rw x.out-is (letters_long w c.in_ok-letter.ensures c.store.ensures (search rules) (search rules))
+    ]

@@ -1,22 +1,16 @@
-use Rattle.to_wire.specs.Name.{labels-start, labels_none, labels_end, labels_bad, labels_less}
-use Rattle.to_wire.specs.Name.{labels_more}
-use borrow.Author.Rules.{rules}
+use Rattle.std.proofs.Common.{rules}
+use Rattle.parse_tokens.specs.Value.{exit_is}
+use Rattle.to_wire.specs.Name.{labels_stop, labels_more, labels_end}
 use Rattle.to_wire.proofs.labels.labels_at.Goals as goal
 
-pub returns-then-x-eq34 : goal.returns-then-x-eq34
-returns-then-x-eq34 c = search (labels_none, rules)
+pub returns-in_err-end : goal.returns-in_err-end
+returns-in_err-end c = rw (exit_is c.from_residual.ensures.1)
+    (labels_stop c.loop-end.invariant (rw c.unwrap_or.ensures at c.in_err-end.ensures))
 
-pub loop-out-init : goal.loop-out-init
-loop-out-init c = search (labels-start, rules)
+pub loop-end-preserved : goal.loop-end-preserved
+loop-end-preserved c = rw c.grown-size.ensures
+    (labels_more c.loop-end.invariant (rw c.unwrap_or.ensures at c.in_ok-end.ensures) (search rules))
 
-pub returns-then-y-eq34 : goal.returns-then-y-eq34
-returns-then-y-eq34 c = search (labels_end, rules)
-
-pub returns-then-not-l : goal.returns-then-not-l
-returns-then-not-l c = search (labels_bad, rules)
-
-pub loop-out-smaller : goal.loop-out-smaller
-loop-out-smaller c = search (labels_less, rules)
-
-pub loop-out-preserved : goal.loop-out-preserved
-loop-out-preserved c = search (labels_more, rules)
+pub returns-then-eq : goal.returns-then-eq
+returns-then-eq c = rw c.grown-size.ensures
+    (labels_end c.loop-end.invariant (rw c.unwrap_or.ensures at c.in_ok-end.ensures) (search rules))

@@ -3,8 +3,8 @@ use Prim.Native.Nat.{◌-◌}
 use lib.ListN.{length}
 use Rattle.to_wire.proofs.labels.labels_at.Given as goal
 
-abbrev pub invariant-loop-out : goal.invariant-loop-out
-invariant-loop-out l = LabelsLoop l.text l.start l.initial.out l.to l.at l.size l.out
+abbrev pub invariant-loop-end : goal.invariant-loop-end
+invariant-loop-end l = LabelsLoop l.text l.start l.initial.out l.to l.at l.size l.out
 
-abbrev pub decreases-loop-out : goal.decreases-loop-out
-decreases-loop-out l = length l.text - l.at
+abbrev pub decreases-loop-end : goal.decreases-loop-end
+decreases-loop-end l = length l.text - l.at

@@ -1,7 +1,11 @@
--- `labels::name` meets its contract: the quote, and the root or labels after it.
-use borrow.Author.Rules.{rules}
+use Rattle.parse_tokens.specs.Step.{found_stays}
+use Rattle.parse_tokens.specs.Value.{exit_is}
 use Rattle.to_wire.specs.Name.{name_opened}
 use Rattle.to_wire.proofs.labels.name.Goals as goal
 
+pub returns-in_err-c : goal.returns-in_err-c
+returns-in_err-c c =
+    rw (exit_is c.from_residual.ensures.1) (name_opened c.in_err-c.ensures found_stays)
+
 pub returns : goal.returns
-returns c = search (name_opened, rules)
+returns c = name_opened c.in_ok-c.ensures c.root_or_labels.ensures

@@ -1,13 +1,9 @@
-use borrow.Author.Rules.{rules}
-use Rattle.to_wire.specs.Options.{member_known, member_other, name_word}
+-- `to_wire::members::option_member` meets its contract: one of two kinds of member.
+use Rattle.to_wire.specs.Options.{member_known, member_other}
 use Rattle.to_wire.proofs.members.option_member.Goals as goal
 
-pub listed_option-v-requires : goal.listed_option-v-requires
-listed_option-v-requires c =
-    (search rules, name_word c.member_name-n.ensures c.if-d.true)
+pub returns-in-Ok : goal.returns-in-Ok
+returns-in-Ok c = member_other c.in-Ok.ensures c.opt_n.result c.opt_n.ensures
 
-pub returns-then-d : goal.returns-then-d
-returns-then-d c = search (member_known, rules)
-
-pub returns : goal.returns
-returns c = search (member_other, rules)
+pub returns-in-Err : goal.returns-in-Err
+returns-in-Err c = rw c.furthest.ensures (member_known c.known_member.result c.in-Err.ensures c.known_member.ensures)

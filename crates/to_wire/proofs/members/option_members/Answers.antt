@@ -1,24 +1,23 @@
-use borrow.Author.Rules.{rules}
-use borrow.Author.Tests.{not-true}
-use Rattle.parse_tokens.specs.Step.{found_failed}
-use Rattle.to_wire.specs.Options.{members_parse, rising_start, rising_end, rising_stop, rising_less}
-use Rattle.to_wire.specs.Options.{rising_more}
+use Rattle.std.proofs.Common.{rules}
+use Rattle.parse_tokens.specs.Value.{exit_is}
+use Rattle.to_wire.specs.Options.{rising_start, rising_end, rising_halt, rising_less, rising_more}
 use Rattle.to_wire.proofs.members.option_members.Goals as goal
 
-pub returns-then-not-c : goal.returns-then-not-c
-returns-then-not-c c = found_failed members_parse _ _ (search rules) (not-true _ c.if-not-c.true)
+pub loop-out-init : goal.loop-out-init
+loop-out-init c = rising_start c.requires
 
-pub loop-d-init : goal.loop-d-init
-loop-d-init c = search (rising_start, rules)
+pub rising_member-requires : goal.rising_member-requires
+rising_member-requires c = c.loop-out.invariant.items.moves.within.0
 
-pub returns-then-octet_at-eq125 : goal.returns-then-octet_at-eq125
-returns-then-octet_at-eq125 c = search (rising_end, rules)
+pub returns-in_err-next : goal.returns-in_err-next
+returns-in_err-next c = rw (exit_is c.from_residual.ensures.1)
+    (rising_halt c.loop-out.invariant (search rules) c.in_err-next.ensures)
 
-pub returns-then-not-d : goal.returns-then-not-d
-returns-then-not-d c = search (rising_stop, rules)
+pub loop-out-smaller : goal.loop-out-smaller
+loop-out-smaller c = rising_less c.loop-out.invariant c.in_ok-next.ensures
 
-pub loop-d-smaller : goal.loop-d-smaller
-loop-d-smaller c = search (rising_less, rules)
+pub loop-out-preserved : goal.loop-out-preserved
+loop-out-preserved c = rising_more c.loop-out.invariant c.in_ok-next.ensures (search rules) (search rules)
 
-pub loop-d-preserved : goal.loop-d-preserved
-loop-d-preserved c = search (rising_more, rules)
+pub returns : goal.returns
+returns c = rising_end c.loop-out.invariant (search rules) c.advance.ensures

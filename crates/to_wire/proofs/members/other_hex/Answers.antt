@@ -1,14 +1,11 @@
--- `members::other_hex` meets its contract.
-use borrow.Author.Rules.{rules}
-use Rattle.to_wire.specs.Options.{other_hex_lem}
-use Rattle.to_wire.specs.Values.{hex-digits}
+-- `to_wire::members::other_hex` meets its contract: octets in hexadecimal, with their code and length before them.
+use Rattle.parse_tokens.specs.Value.{exit_is}
+use Rattle.to_wire.specs.Options.{other_hex_lem, other_hex_stop}
 use Rattle.to_wire.proofs.members.other_hex.Goals as goal
 
-pub put_hex-v-requires : goal.put_hex-v-requires
-put_hex-v-requires c = (hex-digits c.hex-h.ensures, search rules)
-
-pub other_fits-requires : goal.other_fits-requires
-other_fits-requires c = search (hex-digits, rules)
+pub returns-in_err-c : goal.returns-in_err-c
+returns-in_err-c c = rw (exit_is c.from_residual.ensures.1) (other_hex_stop c.args.n c.in_err-c.ensures)
 
 pub returns : goal.returns
-returns c = search (other_hex_lem, rules)
+returns c = other_hex_lem c.args.n c.in_ok-c.ensures c.reserve.ensures c.put_hex-end.ensures c.other_fits.ensures
+    c.demand-end.ensures c.put_option_head.ensures

@@ -1,10 +1,6 @@
--- `members::put_front` meets its contract.
-use borrow.Author.Rules.{rules}
-use Rattle.to_wire.specs.Options.{fronted_none, fronted}
+-- `to_wire::members::put_option_head` meets its contract: a code and a length, in octets.
+use Rattle.to_wire.specs.Options.{fronted}
 use Rattle.to_wire.proofs.members.put_option_head.Goals as goal
 
-pub returns-then-to-start : goal.returns-then-to-start
-returns-then-to-start c = search (fronted_none, rules)
-
 pub returns : goal.returns
-returns c = search (fronted, rules)
+returns c = fronted c.put_be16-next.ensures c.put_be16.ensures
