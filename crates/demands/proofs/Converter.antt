@@ -17,12 +17,12 @@ use Rattle.json_text.specs.Text.{text}
 use Rattle.json_text.proofs.Bound.{text_short}
 use Rattle.json_text.specs.Converted.{output_of, converted, to_text, Converts}
 use Rattle.strict.proofs.ReadingLaws.{Whole, text_splits, text-filled, text_visible}
-use Rattle.demands.specs.FrontPage.Words.{reply, room, Accepted, Length, FitsIn, Room, stream, add_form, forms_of}
+use Rattle.demands.specs.FrontPage.Words.{room, Accepted, Length, FitsIn, Room, stream, add_form, forms_of}
 use Rattle.demands.proofs.Delivered.{call_succeeds, call_refuses, call_leaves, call_stays, calls_same}
 
 -- ---- demand 1
 pub same : (c d : Call) → Converts c → Converts d → c.input ≡ d.input → room c ≡ room d
-    → (reply c ≡ reply d) × (written_by c ≡ written_by d)
+    → (c.answer ≡ d.answer) × (written_by c ≡ written_by d)
 unfolding to_text
 same c d p q e n = calls_same 10 (converted d.input) c (rw e at p).promise d q.promise n
 
@@ -54,34 +54,34 @@ refuses (accepted m) k p e = absurd (subst Written e tt)
 refuses (refused j q) k p e = ap₂ refused (ap number_in e) (ap place_in e)
 
 module _ (c : Call) (made : Converts c) where
-  pub stays : drop (reported (reply c)) c.after ≡ drop (reported (reply c)) c.before
+  pub stays : drop (reported c.answer) c.after ≡ drop (reported c.answer) c.before
   unfolding to_text
   stays = call_stays 10 (converted c.input) c made.promise
 
-  pub leaves : (k p : ℕ) → reply c ≡ refusal k p → c.after ≡ c.before
+  pub leaves : (k p : ℕ) → c.answer ≡ refusal k p → c.after ≡ c.before
   unfolding to_text
   leaves = call_leaves 10 (converted c.input) c made.promise
 
   -- ---- demand 2, its writing half
   pub accepts : (n : ℕ)
-      → (reply c ≡ success n) ↔ ((m : Message) × (decode c.input ≡ accepted m) × Length c n (text m))
+      → (c.answer ≡ success n) ↔ ((m : Message) × (decode c.input ≡ accepted m) × Length c n (text m))
   unfolding to_text converted
   accepts n = (forward, backward)
     where
-      exact : (reply c ≡ success n) ↔ ((l : List ℕ) × (output_of (decode c.input) ≡ output l) × (length l ≤ room c)
+      exact : (c.answer ≡ success n) ↔ ((l : List ℕ) × (output_of (decode c.input) ≡ output l) × (length l ≤ room c)
           × (n ≡ length l))
       exact = call_succeeds 10 (output_of (decode c.input)) c made.promise n
 
-      forward : reply c ≡ success n → (m : Message) × (decode c.input ≡ accepted m) × Length c n (text m)
+      forward : c.answer ≡ success n → (m : Message) × (decode c.input ≡ accepted m) × Length c n (text m)
       forward e =
           let (l, o, h, k) = exact.0 e in
           let (m, d, f) = outputs (decode c.input) l o in
           (m, d, (rw f h, rw f k))
 
-      backward : (m : Message) × (decode c.input ≡ accepted m) × Length c n (text m) → reply c ≡ success n
+      backward : (m : Message) × (decode c.input ≡ accepted m) × Length c n (text m) → c.answer ≡ success n
       backward u = let (m, d, (h, k)) = u in exact.1 (text m, ap output_of d, h, k)
 
-  pub declines : (k p : ℕ) → (reply c ≡ refusal k p)
+  pub declines : (k p : ℕ) → (c.answer ≡ refusal k p)
       ↔ ((decode c.input ≡ refused k p)
       ⊎ ((m : Message) × (decode c.input ≡ accepted m) × (room c < length (text m)) × (k ≡ 10) × (p ≡ 0)))
   unfolding to_text converted
@@ -90,7 +90,7 @@ module _ (c : Call) (made : Converts c) where
       d : Decoded
       d = decode c.input
 
-      exact : (reply c ≡ refusal k p)
+      exact : (c.answer ≡ refusal k p)
           ↔ ((output_of d ≡ answer.refused k p)
           ⊎ ((l : List ℕ) × (output_of d ≡ output l) × (room c < length l) × (k ≡ 10) × (p ≡ 0)))
       exact = call_refuses 10 (output_of d) c made.promise k p
@@ -103,12 +103,13 @@ module _ (c : Call) (made : Converts c) where
 
       backward : (d ≡ refused k p) ⊎ ((m : Message) × (d ≡ accepted m) × (room c < length (text m)) × (k ≡ 10)
           × (p ≡ 0))
-          → (output_of d ≡ answer.refused k p) ⊎ ((l : List ℕ) × (output_of d ≡ output l) × (room c < length l) × (k ≡ 10)
+          → (output_of d ≡ answer.refused k p) ⊎ ((l : List ℕ) × (output_of d ≡ output l) × (room c < length l)
+          × (k ≡ 10)
           × (p ≡ 0))
       backward (inl e) = inl (ap output_of e)
       backward (inr u) = let (m, a, h, j, q) = u in inr (text m, ap output_of a, h, j, q)
 
-  pub places : (k p : ℕ) → reply c ≡ refusal k p → p ≤ length c.input
+  pub places : (k p : ℕ) → c.answer ≡ refusal k p → p ≤ length c.input
   places k p e = go ((declines k p).0 e)
     where
       go : (decode c.input ≡ refused k p)
@@ -129,7 +130,7 @@ pub accepted_whole : (m : Message) → Accepted m → Whole m
 accepted_whole m h = let (s, o, e) = h in decode_valid s m o e
 
 -- ---- every octet that is written lies in 0x20 to 0x7E
-pub visible : (c : Call) → Converts c → (n : ℕ) → reply c ≡ success n → All (λ x. (32 ≤ x) × (x ≤ 126)) (written_by c)
+pub visible : (c : Call) → Converts c → (n : ℕ) → c.answer ≡ success n → All (λ x. (32 ≤ x) × (x ≤ 126)) (written_by c)
 visible c made n e =
     let (m, d, (h, k)) = (accepts c made n).0 e in
     rw (writes c made m d h) (text_visible m (decode_valid c.input m made.octets d).0)

@@ -12,7 +12,7 @@ use Rattle.std.proofs.Math.ListN.{length}
 use Rattle.octets.specs.Answer.{Output, output, refused, Answer, success, refusal, Result, reported, overwritten}
 use Rattle.octets.specs.Answer.{delivered, delivered_same, delivered_stays}
 use Rattle.octets.specs.Calls.{Gives, Call, written_by}
-use Rattle.demands.specs.FrontPage.Words.{reply, room}
+use Rattle.demands.specs.FrontPage.Words.{room}
 
 -- ---- answers and outputs are told apart
 abbrev pub length_or_number : Answer → ℕ
@@ -90,23 +90,23 @@ module _ (no_room : ℕ) (b : List ℕ) where
 -- ---- a call that gives it
 module _ (no_room : ℕ) (o : Output) (c : Call) (g : Gives (delivered no_room o c.before) c.answer c.after) where
   pub call_succeeds : (n : ℕ)
-      → (reply c ≡ success n) ↔ ((l : List ℕ) × (o ≡ output l) × (length l ≤ room c) × (n ≡ length l))
+      → (c.answer ≡ success n) ↔ ((l : List ℕ) × (o ≡ output l) × (length l ≤ room c) × (n ≡ length l))
   call_succeeds n = rw g.answers (success_exact no_room c.before o n)
 
   pub call_refuses : (k p : ℕ)
-      → (reply c ≡ refusal k p)
+      → (c.answer ≡ refusal k p)
       ↔ ((o ≡ refused k p) ⊎ ((l : List ℕ) × (o ≡ output l) × (room c < length l) × (k ≡ no_room) × (p ≡ 0)))
   call_refuses k p = rw g.answers (refusal_exact no_room c.before o k p)
 
-  pub call_leaves : (k p : ℕ) → reply c ≡ refusal k p → c.after ≡ c.before
+  pub call_leaves : (k p : ℕ) → c.answer ≡ refusal k p → c.after ≡ c.before
   call_leaves k p e = g.leaves ∙ refusal_leaves no_room c.before o k p (sym g.answers ∙ e)
 
   -- the octets after the reported length stay
-  pub call_stays : drop (reported (reply c)) c.after ≡ drop (reported (reply c)) c.before
+  pub call_stays : drop (reported c.answer) c.after ≡ drop (reported c.answer) c.before
   call_stays = rw (g.answers, g.leaves) (delivered_stays no_room o c.before).0
 
   -- a second call with the same output, and a buffer of the same length
   pub calls_same : (d : Call) → Gives (delivered no_room o d.before) d.answer d.after → room c ≡ room d
-      → (reply c ≡ reply d) × (written_by c ≡ written_by d)
+      → (c.answer ≡ d.answer) × (written_by c ≡ written_by d)
   calls_same d h n = rw (g.answers, g.leaves, h.answers, h.leaves)
       (delivered_same no_room o c.before d.before n)

@@ -28,14 +28,14 @@ use Rattle.strict.specs.Parser.{parse, parse_exact, parse_ends}
 use Rattle.strict.specs.Reading.{of_view, of_meaning, of_parsed, reading, to_wire, Reads}
 use Rattle.strict.proofs.Longest.{parse-stops}
 use Rattle.strict.proofs.ReadingLaws.{means_text, means_one, reads_text, read_only}
-use Rattle.demands.specs.FrontPage.Words.{reply, room, Length, Accepted, Spells, InGrammar, Begins}
+use Rattle.demands.specs.FrontPage.Words.{room, Length, Accepted, Spells, InGrammar, Begins}
 use Rattle.demands.specs.FrontPage.Words.{LongestBeginning, HasText, NoMessage}
 use Rattle.demands.proofs.Delivered.{call_succeeds, call_refuses, call_leaves, call_stays, calls_same}
 use Rattle.demands.proofs.Converter as converter
 
 -- ---- demand 1
 pub same : (c d : Call) → Reads c → Reads d → c.input ≡ d.input → room c ≡ room d
-    → (reply c ≡ reply d) × (written_by c ≡ written_by d)
+    → (c.answer ≡ d.answer) × (written_by c ≡ written_by d)
 unfolding to_wire
 same c d p q e n = calls_same 23 (reading d.input) c (rw e at p) d q n
 
@@ -159,11 +159,11 @@ others (read v h w) e = absurd (subst Written e tt)
 
 module _ (c : Call) (made : Reads c) where
   -- what is due, whatever the room
-  due : (k : ℕ) → k < 23 → (p : ℕ) → (reply c ≡ refusal k p) ↔ (reading c.input ≡ refused k p)
+  due : (k : ℕ) → k < 23 → (p : ℕ) → (c.answer ≡ refusal k p) ↔ (reading c.input ≡ refused k p)
   unfolding to_wire
   due k h p = (λ e. forward (exact.0 e), λ e. exact.1 (inl e))
     where
-      exact : (reply c ≡ refusal k p)
+      exact : (c.answer ≡ refusal k p)
           ↔ ((reading c.input ≡ refused k p)
           ⊎ ((l : List ℕ) × (reading c.input ≡ output l) × (room c < length l) × (k ≡ 23) × (p ≡ 0)))
       exact = call_refuses 23 (reading c.input) c made k p
@@ -174,24 +174,24 @@ module _ (c : Call) (made : Reads c) where
       forward (inl e) = e
       forward (inr u) = let (l, o, r, j, q) = u in absurd (omega arith)
 
-  pub stays : drop (reported (reply c)) c.after ≡ drop (reported (reply c)) c.before
+  pub stays : drop (reported c.answer) c.after ≡ drop (reported c.answer) c.before
   unfolding to_wire
   stays = call_stays 23 (reading c.input) c made
 
-  pub leaves : (k p : ℕ) → reply c ≡ refusal k p → c.after ≡ c.before
+  pub leaves : (k p : ℕ) → c.answer ≡ refusal k p → c.after ≡ c.before
   unfolding to_wire
   leaves = call_leaves 23 (reading c.input) c made
 
   -- ---- demand 2, its reading half
-  pub accepts : (n : ℕ) → (reply c ≡ success n) ↔ ((m : Message) × Spells c m × Length c n (form m))
+  pub accepts : (n : ℕ) → (c.answer ≡ success n) ↔ ((m : Message) × Spells c m × Length c n (form m))
   unfolding to_wire
   accepts n = (forward, backward)
     where
-      exact : (reply c ≡ success n)
+      exact : (c.answer ≡ success n)
           ↔ ((l : List ℕ) × (reading c.input ≡ output l) × (length l ≤ room c) × (n ≡ length l))
       exact = call_succeeds 23 (reading c.input) c made n
 
-      forward : reply c ≡ success n → (m : Message) × Spells c m × Length c n (form m)
+      forward : c.answer ≡ success n → (m : Message) × Spells c m × Length c n (form m)
       forward e =
           let (l, o, h, k) = exact.0 e in
           let r = read_only c.input l o in (
@@ -200,7 +200,7 @@ module _ (c : Call) (made : Reads c) where
             (rw r.its_form h, rw r.its_form k),
           )
 
-      backward : (m : Message) × Spells c m × Length c n (form m) → reply c ≡ success n
+      backward : (m : Message) × Spells c m × Length c n (form m) → c.answer ≡ success n
       backward u = let (m, (a, e), (h, k)) =
           u in exact.1 (form m, ap reading (sym e) ∙ reads_text m (converter.accepted_whole m a), h, k)
 
@@ -209,16 +209,17 @@ module _ (c : Call) (made : Reads c) where
   writes m (a, e) k = rw (made.answers, made.leaves, ← e, reads_text m (converter.accepted_whole m a))
       (delivered-room 23 (form m) c.before k).1
 
-  pub grammar : (p : ℕ) → (reply c ≡ refusal 20 p) ↔ ((InGrammar c.input → ⊥) × LongestBeginning c.input p)
+  pub grammar : (p : ℕ) → (c.answer ≡ refusal 20 p) ↔ ((InGrammar c.input → ⊥) × LongestBeginning c.input p)
   grammar p = both (due 20 (omega arith) p) (at_20 p (ruling c.input))
 
-  pub no_message : (p : ℕ) → (reply c ≡ refusal 21 p) ↔ (InGrammar c.input × NoMessage c.input × (p ≡ 0))
+  pub no_message : (p : ℕ) → (c.answer ≡ refusal 21 p) ↔ (InGrammar c.input × NoMessage c.input × (p ≡ 0))
   no_message p = both (due 21 (omega arith) p) (at_21 p (ruling c.input))
 
-  pub limits : (p : ℕ) → (reply c ≡ refusal 22 p) ↔ ((v : View) × HasText c.input v × (within? v ≡ false) × (p ≡ 0))
+  pub limits : (p : ℕ) → (c.answer ≡ refusal 22 p) ↔ ((v : View) × HasText c.input v × (within? v ≡ false) × (p ≡ 0))
   limits p = both (due 22 (omega arith) p) (at_22 p (ruling c.input))
 
-  pub no_room_lem : (p : ℕ) → (reply c ≡ refusal 23 p) ↔ ((m : Message) × Spells c m × (room c < length (form m)) × (p ≡ 0))
+  pub no_room_lem : (p : ℕ) → (c.answer ≡ refusal 23 p)
+      ↔ ((m : Message) × Spells c m × (room c < length (form m)) × (p ≡ 0))
   unfolding to_wire
   no_room_lem p = (λ e. forward 23 ((call_refuses 23 (reading c.input) c made 23 p).0 e) refl, backward)
     where
@@ -231,14 +232,14 @@ module _ (c : Call) (made : Reads c) where
           let r = read_only c.input l o in
           (r.message, (converter.whole_accepted r.message r.whole, r.its_text), rw r.its_form h, q)
 
-      backward : (m : Message) × Spells c m × (room c < length (form m)) × (p ≡ 0) → reply c ≡ refusal 23 p
+      backward : (m : Message) × Spells c m × (room c < length (form m)) × (p ≡ 0) → c.answer ≡ refusal 23 p
       backward u =
           let (m, (a, e), h, q) = u in
           (call_refuses 23 (reading c.input) c made 23 p).1
           (inr (form m, ap reading (sym e) ∙ reads_text m (converter.accepted_whole m a), h, refl, q))
 
   -- there is no other answer, and no place after the input's end
-  declined : (k p : ℕ) → reply c ≡ refusal k p → (20 ≤ k) × (k ≤ 23) × (p ≤ length c.input)
+  declined : (k p : ℕ) → c.answer ≡ refusal k p → (20 ≤ k) × (k ≤ 23) × (p ≤ length c.input)
   unfolding to_wire
   declined k p e = go ((call_refuses 23 (reading c.input) c made k p).0 e)
     where
@@ -248,14 +249,14 @@ module _ (c : Call) (made : Reads c) where
       go (inl e) = let (a, b, q) = others (ruling c.input) e in (a, omega arith, q)
       go (inr u) = let (l, o, h, j, q) = u in (omega arith, omega arith, omega arith)
 
-  pub numbers : (k p : ℕ) → reply c ≡ refusal k p → (20 ≤ k) × (k ≤ 23)
+  pub numbers : (k p : ℕ) → c.answer ≡ refusal k p → (20 ≤ k) × (k ≤ 23)
   numbers k p e = let (a, b, q) = declined k p e in (a, b)
 
-  pub places : (k p : ℕ) → reply c ≡ refusal k p → p ≤ length c.input
+  pub places : (k p : ℕ) → c.answer ≡ refusal k p → p ≤ length c.input
   places k p e = let (a, b, q) = declined k p e in q
 
 -- ---- a buffer of 65,535 octets holds every message
-pub room_enough : (c : Call) → Reads c → 65535 ≤ room c → (p : ℕ) → reply c ≡ refusal 23 p → ⊥
+pub room_enough : (c : Call) → Reads c → 65535 ≤ room c → (p : ℕ) → c.answer ≡ refusal 23 p → ⊥
 room_enough c made h p e = let (m, (a, f), k, q) =
     (no_room_lem c made p).0 e in omega (arith, (converter.accepted_whole m a).1)
 
@@ -263,16 +264,17 @@ room_enough c made h p e = let (m, (a, f), k, q) =
 -- reading what the converter wrote gives the uncompressed form of its message
 pub there_and_back : (c d : Call) → Converts c → Reads d → (m : Message) → decode c.input ≡ accepted m
     → length (text m) ≤ room c
-    → d.input ≡ written_by c → length (form m) ≤ room d → (reply d ≡ success (length (form m))) × (written_by d ≡ form m)
+    → d.input ≡ written_by c → length (form m) ≤ room d
+    → (d.answer ≡ success (length (form m))) × (written_by d ≡ form m)
 there_and_back c d p q m e h s k =
     let w : Accepted m = (c.input, p.octets, e) in
     let t : text m ≡ d.input = sym (s ∙ converter.writes c p m e h) in
     ((accepts d q (length (form m))).1 (m, (w, t), (k, refl)), writes d q m (w, t) k)
 
 -- converting what the reader gave writes the same text
-pub back_and_there : (d c : Call) → Reads d → Converts c → (n : ℕ) → reply d ≡ success n → c.input ≡ written_by d
+pub back_and_there : (d c : Call) → Reads d → Converts c → (n : ℕ) → d.answer ≡ success n → c.input ≡ written_by d
     → length d.input ≤ room c
-    → (reply c ≡ success (length d.input)) × (written_by c ≡ d.input)
+    → (c.answer ≡ success (length d.input)) × (written_by c ≡ d.input)
 back_and_there d c p q n e s h =
     let (m, (a, t), (k, j)) = (accepts d p n).0 e in
     let w = converter.accepted_whole m a in

@@ -3,31 +3,28 @@
 #![tactic(auto)]
 
 ghost use Rattle.std.specs.Prelude.{◌≡◌};
+ghost use Rattle.octets.specs.Calls.{answer_of};
 ghost use Rattle.json_text.specs.Converted.{Converts};
 ghost use Rattle.strict.specs.Reading.{Reads};
-ghost use Rattle.velvetshelf.specs.Calls.{c_number, c_value, outcome_of};
+ghost use Rattle.velvetshelf.specs.Calls.{answer_in};
 
-use octets::Outcome;
+use octets::Refusal;
 use to_text::convert;
 use to_wire::read;
 
-// 0 for success, else the refusal's number.
-fn number_of(outcome: Outcome) -> u32
-    ensures { result ≡ c_number outcome }
+// Tells C an answer: 0, and the length in `value`; or the refusal's number, and its place in `value`.
+fn tell(answer: Result<usize, Refusal>, value: &mut u64) -> u32
+    ensures { answer_in result value.new ≡ answer_of answer }
 {
-    match outcome {
-        Outcome::Length(_) => 0,
-        Outcome::Refused(number, _) => number,
-    }
-}
-
-// The length, or the refusal's place.
-fn value_of(outcome: Outcome) -> u64
-    ensures { result ≡ c_value outcome }
-{
-    match outcome {
-        Outcome::Length(length) => length as u64,
-        Outcome::Refused(_, place) => place as u64,
+    match answer {
+        Ok(length) => {
+            *value = length as u64;
+            0
+        }
+        Err(refusal) => {
+            *value = refusal.place as u64;
+            refusal.rule.number()
+        }
     }
 }
 
@@ -38,13 +35,11 @@ pub fn velvetshelf_to_text(message: &[u8], text: &mut [u8], value: &mut u64) -> 
         (record {
           input = message.now;
           before = text.old;
-          answer = outcome_of result value.new;
+          answer = answer_in result value.new;
           after = text.new;
         }) }
 {
-    let outcome = convert(message, text);
-    *value = value_of(outcome);
-    number_of(outcome)
+    tell(convert(message, text), value)
 }
 
 // Converts the text to its message: 0, and the message's length in `value`; or the refusal's number, and its place in
@@ -54,13 +49,11 @@ pub fn velvetshelf_to_wire(text: &[u8], message: &mut [u8], value: &mut u64) -> 
         (record {
           input = text.now;
           before = message.old;
-          answer = outcome_of result value.new;
+          answer = answer_in result value.new;
           after = message.new;
         }) }
 {
-    let outcome = read(text, message);
-    *value = value_of(outcome);
-    number_of(outcome)
+    tell(read(text, message), value)
 }
 
 // VELVETSHELF_VERSION_NUMBER of the header: major * 10000 + minor * 100 + patch.

@@ -1,11 +1,11 @@
 // The static library for programs in C: the functions of velvetshelf, with their clauses, under the names that
-// include/velvetshelf.h declares.
+// include/velvetshelf.h declares. Each calls the one of its name in velvetshelf, since C needs exported functions.
 #![tactic(auto)]
 
 ghost use Rattle.std.specs.Prelude.{◌≡◌};
 ghost use Rattle.json_text.specs.Converted.{Converts};
 ghost use Rattle.strict.specs.Reading.{Reads};
-ghost use Rattle.velvetshelf.specs.Calls.{outcome_of};
+ghost use Rattle.velvetshelf.specs.Calls.{answer_in};
 
 // Converts the message to its text: 0, and the text's length in `value`; or the refusal's number, and its place in
 // `value`.
@@ -15,7 +15,7 @@ pub extern "C" fn velvetshelf_to_text(message: &[u8], text: &mut [u8], value: &m
         (record {
           input = message.now;
           before = text.old;
-          answer = outcome_of result value.new;
+          answer = answer_in result value.new;
           after = text.new;
         }) }
 {
@@ -30,7 +30,7 @@ pub extern "C" fn velvetshelf_to_wire(text: &[u8], message: &mut [u8], value: &m
         (record {
           input = text.now;
           before = message.old;
-          answer = outcome_of result value.new;
+          answer = answer_in result value.new;
           after = message.new;
         }) }
 {

@@ -10,7 +10,7 @@ pub use Rattle.octets.specs.Lists.{All, Octets, hexed}
 -- answers: success with a length, a refusal with its number and place; a call has an input, a buffer before and after,
 -- an answer
 pub use Rattle.octets.specs.Answer.{Answer, success, refusal, reported}
-pub use Rattle.octets.specs.Calls.{Call, answer_of, written_by}
+pub use Rattle.octets.specs.Calls.{Call, written_by}
 -- messages, their uncompressed form, what octets are decoded to; a view is a message without limits of size
 pub use Rattle.records.specs.Message.{Message, form}
 pub use Rattle.records.specs.Decode.{Decoded, accepted, refused, decode}
@@ -21,11 +21,7 @@ pub use Rattle.json_text.specs.Text.{text}
 -- what the conversions ensure of a call; an answer as C reads it
 pub use Rattle.json_text.specs.Converted.{converted, Converts}
 pub use Rattle.strict.specs.Reading.{Reads}
-pub use Rattle.velvetshelf.specs.Calls.{outcome_of}
-
--- what the call answered, in the format's numbers and values
-abbrev pub reply : Call → Answer
-reply c = answer_of c.answer
+pub use Rattle.velvetshelf.specs.Calls.{answer_in}
 
 -- the length of the lent buffer
 abbrev pub room : Call → ℕ
