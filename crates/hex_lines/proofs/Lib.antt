@@ -1,3 +1,2 @@
 -- Laws that no definition needs.
-pub mod Digits
 pub mod Steps

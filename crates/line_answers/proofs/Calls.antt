@@ -8,8 +8,7 @@ use lib.Dec.{leb}
 use lib.ListN.{length, take, drop}
 use lib.Seq.{take-append_seam}
 use Rattle.octets.specs.Answer.{Output, output, refused, Answer, success, refusal, Result, overwritten, delivered}
-use Rattle.octets.specs.Calls.{answer_of, Gives}
-use Rattle.octets.specs.declared.Outcome.{Outcome}
+use Rattle.octets.specs.Calls.{Gives}
 use Rattle.line_answers.specs.Answers.{refusal_line, answer_text}
 
 module _ (spelled : List ℕ → List ℕ) where
@@ -33,9 +32,9 @@ module _ (spelled : List ℕ → List ℕ) where
       go false e = (refl, refl)
   told no_room (refused k p) b = (refl, refl)
 
-  pub told_by : (no_room : ℕ) (o : Output) (b : List ℕ) {b' : List ℕ} {r : Outcome} {a : Answer}
-      → Gives (delivered no_room o b) r b' → answer_of r ≡ a → Told a (answer_text spelled (length b) no_room o) b b'
-  told_by no_room o b g e = rw (sym e ∙ g.answers, g.leaves) (told no_room o b)
+  pub told_by : (no_room : ℕ) (o : Output) (b : List ℕ) {b' : List ℕ} {a : Answer}
+      → Gives (delivered no_room o b) a b' → Told a (answer_text spelled (length b) no_room o) b b'
+  told_by no_room o b g = rw (g.answers, g.leaves) (told no_room o b)
 
   -- the line: the octets up to the reported length, as the call leaves them, or the refusal
   abbrev pub call_line : Answer → List ℕ → List ℕ

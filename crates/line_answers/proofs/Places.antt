@@ -1,5 +1,5 @@
 -- The place of a refusal is at most the input's length, over the calls of both conversions.
-use mathlib.Core.Path.{◌≡◌, sym, ap, ◌∙◌, subst}
+use mathlib.Core.Path.{sym, subst}
 use mathlib.Core.Bool.{Bool, true, false, cond}
 use mathlib.Core.Option.{Option, none, some}
 use mathlib.Core.List.{List}
@@ -10,9 +10,7 @@ use lib.ListN.{length}
 use Rattle.octets.specs.Answer.{Output, output, Answer, success, refusal, Result, overwritten, delivered}
 use Rattle.octets.specs.Answer as answer
 use Rattle.octets.specs.Parsed.{Parsed, parsed, failed}
-use Rattle.octets.specs.Calls.{answer_of, Gives}
-use Rattle.octets.specs.declared.Outcome.{Outcome}
-use Rattle.octets.specs.declared.Outcome.TheVariants.{Refused}
+use Rattle.octets.specs.Calls.{Gives}
 use Rattle.records.specs.Message.{form}
 use Rattle.records.specs.Decode.{Decoded, accepted, refused, decode}
 use Rattle.records.proofs.Places.{PlacedIn, decode_placed}
@@ -71,17 +69,14 @@ delivered_at no_room size (output l) b h = go (leb (length l) (length b))
     go false = omega arith
 delivered_at no_room size (answer.refused k p) b h = h
 
-given_at : (no_room size : ℕ) (o : Output) (b : List ℕ) {b' : List ℕ} {r : Outcome} {k p : ℕ} → At size o
-    → Gives (delivered no_room o b) r b' → r ≡ Refused k p → p ≤ size
-given_at no_room size o b h g e =
-    subst (PlacedAt size) (sym g.answers ∙ ap answer_of e) (delivered_at no_room size o b h)
+given_at : (no_room size : ℕ) (o : Output) (b : List ℕ) {b' : List ℕ} {k p : ℕ} → At size o
+    → Gives (delivered no_room o b) (refusal k p) b' → p ≤ size
+given_at no_room size o b h g = subst (PlacedAt size) (sym g.answers) (delivered_at no_room size o b h)
 
-pub message_place : (s b : List ℕ) {b' : List ℕ} {r : Outcome} {k p : ℕ} → Gives (to_text s b) r b' → r ≡ Refused k p
-    → p ≤ length s
+pub message_place : (s b : List ℕ) {b' : List ℕ} {k p : ℕ} → Gives (to_text s b) (refusal k p) b' → p ≤ length s
 unfolding to_text
 message_place s b = given_at 10 (length s) (converted s) b (converted_at s)
 
-pub text_place : (t b : List ℕ) {b' : List ℕ} {r : Outcome} {k p : ℕ} → Gives (to_wire t b) r b' → r ≡ Refused k p
-    → p ≤ length t
+pub text_place : (t b : List ℕ) {b' : List ℕ} {k p : ℕ} → Gives (to_wire t b) (refusal k p) b' → p ≤ length t
 unfolding to_wire
 text_place t b = given_at 23 (length t) (reading t) b (reading_at t)

@@ -1,6 +1,5 @@
 -- The answer of each line program to a line, in the words of docs/FORMAT.md.
-use Rattle.std.specs.Prelude.{cond, List, [], ◌∷◌, ◌++◌, ℕ, leb, ltb, length}
-use Rattle.std.proofs.Math.Option.{Option, none, some}
+use Rattle.std.specs.Prelude.{cond, List, [], ◌∷◌, ◌++◌, ℕ, leb, ltb, length, Option, None, Some}
 use Rattle.octets.specs.Lists.{ascii, each}
 use Rattle.octets.specs.Decimal.{decimal}
 use Rattle.octets.specs.Hexadecimal.{hex_octet}
@@ -36,21 +35,29 @@ limited_left most left line buffer = cond (ltb most (length line)) buffer (left 
 -- ---- `totext`
 -- the answer to the octets of a line: the text buffer has 65,536 octets
 abbrev pub message_line : Option (List ℕ) → List ℕ
-message_line (some message) = answer_text as_text 65536 10 (converted message)
-message_line none = refusal_line 30 0
+message_line (Some message) = answer_text as_text 65536 10 (converted message)
+message_line None = refusal_line 30 0
+
+-- the answer to a line that is not too long
+abbrev pub text_answer : List ℕ → List ℕ
+text_answer line = message_line (unhexed line)
 
 -- the answer to a line: over 8,192 characters 31, else not hexadecimal 30
 unfoldable pub text_line : List ℕ → List ℕ
-text_line = within_line 8192 (λ line. message_line (unhexed line))
+text_line = within_line 8192 text_answer
 
 -- what it leaves in the message buffer: the octets of the line
 unfoldable pub text_left : List ℕ → List ℕ → List ℕ
 text_left = limited_left 8192 (λ line. hex_left (unhexed line))
 
 -- ---- `towire`
--- the answer to a line: over 65,536 octets 31; the message buffer has 4,096 octets
+-- the answer to a line that is not too long: the message buffer has 4,096 octets
+abbrev pub wire_answer : List ℕ → List ℕ
+wire_answer line = answer_text as_hex 4096 23 (reading line)
+
+-- the answer to a line: over 65,536 octets 31
 unfoldable pub wire_line : List ℕ → List ℕ
-wire_line = within_line 65536 (λ line. answer_text as_hex 4096 23 (reading line))
+wire_line = within_line 65536 wire_answer
 
 -- what it leaves in the message buffer: the message
 unfoldable pub wire_left : List ℕ → List ℕ → List ℕ

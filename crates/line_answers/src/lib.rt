@@ -1,102 +1,128 @@
 // The answer of a line program to one line. The definitions are in specs/.
 #![tactic(auto)]
 
-ghost use Rattle.std.specs.Prelude.{◌≡◌, ◌+◌, ◌^◌, ◌≤◌, ◌<◌, length};
+ghost use Rattle.std.specs.Prelude.{◌≡◌, ◌+◌, ◌^◌, ◌≤◌, ◌<◌, ℕ, List, length};
 ghost use Rattle.octets.specs.Overlay.{Wrote};
-ghost use Rattle.json_text.specs.Converted.{converted};
-ghost use Rattle.strict.specs.Reading.{reading, to_wire};
-ghost use Rattle.line_answers.specs.Answers.{refusal_line, answer_text, as_text, as_hex, printed};
-ghost use Rattle.line_answers.specs.Answers.{text_line, text_left, wire_line, wire_left};
+ghost use Rattle.octets.specs.Writes.{Writes};
+ghost use Rattle.hex_lines.specs.Hex.{unhexed, hex_left};
+ghost use Rattle.strict.specs.Reading.{to_wire};
+ghost use Rattle.line_answers.specs.Answers.{refusal_line, within_line, limited_left, text_answer, wire_answer, printed};
 
-use hex_lines::Hex;
-use octets::{Outcome, put, put_all, put_decimal, put_hex};
+use octets::{Writer, put, put_hex};
+
+// A line program: its answer to a line that is not too long.
+pub trait Program {
+    // How long a line may be.
+    ghost MOST: { ℕ };
+
+    const MOST: usize;
+
+    // How long the answer may be.
+    ghost longest: { ℕ };
+
+    // The answer, and what it leaves in the message buffer.
+    ghost answer: { List ℕ → List ℕ };
+
+    ghost left: { List ℕ → List ℕ → List ℕ };
+
+    fn put_answer(line: &[u8], message: &mut [u8; 4096], text: &mut [u8]) -> usize
+        requires { (length line.now ≤ MOST) × (length text.old ≡ 65537) }
+        ensures wrote { Wrote text.old 0 (answer line.now) text.new result }
+        ensures upper_bound { result ≤ longest }
+        ensures message_after { message.new ≡ left line.now message.old };
+
+    ghost limits: { (MOST ≤ 65536) × (32 ≤ longest) × (longest ≤ 65536) };
+}
+
+// Reads messages in hexadecimal, and writes the text of each.
+pub struct ToText;
+
+// Reads texts, and writes the message of each in hexadecimal.
+pub struct ToWire;
+
+impl Program for ToText {
+    ghost use Rattle.std.proofs.Common.{rules};
+
+    ghost MOST = { 8192 };
+
+    const MOST: usize = 8192;
+
+    ghost longest = { 65536 };
+
+    ghost answer = { text_answer };
+
+    ghost left = { λ line message. hex_left (unhexed line) message };
+
+    ghost limits = { Prim.search rules };
+
+    fn put_answer(line: &[u8], message: &mut [u8; 4096], text: &mut [u8]) -> usize {
+        let Some(n) = hex_lines::unhex(line, message) else {
+            return refuse(30, 0, text);
+        };
+        match to_text::convert(&message[..n], &mut text[..65536]) {
+            Ok(size) => size,
+            Err(refusal) => refuse(refusal.rule.number(), refusal.place, text),
+        }
+    }
+}
+
+impl Program for ToWire {
+    ghost use Rattle.std.proofs.Common.{rules};
+
+    ghost MOST = { 65536 };
+
+    const MOST: usize = 65536;
+
+    ghost longest = { 8192 };
+
+    ghost answer = { wire_answer };
+
+    ghost left = { λ line message. (to_wire line message).buffer };
+
+    ghost limits = { Prim.search rules };
+
+    fn put_answer(line: &[u8], message: &mut [u8; 4096], text: &mut [u8]) -> usize {
+        match to_wire::read(line, message) {
+            Ok(n) => put_hex(&message[..n], text, 0),
+            Err(refusal) => refuse(refusal.rule.number(), refusal.place, text),
+        }
+    }
+}
 
 // Writes a refusal.
-pub fn put_refusal(number: u32, place: u32, out: &mut [u8], to: usize) -> usize
-    requires { to < 2 ^ 38 }
-    ensures wrote { Wrote out.old to (refusal_line number place) out.new result }
-    ensures upper_bound { result ≤ to + 32 }
+pub fn put_refusal(number: u32, place: u32, w: &mut Writer)
+    requires { w.old.to < 2 ^ 38 }
+    ensures wrote { Writes w.old (refusal_line number place) w.new }
+    ensures upper_bound { w.new.to ≤ w.old.to + 32 }
 {
-    let n = put_all(b"refused ", out, to);
-    let n = put_decimal(number, out, n);
-    let n = put_all(b" at ", out, n);
-    put_decimal(place, out, n)
+    w.put_all(b"refused ");
+    w.put_decimal(number);
+    w.put_all(b" at ");
+    w.put_decimal(place);
 }
 
-// Writes the text of a message or its refusal.
-fn put_message(message: &[u8], text: &mut [u8]) -> usize
-    requires { (length message.now ≤ 4096) × (length text.old ≡ 65537) }
-    ensures wrote { Wrote text.old 0 (answer_text as_text 65536 10 (converted message.now))
-        text.new result }
-    ensures upper_bound { result ≤ 65536 }
+// Writes a refusal as the answer to a line.
+fn refuse(number: u32, place: usize, text: &mut [u8]) -> usize
+    requires { place < 2 ^ 32 }
+    ensures wrote { Wrote text.old 0 (refusal_line number place) text.new result }
+    ensures upper_bound { result ≤ 32 }
 {
-    match to_text::convert(message, &mut text[0..65536]) {
-        Outcome::Length(size) => size,
-        Outcome::Refused(number, place) => put_refusal(number, place as u32, text, 0),
-    }
+    let mut w = Writer::at(text, 0);
+    put_refusal(number, place as u32, &mut w);
+    w.place()
 }
 
-// Writes the answer of `totext` to a line.
-fn put_answer(line: &[u8], message: &mut [u8], text: &mut [u8]) -> usize
-    requires { (length message.old ≡ 4096) × (length text.old ≡ 65537) }
-    ensures wrote { Wrote text.old 0 (text_line line.now) text.new result }
-    ensures upper_bound { result ≤ 65536 }
-    ensures message_after { message.new ≡ text_left line.now message.old }
+// Writes the answer of a program to a line, and a newline after it.
+pub fn put_line<P: Program>(line: &[u8], message: &mut [u8; 4096], text: &mut [u8]) -> usize
+    requires { length text.old ≡ 65537 }
+    ensures wrote { Wrote text.old 0 (printed (within_line P.MOST P.answer) line.now) text.new result }
+    ensures upper_bound { result ≤ P.longest + 1 }
+    ensures message_after { message.new ≡ limited_left P.MOST P.left line.now message.old }
 {
-    if line.len() > 8192 {
-        return put_refusal(31, 0, text, 0);
-    }
-    let Hex::Octets(n) = hex_lines::unhex(line, message) else {
-        return put_refusal(30, 0, text, 0);
+    let n = if line.len() > P::MOST {
+        refuse(31, 0, text)
+    } else {
+        P::put_answer(line, message, text)
     };
-    put_message(&message[0..n], text)
-}
-
-// Writes the answer of `totext` to a line, and a newline after it.
-pub fn text_line(line: &[u8], message: &mut [u8], text: &mut [u8]) -> usize
-    requires { (length message.old ≡ 4096) × (length text.old ≡ 65537) }
-    ensures wrote { Wrote text.old 0 (printed text_line line.now) text.new result }
-    ensures upper_bound { result ≤ 65537 }
-    ensures message_after { message.new ≡ text_left line.now message.old }
-{
-    let n = put_answer(line, message, text);
-    put(b'\n', text, n)
-}
-
-// Writes the message of a text in hexadecimal, or its refusal.
-fn put_wire(line: &[u8], message: &mut [u8], text: &mut [u8]) -> usize
-    requires { (length message.old ≡ 4096) × (length text.old ≡ 65537) × (length line.now ≤ 65536) }
-    ensures wrote { Wrote text.old 0 (answer_text as_hex 4096 23 (reading line.now))
-        text.new result }
-    ensures upper_bound { result ≤ 8192 }
-    ensures message_after { message.new ≡ (to_wire line.now message.old).buffer }
-{
-    match to_wire::read(line, message) {
-        Outcome::Length(n) => put_hex(&message[0..n], text, 0),
-        Outcome::Refused(number, place) => put_refusal(number, place as u32, text, 0),
-    }
-}
-
-// Writes the answer of `towire` to a line.
-fn put_reading(line: &[u8], message: &mut [u8], text: &mut [u8]) -> usize
-    requires { (length message.old ≡ 4096) × (length text.old ≡ 65537) }
-    ensures wrote { Wrote text.old 0 (wire_line line.now) text.new result }
-    ensures upper_bound { result ≤ 8192 }
-    ensures message_after { message.new ≡ wire_left line.now message.old }
-{
-    if line.len() > 65536 {
-        return put_refusal(31, 0, text, 0);
-    }
-    put_wire(line, message, text)
-}
-
-// Writes the answer of `towire` to a line, and a newline after it.
-pub fn wire_line(line: &[u8], message: &mut [u8], text: &mut [u8]) -> usize
-    requires { (length message.old ≡ 4096) × (length text.old ≡ 65537) }
-    ensures wrote { Wrote text.old 0 (printed wire_line line.now) text.new result }
-    ensures upper_bound { result ≤ 8193 }
-    ensures message_after { message.new ≡ wire_left line.now message.old }
-{
-    let n = put_reading(line, message, text);
     put(b'\n', text, n)
 }

@@ -2,167 +2,113 @@
 // its answers are written to the output. The first call that fails ends the run and is told on standard error.
 #![tactic(auto)]
 
-ghost use Rattle.std.specs.Prelude.{◌≡◌, ◌⊎◌, ◌↔◌, IsTrue, ◌≤◌, ◌<◌, List, ℕ, [], ◌∷◌, length, take, IfOk, IfErr, OnErr, OnOk};
+ghost use Rattle.std.specs.Prelude.{◌≡◌, ◌⊎◌, ◌↔◌, IsTrue, ◌≤◌, ◌<◌, List, ℕ, [], ◌∷◌, length, take, IfErr, OnErr, OnOk};
 ghost use Rattle.std.specs.Io.KnownBytes.{Appends};
-ghost use Rattle.lines.specs.Programs.{answer_to, most_kept, answer_room};
+ghost use Rattle.std.specs.Process.{exit_status};
+ghost use Rattle.line_answers.specs.Answers.{within_line};
+ghost use Rattle.lines.specs.Programs.{most_kept, answer_room};
 ghost use Rattle.lines.specs.Reading.{printed_last, printed_over, so_far};
 ghost use Rattle.streams.specs.Parts.{AppendsPart};
+ghost use Rattle.streams.specs.Failures.{FailedAt, Tells, TellsPart, word_of};
 ghost use Rattle.line_program.specs.Written.{WritesAll, WritesPart};
-ghost use Rattle.line_program.specs.Ended.{call_of, error_of, IsReaderGone};
-ghost use Rattle.std.specs.Process.{exit_status};
-ghost use Rattle.streams.specs.Failures.{Tells, TellsPart};
+ghost use Rattle.line_program.specs.Ended.{IsReaderGone};
 
-use lines::{Program, answer_piece};
+use line_answers::Program;
+use lines::{Line, answer_piece};
 use std::env::Env;
-use std::io;
 use std::io::{Error, ErrorKind, Read, Write};
 use std::process::ExitCode;
 use streams::{
-    close_output, has_argument, is_argument, print_line, read_piece, tell_failure, tell_line,
-    tell_read, tell_write, write_first,
+    Call, Failure, close_output, has_argument, is_argument, print_line, read_piece, tell_failure,
+    tell_line, write_octets,
 };
 
-// The call that failed, and why.
-#[derive(Clone, Copy)]
-enum Failure {
-    Read(Error),
-    Write(Error),
-    Close(Error),
-}
-
-// Answers the lines that end in a piece, in as many calls as the room for answers asks for, and returns how much of a
-// line is kept.
-fn answer<W: Write>(
-    program: Program,
-    line: &mut [u8],
-    used: usize,
+// Answers the lines that end in a piece, in as many calls as the room for answers asks for.
+fn answer<P: Program, W: Write>(
+    line: &mut Line,
     input: &[u8],
     out: &mut [u8],
     writer: &mut W,
-) -> io::Result<usize>
-    requires { (used ≤ length line.old) × (length line.old ≡ most_kept) × (answer_room ≤ length out.old) }
-    ensures bound { IfOk result (λ n. n ≤ most_kept) }
-    ensures kept { IfOk result (λ n. take most_kept (take n line.new)
-        ≡ take most_kept (so_far (take used line.old) input.now)) }
+) -> Result<(), Failure>
+    requires { answer_room ≤ length out.old }
+    ensures kept { OnOk result (take most_kept line.new ≡ take most_kept (so_far line.old input.now)) }
     ensures written { OnOk result (Appends (W.contents writer.old) (W.contents writer.new)
-        (printed_over (answer_to program) (take used line.old) input.now)) }
+        (printed_over (within_line P.MOST P.answer) line.old input.now)) }
     ensures part { OnErr result (AppendsPart (W.contents writer.old) (W.contents writer.new)
-        (printed_over (answer_to program) (take used line.old) input.now)) }
+        (printed_over (within_line P.MOST P.answer) line.old input.now)) }
+    ensures retried { IfErr result (FailedAt Call.Write) }
 {
-    let mut used = used;
-    let mut from = 0;
-    while from < input.len() {
-        let step = answer_piece(program, line, used, &input[from..input.len()], out);
-        write_first(writer, out, step.size)?;
-        used = step.used;
-        from += step.taken;
+    let mut rest = input;
+    while !rest.is_empty() {
+        let step = answer_piece::<P>(line, rest, out);
+        write_octets(writer, &out[..step.size])?;
+        rest = &rest[step.taken..];
     }
-    Ok(used)
+    Ok(())
 }
 
 // The end of the input: a last line without newline is answered if it isn't empty.
-fn answer_last<W: Write>(
-    program: Program,
-    line: &mut [u8],
-    used: usize,
+fn answer_last<P: Program, W: Write>(
+    line: &mut Line,
     out: &mut [u8],
     writer: &mut W,
-) -> io::Result<()>
-    requires { (used ≤ length line.old) × (length line.old ≡ most_kept) × (answer_room ≤ length out.old) }
+) -> Result<(), Failure>
+    requires { answer_room ≤ length out.old }
     ensures written { OnOk result (Appends (W.contents writer.old) (W.contents writer.new)
-        (printed_last (answer_to program) (take used line.old))) }
+        (printed_last (within_line P.MOST P.answer) line.old)) }
     ensures part { OnErr result (AppendsPart (W.contents writer.old) (W.contents writer.new)
-        (printed_last (answer_to program) (take used line.old))) }
+        (printed_last (within_line P.MOST P.answer) line.old)) }
+    ensures retried { IfErr result (FailedAt Call.Write) }
 {
-    if used == 0 {
+    if line.is_empty() {
         return Ok(());
     }
-    answer(program, line, used, b"\n", out, writer)?;
-    Ok(())
+    answer::<P, W>(line, b"\n", out, writer)
 }
 
 // Answers the lines of the input in pieces as long as `input`, up to its end or the first call that fails. After a read
 // that fails the line that had not ended is not answered.
-fn answer_pieces<R: Read, W: Write>(
-    program: Program,
-    line: &mut [u8],
+fn answer_pieces<P: Program, R: Read, W: Write>(
     input: &mut [u8],
     out: &mut [u8],
     reader: &mut R,
     writer: &mut W,
 ) -> Result<(), Failure>
-    requires { (length line.old ≡ most_kept) × (0 < length input.old) × (answer_room ≤ length out.old) }
+    requires { (0 < length input.old) × (answer_room ≤ length out.old) }
     ensures all { OnOk result (WritesAll (R.remaining reader.old) (R.remaining reader.new)
-        (W.contents writer.old) (W.contents writer.new) (answer_to program)) }
+        (W.contents writer.old) (W.contents writer.new) (within_line P.MOST P.answer)) }
     ensures part { IfErr result (WritesPart (R.remaining reader.old) (R.remaining reader.new)
-        (W.contents writer.old) (W.contents writer.new) (answer_to program)) }
+        (W.contents writer.old) (W.contents writer.new) (within_line P.MOST P.answer)) }
 {
-    let mut used = 0;
-    let mut turns = u64::MAX;
-    while turns > 0 {
-        let got = match read_piece(reader, input) {
-            Ok(got) => got,
-            Err(error) => return Err(Failure::Read(error)),
-        };
+    let mut line = Line::new();
+    for _ in 0..u64::MAX {
+        let got = read_piece(reader, input)?;
         if got == 0 {
-            if let Err(error) = answer_last(program, line, used, out, writer) {
-                return Err(Failure::Write(error));
-            }
-            if let Err(error) = close_output(writer) {
-                return Err(Failure::Close(error));
-            }
-            return Ok(());
+            answer_last::<P, W>(&mut line, out, writer)?;
+            return close_output(writer);
         }
-        used = match answer(program, line, used, &input[..got], out, writer) {
-            Ok(kept) => kept,
-            Err(error) => return Err(Failure::Write(error)),
-        };
-        turns -= 1;
+        answer::<P, W>(&mut line, &input[..got], out, writer)?;
     }
-    Err(Failure::Read(Error::from(ErrorKind::TimedOut)))
+    Err(Call::Read.failed(Error::from(ErrorKind::TimedOut)))
 }
 
-// Answers the lines of the input, with room for a line, a piece of the input, and its answers.
-fn answer_all<R: Read, W: Write>(
-    program: Program,
-    reader: &mut R,
-    writer: &mut W,
-) -> Result<(), Failure>
+// Answers the lines of the input, with room for a piece of it and for the answers.
+fn answer_all<P: Program, R: Read, W: Write>(reader: &mut R, writer: &mut W) -> Result<(), Failure>
     ensures all { OnOk result (WritesAll (R.remaining reader.old) (R.remaining reader.new)
-        (W.contents writer.old) (W.contents writer.new) (answer_to program)) }
+        (W.contents writer.old) (W.contents writer.new) (within_line P.MOST P.answer)) }
     ensures part { IfErr result (WritesPart (R.remaining reader.old) (R.remaining reader.new)
-        (W.contents writer.old) (W.contents writer.new) (answer_to program)) }
+        (W.contents writer.old) (W.contents writer.new) (within_line P.MOST P.answer)) }
 {
-    let mut line = [0; 65537];
     let mut input = [0; 65536];
     let mut out = [0; 262144];
-    answer_pieces(program, &mut line, &mut input, &mut out, reader, writer)
-}
-
-// Tells of a failure.
-fn tell<W: Write>(errors: &mut W, name: &[u8], failure: &Failure) -> io::Result<()>
-    requires { length name.now ≤ 1000 }
-    ensures all { OnOk result (Tells (W.contents errors.old) (W.contents errors.new) name.now
-        (call_of failure.now) (error_of failure.now)) }
-    ensures some { OnErr result (TellsPart (W.contents errors.old) (W.contents errors.new) name.now
-        (call_of failure.now) (error_of failure.now)) }
-{
-    match failure {
-        Failure::Read(error) => tell_read(errors, name, error),
-        Failure::Write(error) => tell_write(errors, name, error),
-        Failure::Close(error) => tell_failure(errors, name, b"close", error),
-    }
+    answer_pieces::<P, R, W>(&mut input, &mut out, reader, writer)
 }
 
 // Whether the reader of the output went away.
 fn is_reader_gone(failure: &Failure) -> bool
     ensures { IsTrue result ↔ IsReaderGone failure.now }
 {
-    match failure {
-        Failure::Write(error) => error.kind() == ErrorKind::BrokenPipe,
-        Failure::Read(_) => false,
-        Failure::Close(_) => false,
-    }
+    matches!(failure.call, Call::Write) && failure.error.kind() == ErrorKind::BrokenPipe
 }
 
 // Ends a run that failed. The failure is told, and the status is 0; where the line can't be written, nothing is left to
@@ -171,12 +117,15 @@ fn is_reader_gone(failure: &Failure) -> bool
 fn end<W: Write>(errors: &mut W, name: &[u8], failure: &Failure) -> ExitCode
     requires { length name.now ≤ 1000 }
     ensures gone { IsReaderGone failure.now → exit_status result ≡ 141 }
-    ensures told { ¬ IsReaderGone failure.now → exit_status result ≡ 0 }
+    ensures told { ¬ IsReaderGone failure.now → (exit_status result ≡ 0)
+        × (Tells (W.contents errors.old) (W.contents errors.new) name.now (word_of failure.now.call) failure.now.error
+        ⊎ TellsPart (W.contents errors.old) (W.contents errors.new) name.now (word_of failure.now.call)
+        failure.now.error) }
 {
     if is_reader_gone(failure) {
         return ExitCode::from(141);
     }
-    let _ = tell(errors, name, failure);
+    let _ = tell_failure(errors, name, failure.call.word(), &failure.error);
     ExitCode::SUCCESS
 }
 
@@ -191,21 +140,13 @@ fn answer_argument<W: Write, E: Write>(
     requires { (length name.now ≤ 1000) × (length about.now ≤ 1000) }
 {
     if is_argument(env, b"--help") {
-        return printed(print_line(writer, b"usage: ", name, about));
+        return print_line(writer, b"usage: ", name, about);
     }
     if is_argument(env, b"--version") {
-        return printed(print_line(writer, b"", name, b" (Velvetshelf) 1.3.0, format 4\n"));
+        return print_line(writer, b"", name, b" (Velvetshelf) 1.3.0, format 4\n");
     }
     tell_usage(errors, name);
     Ok(())
-}
-
-// A line that could not be printed.
-fn printed(line: io::Result<()>) -> Result<(), Failure> {
-    match line {
-        Ok(()) => Ok(()),
-        Err(error) => Err(Failure::Write(error)),
-    }
 }
 
 // How the program is used.
@@ -216,12 +157,11 @@ fn tell_usage<W: Write>(errors: &mut W, name: &[u8])
 }
 
 // Runs the program; `about` is what `--help` prints after its name. The versions are those of include/velvetshelf.h.
-pub fn run<R: Read, W: Write, E: Write>(
+pub fn run<P: Program, R: Read, W: Write, E: Write>(
     env: &impl Env,
     reader: &mut R,
     writer: &mut W,
     errors: &mut E,
-    program: Program,
     name: &[u8],
     about: &[u8],
 ) -> ExitCode
@@ -234,7 +174,7 @@ pub fn run<R: Read, W: Write, E: Write>(
     } else if has_argument(env, 1) {
         answer_argument(env, writer, errors, name, about)
     } else {
-        answer_all(program, reader, writer)
+        answer_all::<P, R, W>(reader, writer)
     };
     match ended {
         Ok(()) => ExitCode::SUCCESS,

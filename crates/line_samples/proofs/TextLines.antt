@@ -1,6 +1,6 @@
 -- Lines of `totext` and their answers, computed.
 use mathlib.Core.Path.{◌≡◌, refl}
-use mathlib.Core.Option.{none, some}
+use Rattle.std.specs.Prelude.{None, Some}
 use mathlib.Core.List.{[], ◌∷◌, ◌++◌}
 use lib.ListN.{replicate}
 use Rattle.octets.specs.Lists.{ascii, lookup, key?, row_text, each}
@@ -29,11 +29,11 @@ unfolding hex_value unhexed refusal_line answer_text within_line text_line looku
 message_line_lem = refl
 
 -- digits in either letter case; an odd number of them; a non-digit; the empty line
-pub odd_number : unhexed (ascii "0aA0fF9") ≡ none
+pub odd_number : unhexed (ascii "0aA0fF9") ≡ None
 unfolding hex_value unhexed
 odd_number = refl
 
-pub either_case : unhexed (ascii "0aA0fFF9") ≡ some (10 ∷ 160 ∷ 255 ∷ 249 ∷ [])
+pub either_case : unhexed (ascii "0aA0fFF9") ≡ Some (10 ∷ 160 ∷ 255 ∷ 249 ∷ [])
 unfolding hex_value unhexed
 either_case = refl
 

@@ -6,15 +6,11 @@ use native.Mathlib.Omega.{arith}
 use lib.ListN.{length, take, drop, length-append, length-drop, take-append-drop}
 use lib.Seq.{take_all, take_at, take-append-add, length-take-le, drop-append-le, drop-drop}
 use Rattle.octets.specs.Overlay.{Wrote, overlay_fits, overlay_first}
-use Rattle.line_answers.specs.Answers.{printed}
-use Rattle.lines.specs.Programs.{answer_to, most_kept}
-use Rattle.lines.specs.declared.Program.{Program}
-use Rattle.std.specs.Prelude.{refl, Bool, true, false, leb}
+use Rattle.line_answers.specs.Answers.{printed, refusal_line, within_line}
+use Rattle.line_answers.specs.Answers.{text_answer, text_line, wire_answer, wire_line}
+use Rattle.lines.specs.Programs.{most_kept}
+use Rattle.std.specs.Prelude.{refl, Bool, true, false, leb, min}
 use Rattle.std.proofs.Common.{lt-ltb, leb-true, leb-false}
-use Rattle.strict.specs.Reading.{reading}
-use Rattle.hex_lines.specs.Hex.{unhexed}
-use Rattle.line_answers.specs.Answers.{refusal_line, as_hex, answer_text, within_line, message_line, text_line, wire_line}
-use Rattle.lines.specs.declared.Program.TheVariants.{ToText, ToWire}
 
 -- ---- the octets after those that are kept don't matter
 limited_kept : (most cap : ℕ) (answer : List ℕ → List ℕ) (s : List ℕ) → most < cap
@@ -32,54 +28,52 @@ limited_kept most cap answer s k = go (leb (length s) cap) refl
         let n : length (take cap s) ≡ cap = length-take-le cap s (omega arith) in
         over (take cap s) (omega arith) ∙ sym (over s (omega arith))
 
-pub answer_kept : (program : Program) (s : List ℕ) → answer_to program (take most_kept s) ≡ answer_to program s
-unfolding text_line wire_line
-answer_kept ToText s = limited_kept 8192 most_kept (λ line. message_line (unhexed line)) s (omega arith)
-answer_kept ToWire s = limited_kept 65536 most_kept (λ line. answer_text as_hex 4096 23 (reading line)) s (omega arith)
+pub answer_kept : (most : ℕ) (answer : List ℕ → List ℕ) → most ≤ 65536 → (s : List ℕ)
+    → within_line most answer (take most_kept s) ≡ within_line most answer s
+answer_kept most answer h s = limited_kept most most_kept answer s (omega arith)
+
+-- of each program
+pub text_kept : (s : List ℕ) → text_line (take most_kept s) ≡ text_line s
+unfolding text_line
+text_kept = answer_kept 8192 text_answer (omega arith)
+
+pub wire_kept : (s : List ℕ) → wire_line (take most_kept s) ≡ wire_line s
+unfolding wire_line
+wire_kept = answer_kept 65536 wire_answer (omega arith)
 
 -- ---- octets that join a line
-module _ (line : List ℕ) (used most : ℕ) (h : used ≤ length line) (n : length line ≡ most) where
-  joined : (xs : List ℕ) {line' : List ℕ} {r : ℕ} → used + length xs ≤ length line → Wrote line used xs line' r
-      → take r line' ≡ take used line ++ xs
-  joined xs {line'} {r} k w =
-      let l : length (take used line ++ xs) ≡ r =
-      omega (arith, length-append (take used line) xs, length-take-le used line h, w.place) in
-      rw (w.text, overlay_fits line used xs k) (take_at (take used line ++ xs) _ r l)
+take_min : (k n : ℕ) (xs : List ℕ) → n ≡ min (length xs) k → take n xs ≡ take k xs
+take_min k n xs e = go (leb (length xs) k) refl
+  where
+    go : (b : Bool) → leb (length xs) k ≡ b → take n xs ≡ take k xs
+    go true q =
+        let h : length xs ≤ k = leb-true _ _ q in
+        take_all n xs (omega arith) ∙ sym (take_all k xs h)
+    go false q =
+        let h : k < length xs = leb-false (length xs) k q in
+        let m : n ≡ k = omega arith in
+        rw m
 
-  -- with room for all of them
-  pub join_all : (xs : List ℕ) {line' : List ℕ} {r : ℕ} → length xs ≤ length line - used → Wrote line used xs line' r
-      → take r line' ≡ take most (take used line ++ xs)
-  join_all xs k w =
-      let l : length (take used line ++ xs) ≤ most =
-      omega (arith, length-append (take used line) xs, length-take-le used line h) in
-      joined xs (omega arith) w ∙ sym (take_all _ (take used line ++ xs) l)
+-- as many as there is room for
+pub joined : (buffer : List ℕ) (used most : ℕ) → used ≤ most → length buffer ≡ most → (xs : List ℕ) {n : ℕ}
+    → n ≡ min (length xs) (most - used) → {buffer' : List ℕ} {r : ℕ} → Wrote buffer used (take n xs) buffer' r
+    → take r buffer' ≡ take most (take used buffer ++ xs)
+joined buffer used most h long xs {n} e {buffer'} {r} w =
+    let few : length (take n xs) ≡ n = length-take-le n xs (omega arith) in
+    let before : length (take used buffer) ≡ used = length-take-le used buffer (omega arith) in
+    let all : length (take used buffer ++ take n xs) ≡ r =
+    omega (arith, length-append (take used buffer) (take n xs), w.place) in
+    let m : length (take used buffer) + (most - used) ≡ most = omega arith in
+    rw (w.text, overlay_fits buffer used (take n xs) (omega arith)) (take_at (take used buffer ++ take n xs) _ r all)
+    ∙ ap (λ l. take used buffer ++ l) (take_min (most - used) n xs e)
+    ∙ sym (take-append-add (take used buffer) xs (most - used)) ∙ ap (λ k. take k (take used buffer ++ xs)) m
 
-  -- without
-  pub join_first : (xs : List ℕ) {line' : List ℕ} {r : ℕ} → length line - used < length xs
-      → Wrote line used (take (length line - used - 0) xs) line' r → take r line' ≡ take most (take used line ++ xs)
-  join_first xs k w =
-      let z : length line - used - 0 ≡ length line - used = omega arith in
-      let m : length (take used line) + (length line - used) ≡ most =
-      omega (arith, length-take-le used line h) in
-      let l : length (take (length line - used) xs) ≡ length line - used = length-take-le _ xs (omega arith) in
-      joined (take (length line - used) xs) (omega arith) (rw z at w)
-      ∙ sym (take-append-add (take used line) xs (length line - used)) ∙ ap (λ k. take k (take used line ++ xs)) m
-
--- ---- the answer to a line
--- of which nothing was kept
-pub answer_whole : (answer : List ℕ → List ℕ) (line : List ℕ) {used : ℕ} (input : List ℕ) → used ≡ 0
-    → {t t' : List ℕ} {r : ℕ} → Wrote t 0 (printed answer input) t' r
-    → Wrote t 0 (printed answer (take used line ++ input)) t' r
-answer_whole answer line input e w = rw e w
-
--- of which the first octets are kept
-pub answer_first : (program : Program) (l line' : List ℕ) (kept : ℕ) → take kept line' ≡ take most_kept l
-    → {t t' : List ℕ} {r : ℕ} → Wrote t 0 (printed (answer_to program) (take (kept - 0) line')) t' r
-    → Wrote t 0 (printed (answer_to program) l) t' r
+-- ---- the answer to a line of which the first octets are kept
+pub answer_first : (most : ℕ) (answer : List ℕ → List ℕ) → most ≤ 65536 → (l : List ℕ) {t t' : List ℕ} {r : ℕ}
+    → Wrote t 0 (printed (within_line most answer) (take most_kept l)) t' r
+    → Wrote t 0 (printed (within_line most answer) l) t' r
 unfolding printed
-answer_first program l line' kept e w =
-    let z : kept - 0 ≡ kept = omega arith in
-    rw (answer_kept program l) at (rw (z, e) at w)
+answer_first most answer h l w = rw (answer_kept most answer h l) at w
 
 -- ---- a text written to a part of a buffer
 pub part_wrote : (b : List ℕ) (to n : ℕ) (xs : List ℕ) {t : List ℕ} {r : ℕ} → to + n ≤ length b → length xs ≤ n

@@ -1,23 +1,25 @@
 -- How much of a piece is taken, line by line, and what holds from line to line.
+use Rattle.std.specs.Prelude.{◌⊎◌, ◌==◌, cond, None, Some}
+use Rattle.std.proofs.Common.{inl, inr, take_all}
+use Rattle.std.specs.List.{position, position_or_len}
+use Rattle.std.specs.Option.{unwrap_or}
+use Rattle.std.proofs.lemmas.List.Recursion.{is_position_or_len}
 use mathlib.Core.Path.{◌≡◌, refl, sym, ap, ◌∙◌}
-use mathlib.Core.Bool.{Bool, true, false, true≢false, ◌||◌}
+use mathlib.Core.Bool.{Bool, true, false}
 use mathlib.Core.List.{List, [], ◌∷◌, ◌++◌, append_assoc, append-nil}
 use Prim.Native.Nat.{ℕ, suc, ◌+◌, ◌-◌, ◌≤◌, ◌<◌}
 use native.Mathlib.Nat.{add-zero, zero-add, suc-add}
-use native.Mathlib.Numerals.{add-one}
 use native.Mathlib.Omega.{arith}
-use borrow.Author.Tests.{eqb-true, eq-eqb, ne_eqb, lt-ltb, le-ltb, le-leb, lt-leb}
-use borrow.Author.Tests.{ltb-true, ltb-false, leb-true, leb-false}
-use lib.Dec.{eqb, ltb, leb}
-use lib.ListN.{length, get_or, take, drop, length-drop, drop_of_length-le}
-use lib.Seq.{take-add, drop-cons, drop-drop}
+use borrow.Author.Tests.{eqb-true, lt-ltb, le-ltb}
+use borrow.Author.Tests.{ltb-false}
+use lib.Dec.{eqb, ltb}
+use lib.ListN.{length, take, drop, length-drop}
+use lib.Seq.{take-add, drop-drop}
 use Rattle.octets.specs.Overlay.{Wrote, nothing, then, same_long}
-use Rattle.octets.specs.Loops.{Remains}
 use Rattle.line_answers.specs.Answers.{printed}
 use Rattle.lines.specs.Reading.{line_after, printed_at, so_far, printed_over, printed-pieces, so_far_pieces}
-use Rattle.lines.specs.Programs.{answer_to, most_kept, answer_room}
+use Rattle.lines.specs.Programs.{most_kept, answer_room}
 use Rattle.lines.specs.Pieces.{taken_of, Answers, line_length}
-use Rattle.lines.specs.declared.Program.{Program}
 use Rattle.lines.proofs.Keeping.{part_wrote}
 
 -- ---- one octet
@@ -155,56 +157,39 @@ take_line (c ∷ s) m h = go (eqb c 10) refl (take_line s m)
         rw (other_length c s e, suc-add) (ap (λ l. c ∷ l) (p (omega arith)))
 
 -- ---- where a line ends
-module _ (input : List ℕ) (i : ℕ) {whole : ℕ} (p : Remains whole (i + line_length (drop i input))) where
-  pub end_found : i < length input → get_or input i 0 ≡ 10 → i ≡ whole
-  end_found h e =
-      let n : line_length (get_or input i 0 ∷ drop (suc i) input) ≡ 0 = end_length _ _ (eq-eqb _ 10 e) in
-      let z : line_length (drop i input) ≡ 0 = rw (drop-cons input i 0 h) n in
-      omega (arith, p.goes)
+line_length-is : (s : List ℕ) → line_length s ≡ position_or_len (λ c. c == 10) s
+unfolding line_length
+line_length-is =
+    is_position_or_len line_length (λ c. c == 10) refl
+    (λ c s. let e : suc (line_length s) ≡ 1 + line_length s = omega arith in rw e)
 
-  pub end_further : i < length input → (get_or input i 0 ≡ 10 → ⊥)
-      → Remains whole (i + 1 + line_length (drop (i + 1) input))
-  end_further h e =
-      let n = other_length (get_or input i 0) (drop (suc i) input) (ne_eqb _ 10 e) in
-      let z : line_length (drop i input) ≡ suc (line_length (drop (i + 1) input)) =
-      rw (drop-cons input i 0 h, add-one) n in
-      record { goes = omega (arith, p.goes) }
+pub line_length-le : (s : List ℕ) → line_length s ≤ length s
+unfolding line_length
+line_length-le [] = omega arith
+line_length-le (c ∷ s) = go (eqb c 10) (line_length-le s)
+  where
+    go : (b : Bool) → line_length s ≤ length s → cond b 0 (suc (line_length s)) ≤ suc (length s)
+    go true h = omega arith
+    go false h = omega arith
 
-  pub end_none : length input ≤ i → i ≡ whole
-  unfolding line_length
-  end_none h =
-      let z : line_length (drop i input) ≡ 0 = rw (drop_of_length-le input h) in
-      omega (arith, p.goes)
-
--- ---- whether a line waits
-module _ (end long room : ℕ) where
-  pub no_end : long ≤ end → true ≡ (leb long end || ltb room answer_room)
-  no_end h = rw (le-leb long end h)
-
-  pub end_room : end < long → ltb room answer_room ≡ (leb long end || ltb room answer_room)
-  end_room h = rw (lt-leb long end h)
-
-  module _ {waits : Bool} (w : waits ≡ (leb long end || ltb room answer_room)) (f : waits ≡ false) where
-    pub ends_inside : end < long
-    ends_inside = go (leb long end) refl (sym w ∙ f)
+pub line_end-is : (s : List ℕ) {end : ℕ} → end ≡ unwrap_or (position (λ c. c == 10) s) (length s)
+    → end ≡ line_length s
+line_end-is s e = e ∙ go (position_or_len (λ c. c == 10) s) (line_length-is s) (line_length-le s)
+  where
+    go : (n : ℕ) → line_length s ≡ n → line_length s ≤ length s
+        → unwrap_or (cond (ltb n (length s)) (Some n) None) (length s) ≡ line_length s
+    go n q h = by (ltb n (length s)) refl
       where
-        go : (t : Bool) → leb long end ≡ t → (t || ltb room answer_room) ≡ false → end < long
-        go true q p = absurd (true≢false p)
-        go false q p = leb-false long end q
-
-    pub room-left : answer_room ≤ room
-    room-left = go (leb long end) (sym w ∙ f)
-      where
-        go : (t : Bool) → (t || ltb room answer_room) ≡ false → answer_room ≤ room
-        go true p = absurd (true≢false p)
-        go false p = ltb-false room answer_room p
+        by : (b : Bool) → ltb n (length s) ≡ b → unwrap_or (cond b (Some n) None) (length s) ≡ line_length s
+        by true k = sym q
+        by false k = let m : length s ≤ n = ltb-false n (length s) k in omega arith
 
 -- ---- what holds from line to line: all before `at` is taken, and what is printed over it is written
-module _ (program : Program) (start input out₀ : List ℕ) where
+module _ (answer : List ℕ → List ℕ) (start input out₀ : List ℕ) where
   pub record Taking (line out : List ℕ) (at size : ℕ) : Type 0 where
-    pub rest : taken_of (answer_to program) (length out₀) start input
-        ≡ at + taken_of (answer_to program) (length out₀ - size) line (drop at input)
-    pub wrote : Wrote out₀ 0 (printed_over (answer_to program) start (take at input)) out size
+    pub rest : taken_of answer (length out₀) start input
+        ≡ at + taken_of answer (length out₀ - size) line (drop at input)
+    pub wrote : Wrote out₀ 0 (printed_over answer start (take at input)) out size
     pub kept : so_far start (take at input) ≡ line
     pub fits : size ≤ length out₀
 
@@ -233,105 +218,88 @@ module _ (answer : List ℕ → List ℕ) (line s : List ℕ) (h : line_length s
   unfolding so_far line_after
   line_over = rw (one_more, so_far_pieces line (take (line_length s) s) (10 ∷ []))
 
-module _ (program : Program) (start input out₀ : List ℕ) {line out : List ℕ} {at size : ℕ}
-    (p : Taking program start input out₀ line out at size) (end : ℕ)
-    (e : end ≡ at + line_length (drop at input)) (h : end ≤ length input) {waits : Bool}
-    (w : waits ≡ (leb (length input) end || ltb (length out - size) answer_room)) where
+-- what is left of the input
+pub rest-is : (at : ℕ) (input : List ℕ) → take (length input - at) (drop at input) ≡ drop at input
+rest-is at input = take_all (length input - at) (drop at input) (omega (arith, length-drop at input))
+
+module _ (answer : List ℕ → List ℕ) (start input out₀ : List ℕ) {line out : List ℕ} {at size : ℕ}
+    (p : Taking answer start input out₀ line out at size) {n : ℕ} (e : n ≡ line_length (drop at input)) where
   long : length out ≡ length out₀
   long = same_long p.wrote
 
   -- the octets up to the end of the line, and some more
-  to_end : (k : ℕ) → take (end + k) input ≡ take at input ++ take (line_length (drop at input) + k) (drop at input)
-  to_end k =
-      let z : end + k ≡ at + (line_length (drop at input) + k) = omega (arith, e) in
-      rw z (take-add at (line_length (drop at input) + k) input)
+  to_end : (k : ℕ) → take (at + (n + k)) input ≡ take at input ++ take (line_length (drop at input) + k) (drop at input)
+  to_end k = rw e (take-add at (line_length (drop at input) + k) input)
 
   -- what is printed over them, and the line after them
-  over_end : (k : ℕ) → printed_over (answer_to program) start (take (end + k) input)
-      ≡ printed_over (answer_to program) start (take at input)
-      ++ printed_over (answer_to program) line (take (line_length (drop at input) + k) (drop at input))
+  over_end : (k : ℕ) → printed_over answer start (take (at + (n + k)) input) ≡ printed_over answer start (take at input)
+      ++ printed_over answer line (take (line_length (drop at input) + k) (drop at input))
   over_end k =
       rw (
         to_end k,
-        printed-pieces (answer_to program) start (take at input)
-            (take (line_length (drop at input) + k) (drop at input)),
+        printed-pieces answer start (take at input) (take (line_length (drop at input) + k) (drop at input)),
         p.kept,
       )
 
-  after_end : (k : ℕ) → so_far start (take (end + k) input)
+  after_end : (k : ℕ) → so_far start (take (at + (n + k)) input)
       ≡ so_far line (take (line_length (drop at input) + k) (drop at input))
   after_end k =
       rw (
         to_end k,
-        so_far_pieces start (take at input)
-            (take (line_length (drop at input) + k) (drop at input)),
+        so_far_pieces start (take at input) (take (line_length (drop at input) + k) (drop at input)),
         p.kept,
       )
-
-  ahead : end - at ≡ line_length (drop at input)
-  ahead = omega (arith, e)
 
   -- a line that is answered, in the room for the longest answer
   span : size + answer_room - size ≡ answer_room
   span = omega arith
 
-  pub taking_line : waits ≡ false → {t : List ℕ} {r : ℕ} → r ≤ answer_room
-      → Wrote (take (size + answer_room - size) (drop size out)) 0
-      (printed (answer_to program) (line ++ take (end - at) (drop at input))) t r
-      → Taking program start input out₀ []
-      (take size out ++ (t ++ drop (size + answer_room - size) (drop size out))) (end + 1) (size + r)
-  taking_line f {t} {r} k a =
-      let before = ends_inside end (length input) (length out - size) w f in
-      let room = room-left end (length input) (length out - size) w f in
+  pub taking_line : n < length (drop at input) → answer_room ≤ length out - size → {t : List ℕ} {r : ℕ}
+      → r ≤ answer_room
+      → Wrote (take (size + answer_room - size) (drop size out)) 0 (printed answer (line ++ take n (drop at input))) t r
+      → Taking answer start input out₀ []
+      (take size out ++ (t ++ drop (size + answer_room - size) (drop size out))) (at + (n + 1)) (size + r)
+  taking_line before room {t} {r} k a =
       let rest = drop at input in
-      let n = line_length rest in
-      let inside : n < length rest = omega (arith, e, length-drop at input) in
-      let whole = printed (answer_to program) (line ++ take n rest) in
-      let a' : Wrote (take (size + answer_room - size) (drop size out)) 0 whole t r = rw ahead at a in
-      let q = taken_line (answer_to program) (length out₀ - size) line rest (omega (arith, long)) inside in
-      let o : at + suc n ≡ end + 1 = omega (arith, e) in
-      let d : drop (suc n) rest ≡ drop (end + 1) input = drop-drop (suc n) at input ∙ ap (λ m. drop m input) o in
+      let m = line_length rest in
+      let inside : m < length rest = omega (arith, e) in
+      let whole = printed answer (line ++ take m rest) in
+      let a' : Wrote (take (size + answer_room - size) (drop size out)) 0 whole t r = rw e at a in
+      let q = taken_line answer (length out₀ - size) line rest (omega (arith, long)) inside in
+      let o : at + suc m ≡ at + (n + 1) = omega (arith, e) in
+      let d : drop (suc m) rest ≡ drop (at + (n + 1)) input = drop-drop (suc m) at input ∙ ap (λ l. drop l input) o in
       let left : length out₀ - size - length whole ≡ length out₀ - (size + r) = omega (arith, a'.place) in
       let v = part_wrote out size (size + answer_room - size) whole (omega (arith, span))
       (omega (arith, span, a'.place)) a' in
       record {
         rest = p.rest ∙ rw (q, d, left) (omega (arith, e));
-        wrote = rw (over_end 1, line_printed (answer_to program) line rest inside) (then p.wrote v);
-        kept = after_end 1 ∙ line_over (answer_to program) line rest inside;
+        wrote = rw (over_end 1, line_printed answer line rest inside) (then p.wrote v);
+        kept = after_end 1 ∙ line_over answer line rest inside;
         fits = omega (arith, long);
       }
 
   -- a line that waits
-  pub taking_end : waits ≡ true → {line' : List ℕ} → line' ≡ take most_kept (line ++ take (end - at) (drop at input))
-      → Answers program start input out₀ line' out end size
+  pub taking_end : (length (drop at input) ≤ n) ⊎ (length out - size < answer_room) → {line' : List ℕ}
+      → line' ≡ take most_kept (line ++ take n (drop at input))
+      → Answers answer start input out₀ line' out (at + n) size
   taking_end t q =
       let rest = drop at input in
-      let n = line_length rest in
-      let z : end + 0 ≡ end = add-zero end in
-      let y : n + 0 ≡ n = add-zero n in
-      let over : printed_over (answer_to program) start (take end input)
-      ≡ printed_over (answer_to program) start (take at input) =
-      rw (z, y, printed_none (answer_to program) line rest, append-nil) at (over_end 0) in
-      let after : so_far start (take end input) ≡ line ++ take n rest =
+      let m = line_length rest in
+      let z : n + 0 ≡ n = add-zero n in
+      let y : m + 0 ≡ m = add-zero m in
+      let over : printed_over answer start (take (at + n) input) ≡ printed_over answer start (take at input) =
+      rw (z, y, printed_none answer line rest, append-nil) at (over_end 0) in
+      let after : so_far start (take (at + n) input) ≡ line ++ take m rest =
       (rw (z, y) at (after_end 0)) ∙ so_far_none line rest in
-      let none : taken_of (answer_to program) (length out₀ - size) line rest ≡ n = none_more (sym w ∙ t) in
+      let none : taken_of answer (length out₀ - size) line rest ≡ m = none_more t in
       record {
-        took = sym (p.rest ∙ rw none (sym e));
+        took = sym (p.rest ∙ rw none (omega (arith, e)));
         wrote = rw over p.wrote;
-        kept = q ∙ rw (ahead, after);
+        kept = q ∙ rw (after, e);
         fits = p.fits;
       }
     where
-      none_more : (leb (length input) end || ltb (length out - size) answer_room) ≡ true
-          → taken_of (answer_to program) (length out₀ - size) line (drop at input) ≡ line_length (drop at input)
-      none_more f = go (leb (length input) end) refl f
-        where
-          go : (b : Bool) → leb (length input) end ≡ b → (b || ltb (length out - size) answer_room) ≡ true
-              → taken_of (answer_to program) (length out₀ - size) line (drop at input) ≡ line_length (drop at input)
-          go true t f =
-              let k : length input ≤ end = leb-true (length input) end t in
-              taken_rest (answer_to program) (length out₀ - size) line (drop at input)
-              (omega (arith, e, length-drop at input))
-          go false t f =
-              let k : length out - size < answer_room = ltb-true (length out - size) answer_room f in
-              taken_before (answer_to program) (length out₀ - size) line (drop at input) (omega (arith, long))
+      none_more : (length (drop at input) ≤ n) ⊎ (length out - size < answer_room)
+          → taken_of answer (length out₀ - size) line (drop at input) ≡ line_length (drop at input)
+      none_more (inl k) = taken_rest answer (length out₀ - size) line (drop at input) (omega (arith, e))
+      none_more (inr k) = taken_before answer (length out₀ - size) line (drop at input) (omega (arith, long))

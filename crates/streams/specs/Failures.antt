@@ -1,10 +1,25 @@
 -- What is told of a call that failed.
-use Rattle.std.specs.Prelude.{ℕ, ℤ, List, ◌++◌, codes, unsigned_abs, Option, None, Some}
-use Rattle.std.specs.IoError.{raw_os_error}
+use Rattle.std.specs.Prelude.{◌≡◌, ◌≢◌, ℕ, ℤ, List, ◌++◌, codes, unsigned_abs, Option, None, Some}
+use Rattle.std.specs.IoError.{error_kind, raw_os_error}
 use Rattle.std.specs.Io.KnownBytes.{Appends}
-use Rattle.streams.specs.Parts.{AppendsPart}
 use Rattle.std.specs.declared.io.Error.{Error}
+use Rattle.std.specs.declared.io.ErrorKind.TheVariants.{Interrupted}
+use Rattle.streams.specs.Parts.{AppendsPart}
+use Rattle.streams.specs.declared.Call.{Call}
+use Rattle.streams.specs.declared.Call.TheVariants.{Read, Write, Close}
+use Rattle.streams.specs.declared.Failure.{Failure}
 use Rattle.octets.specs.Decimal.{decimal}
+
+-- the word for a call
+abbrev pub word_of : Call → List ℕ
+word_of Read = codes "read"
+word_of Write = codes "write"
+word_of Close = codes "close"
+
+-- this call failed, and not because a signal interrupted it
+pub record FailedAt (call : Call) (failure : Failure) : Type 0 where
+  pub call_is : failure.call ≡ call
+  pub lasts : error_kind failure.error ≢ Interrupted
 
 -- the system's number of an error, or 0 where it has none
 abbrev pub number_of : Option ℤ → ℕ

@@ -65,14 +65,19 @@ impl Read for Slow {
 fn writes_up_to_a_failure(rt: HostRuntime) -> io::Result<()> {
     for (most, want) in [(0, 0), (4, 6), (6, 6), (100, 9)] {
         let mut slow = Slow::new(Vec::new(rt.alloc()), most);
-        let written = write_first(&mut slow, b"123456789abc", 9);
+        let written = write_octets(&mut slow, &b"123456789abc"[..9]);
         assert_eq!(rt; slow.octets.as_slice(), &b"123456789"[..want]);
         match written {
             Ok(()) => assert_eq!(rt; want, 9),
-            Err(error) => assert_eq!(rt; error.raw_os_error(), Some(28)),
+            Err(failure) => assert_eq!(rt; failure.error.raw_os_error(), Some(28)),
         }
     }
     Ok(())
+}
+
+// The error of the call that failed.
+fn io_result<T>(called: Result<T, Failure>) -> io::Result<T> {
+    called.map_err(|failure| failure.error)
 }
 
 #[test]
@@ -80,26 +85,30 @@ fn reads_up_to_a_failure(rt: HostRuntime) -> io::Result<()> {
     let mut slow = Slow::new(Vec::new(rt.alloc()), 5);
     let mut input = [0; 9];
     for want in [3, 3] {
-        assert_eq!(rt; read_piece(&mut slow, &mut input)?, want);
+        assert_eq!(rt; io_result(read_piece(&mut slow, &mut input))?, want);
     }
     match read_piece(&mut slow, &mut input) {
         Ok(_) => assert!(rt; false),
-        Err(error) => assert_eq!(rt; error.raw_os_error(), Some(28)),
+        Err(failure) => assert_eq!(rt; failure.error.raw_os_error(), Some(28)),
     }
     let mut octets: &[u8] = b"12";
-    assert_eq!(rt; read_piece(&mut octets, &mut input)?, 2);
-    assert_eq!(rt; read_piece(&mut octets, &mut input)?, 0);
+    assert_eq!(rt; io_result(read_piece(&mut octets, &mut input))?, 2);
+    assert_eq!(rt; io_result(read_piece(&mut octets, &mut input))?, 0);
     Ok(())
 }
 
 #[test]
 fn tells_and_prints(rt: HostRuntime) -> io::Result<()> {
     let mut told = Vec::new(rt.alloc());
-    tell_write(&mut told, b"p", &Error::from_raw_os_error(28))?;
-    tell_read(&mut told, b"p", &Error::from_raw_os_error(21))?;
-    tell_failure(&mut told, b"p", b"close", &Error::from(ErrorKind::TimedOut))?;
-    print_line(&mut told, b"usage: ", b"p", b" < FILE\n")?;
-    close_output(&mut told)?;
+    for (call, error) in [
+        (Call::Write, Error::from_raw_os_error(28)),
+        (Call::Read, Error::from_raw_os_error(21)),
+        (Call::Close, Error::from(ErrorKind::TimedOut)),
+    ] {
+        io_result(tell_failure(&mut told, b"p", call.word(), &error))?;
+    }
+    io_result(print_line(&mut told, b"usage: ", b"p", b" < FILE\n"))?;
+    io_result(close_output(&mut told))?;
     let want = "p: write failed (errno 28): No space left on device\n\
         p: read failed (errno 21): Is a directory\n\
         p: close failed (errno 0): timed out\n\

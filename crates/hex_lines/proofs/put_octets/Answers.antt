@@ -1,27 +1,36 @@
-use borrow.Author.Rules.{rules}
-use native.Mathlib.Omega.{arith}
-use Rattle.hex_lines.proofs.Steps.{rest-start, first_below, second_below, rest_more, rest_end}
+-- With room an octet is one store, without it nothing is written.
+use Rattle.std.proofs.Common.{refl, rules}
+use Rattle.octets.specs.Overlay.{overlay, wrote_past}
+use Rattle.hex_lines.proofs.Steps.{spelling_start, first_none, second_none, spelling_more, spelled_all, odd_one}
 use Rattle.hex_lines.proofs.put_octets.Goals as goal
+use Rattle.hex_lines.proofs.put_octets.Goals.{then-to-out, else-to-out}
 
-pub loop-i-init : goal.loop-i-init
-loop-i-init c = (search rules, search rules, search rules, rest-start _ _ c.requires.0)
+pub loop-rest-init : goal.loop-rest-init
+loop-rest-init c = (search rules, spelling_start _ _)
 
-pub overflow_mul-out : goal.overflow_mul-out
-overflow_mul-out c =
-    omega (arith, first_below c.loop-i.invariant.3 c.loop-i-test.true c.hex_value.ensures)
+pub returns-in_err-hex_value : goal.returns-in_err-hex_value
+returns-in_err-hex_value c =
+    rw c.from_residual.ensures
+    (first_none c.loop-rest.invariant.1 c.in-len2-up.len_at_least c.in_err-hex_value.ensures.value)
 
-pub overflow_add-out : goal.overflow_add-out
-overflow_add-out c =
-    let rest = c.loop-i.invariant.3 in
-    let two = c.loop-i-test.true in
-    let first = first_below rest two c.hex_value.ensures in
-    omega (arith, first, second_below rest two c.hex_value-in-loop-i.ensures)
+pub returns-in_err-octet : goal.returns-in_err-octet
+returns-in_err-octet c =
+    rw c.from_residual-in_err-octet.ensures
+    (second_none c.loop-rest.invariant.1 c.in-len2-up.len_at_least c.in_ok-hex_value.ensures.value
+    c.in_err-octet.ensures.value)
 
-pub loop-i-preserved : goal.loop-i-preserved
-loop-i-preserved c = (search rules, search rules, search rules, search (rest_more, rules))
+pub loop-rest-preserved : goal.loop-rest-preserved
+unfolding overlay
+loop-rest-preserved c =
+    let more = spelling_more c.loop-rest.invariant.1 c.in-len2-up.len_at_least c.in_ok-hex_value.ensures.value
+    c.in_ok-octet.ensures.value in
+    elim c.if-to-out.branch [
+      | then-to-out w ↦ (search rules, more record { place = refl; text = w.out-is })
+      | else-to-out w ↦ (search rules, more (rw w.out-is (wrote_past _ _ _ w.if-to-out.false refl)))
+    ]
 
-pub returns : goal.returns
-returns c = record {
-  wrote = search (rest_end, rules);
-  upper_bound = search rules;
-}
+pub returns-then-is_empty : goal.returns-then-is_empty
+returns-then-is_empty c = spelled_all c.loop-rest.invariant.1 (search rules)
+
+pub returns-else-is_empty : goal.returns-else-is_empty
+returns-else-is_empty c = odd_one c.loop-rest.invariant.1 c.in_default.len_below (search rules)

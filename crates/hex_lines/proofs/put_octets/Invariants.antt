@@ -1,13 +1,11 @@
--- `hex_lines::put_octets` meets its contract: one octet a turn, from two digits.
-use mathlib.Core.Path.{◌≡◌}
-use Prim.Native.Nat.{◌*◌, ◌-◌, ◌≤◌}
-use lib.ListN.{length}
-use Rattle.hex_lines.proofs.Steps.{HexLoop}
+-- One octet a turn, from two digits.
+use Rattle.std.proofs.Common.{◌+◌, ◌≤◌, length}
+use Rattle.hex_lines.proofs.Steps.{Spelling}
 use Rattle.hex_lines.proofs.put_octets.Given as goal
 
-abbrev pub invariant-loop-i : goal.invariant-loop-i
-invariant-loop-i l =
-    (l.i ≤ length l.line) × (2 * l.to ≡ l.i) × (length l.out ≡ length l.initial.out) × HexLoop l.line l.initial.out l.out l.to l.i
+abbrev pub invariant-loop-rest : goal.invariant-loop-rest
+invariant-loop-rest l =
+    (l.to + length l.rest ≤ length l.line) × Spelling l.line l.rest l.initial.out l.out l.to
 
-abbrev pub decreases-loop-i : goal.decreases-loop-i
-decreases-loop-i l = length l.line - l.i
+abbrev pub decreases-loop-rest : goal.decreases-loop-rest
+decreases-loop-rest l = length l.rest

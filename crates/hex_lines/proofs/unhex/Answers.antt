@@ -1,21 +1,11 @@
--- `hex_lines::unhex` meets its contract, by what `is_hex` answers.
-use borrow.Author.Rules.{rules}
-use mathlib.Core.Path.{sym, ◌∙◌}
-use Rattle.hex_lines.proofs.Steps.{unhexed_bad, unhexed_good}
+-- The first run finds that the line has octets, and the second writes them.
+use Rattle.std.proofs.Common.{rules}
+use Rattle.hex_lines.proofs.Steps.{unhexed_by, within_by}
 use Rattle.hex_lines.proofs.unhex.Goals as goal
 
-pub put_octets-requires : goal.put_octets-requires
-put_octets-requires c = (sym c.is_hex.ensures ∙ c.if-is_hex.true, search rules)
+pub returns-clause-unhexed : goal.returns-clause-unhexed
+returns-clause-unhexed c =
+    unhexed_by _ _ _ _ (search rules) c.requires _ c.put_octets-2.ensures c.in_ok-put_octets.ensures
 
-pub returns-then-is_hex : goal.returns-then-is_hex
-returns-then-is_hex c =
-    let hex = sym c.is_hex.ensures ∙ c.if-is_hex.true in record {
-      unhexed = unhexed_good hex (search rules) c.put_octets.ensures.wrote;
-      octets_within = search rules;
-    }
-
-pub returns : goal.returns
-returns c = record {
-  unhexed = unhexed_bad (sym c.is_hex.ensures ∙ c.if-is_hex.false);
-  octets_within = search rules;
-}
+pub returns-clause-octets_within : goal.returns-clause-octets_within
+returns-clause-octets_within c = within_by _ _ _ _ (search rules) c.requires _ c.put_octets-2.ensures

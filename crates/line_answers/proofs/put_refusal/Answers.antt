@@ -1,13 +1,10 @@
--- `line_answers::put_refusal` meets its contract: four parts.
-use borrow.Author.Rules.{rules}
-use Rattle.octets.specs.Overlay.{then}
+-- Four parts.
+use Rattle.octets.specs.Writes.{writes_then}
 use Rattle.line_answers.specs.Answers.{refusal_line}
 use Rattle.line_answers.proofs.put_refusal.Goals as goal
 
-pub returns : goal.returns
+pub returns-clause-wrote : goal.returns-clause-wrote
 unfolding refusal_line
-returns c =
-    let number = then c.put_all-n.ensures c.put_decimal-n.ensures.wrote in record {
-      wrote = then (then number c.put_all-n-2.ensures) c.put_decimal.ensures.wrote;
-      upper_bound = search rules;
-    }
+returns-clause-wrote c =
+    let number = writes_then c.put_all.ensures c.put_decimal.ensures.wrote in
+    writes_then (writes_then number c.put_all-2.ensures) c.put_decimal-2.ensures.wrote

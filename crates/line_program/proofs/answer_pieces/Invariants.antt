@@ -1,18 +1,15 @@
--- Some octets of the input are read, what is printed over them is written, and of their line what may be needed is kept.
+-- Some octets are read, what is printed over them is written, and what may be needed of their line is kept.
 use Rattle.std.proofs.Common.{◌≡◌, ◌≤◌, ◌<◌, List, ℕ, [], length, take}
 use Rattle.std.specs.Io.KnownBytes.{Appends, Consumes}
-use Rattle.lines.specs.Programs.{answer_to, most_kept, answer_room}
+use Rattle.line_answers.specs.Answers.{within_line}
+use Rattle.lines.specs.Programs.{most_kept, answer_room}
 use Rattle.lines.specs.Reading.{printed_over, so_far}
 use Rattle.line_program.proofs.answer_pieces.Given as goal
 
-abbrev pub invariant-loop-turns : goal.invariant-loop-turns
-invariant-loop-turns g l =
-    (seen : List ℕ) × (l.used ≤ most_kept) × (length l.line ≡ most_kept) × (answer_room ≤ length l.out)
-    × (0 < length l.input)
-    × (take most_kept (take l.used l.line) ≡ take most_kept (so_far [] seen))
+abbrev pub invariant-loop : goal.invariant-loop
+invariant-loop g l =
+    (seen : List ℕ) × (answer_room ≤ length l.out) × (0 < length l.input)
+    × (take most_kept l.line ≡ take most_kept (so_far [] seen))
     × Consumes (g.R.Read.remaining l.initial.reader) (g.R.Read.remaining l.reader) seen
     × Appends (g.W.Write.contents l.initial.writer) (g.W.Write.contents l.writer)
-    (printed_over (answer_to l.program) [] seen)
-
-abbrev pub decreases-loop-turns : goal.decreases-loop-turns
-decreases-loop-turns g l = l.turns
+    (printed_over (within_line g.P.Program.MOST g.P.Program.answer) [] seen)

@@ -1,9 +1,0 @@
--- The place stays within the text, and falls.
-use Rattle.std.proofs.Common.{◌≤◌, length}
-use Rattle.streams.proofs.reason_end.Given as goal
-
-abbrev pub invariant-loop-i : goal.invariant-loop-i
-invariant-loop-i l = l.i ≤ length l.text
-
-abbrev pub decreases-loop-i : goal.decreases-loop-i
-decreases-loop-i l = l.i
