@@ -1,8 +1,8 @@
 -- What is done with a writer, which is a buffer and the place of its next octet.
 use Rattle.std.specs.Prelude.{◌≡◌, refl, List, [], ◌∷◌, ◌++◌, ℕ, ◌+◌, ◌≤◌, ◌<◌, length, take, get_or}
-use Rattle.std.proofs.Common.{◌∙◌, subst}
+use Rattle.std.proofs.Common.{◌∙◌, subst, sym}
 use Rattle.octets.specs.Lists.{each, ended}
-use Rattle.octets.specs.Overlay.{Wrote, then, nothing, each_start, each_step, each_end, each-ended}
+use Rattle.octets.specs.Overlay.{Wrote, overlay-past, then, nothing, each_start, each_step, each_end, each-ended}
 use Rattle.octets.specs.declared.writer.Writer.{Writer}
 
 -- l is written where the writer w was: it is then w', over the same buffer
@@ -21,6 +21,11 @@ writes_then p q = record { same = q.same ∙ p.same; wrote = then p.wrote q.wrot
 -- the same octets, said in another way
 pub writes_as : {w w' : Writer} {l m : List ℕ} → l ≡ m → Writes w l w' → Writes w m w'
 writes_as {w} {w'} e p = subst (λ x. Writes w x w') e p
+
+-- where there is no room, octets are counted and the buffer stays
+pub writes_past : {w w' : Writer} (l : List ℕ) → length w.out.now ≤ w.to → w'.out.ghost_name ≡ w.out.ghost_name
+    → w'.out.now ≡ w.out.now → w'.to ≡ w.to + length l → Writes w l w'
+writes_past {w} l h s e p = record { same = s; wrote = record { place = p; text = e ∙ sym (overlay-past w.out.now w.to l h) } }
 
 -- the texts of one element after another
 module _ (f : ℕ → List ℕ) (w : Writer) (s : List ℕ) where

@@ -1,5 +1,5 @@
 // A buffer that is written from a place on.
-ghost use Rattle.std.specs.Prelude.{◌≡◌, [], ◌∷◌, ◌+◌, ◌*◌, ◌^◌, ◌<◌, ◌≤◌, length};
+ghost use Rattle.std.specs.Prelude.{◌≡◌, List, ℕ, [], ◌∷◌, ◌+◌, ◌*◌, ◌^◌, ◌<◌, ◌≤◌, length};
 ghost use Rattle.octets.specs.Fields.{be16, be32};
 ghost use Rattle.octets.specs.Decimal.{decimal};
 ghost use Rattle.octets.specs.Hexadecimal.{hex_octet};
@@ -37,6 +37,14 @@ impl<'a> Writer<'a> {
         ensures { result ≡ length self.now.out.now }
     {
         self.out.len()
+    }
+
+    // Counts n octets for which there is no room.
+    pub fn skip(&mut self, n: usize)
+        requires { (length self.old.out.now ≤ self.old.to) × (self.old.to + n < 2 ^ 40) }
+        ensures { (xs : List ℕ) → length xs ≡ n → Writes self.old xs self.new }
+    {
+        self.to += n;
     }
 
     // Writes an octet.

@@ -23,13 +23,30 @@ fn put_digits(x: u8, w: &mut Writer)
     ]);
 }
 
-// Writes an octet of a label: a dot is `\\.`, a backslash `\\\\`, the quote and every octet outside 0x21 to 0x7E
-// `\\DDD`, any other octet itself.
+// The width of the spelling of an octet of a label: a dot is `\\.`, a backslash `\\\\`, the quote and every octet outside
+// 0x21 to 0x7E `\\DDD`, any other octet itself.
+fn width(x: u8) -> usize
+    ensures value { result ≡ length (spelled x) }
+    ensures lower_bound { (1 ≤ result) × (result ≤ 5) }
+{
+    match x {
+        b'.' => 3,
+        b'\\' => 4,
+        b'"' | 0..=0x20 | 0x7F..=0xFF => 5,
+        _ => 1,
+    }
+}
+
+// Writes an octet of a label. Without room only its width is found.
 fn put_spelled(x: u8, w: &mut Writer)
     requires { w.old.to < 2 ^ 39 }
     ensures wrote { Writes w.old (spelled x) w.new }
     ensures upper_bound { w.new.to ≤ w.old.to + 5 }
 {
+    if w.room() <= w.place() {
+        w.skip(width(x));
+        return;
+    }
     match x {
         b'.' => w.put_all(b"\\\\."),
         b'\\' => w.put_all(b"\\\\\\\\"),

@@ -1,6 +1,7 @@
 -- `spelling::put_spelled` meets its contract: one way for each kind of spelling.
 use borrow.Author.Rules.{rules}
 use native.Mathlib.Omega.{arith}
+use Rattle.std.proofs.Common.{sym}
 use Rattle.octets.specs.Writes.{writes_as}
 use Rattle.spelling.specs.Spelling.{plain?, spelled}
 use Rattle.spelling.proofs.Writing.{spelled_plain, spelled_quote, spelled_low, spelled_high}
@@ -20,3 +21,6 @@ returns-in_default-clause-wrote c = writes_as (search (spelled_plain, rules)) c.
 pub returns-in-34-clause-wrote : goal.returns-in-34-clause-wrote
 returns-in-34-clause-wrote c =
     writes_as (grind (arith, spelled_quote, spelled_low, spelled_high)) c.put_digits.ensures
+
+pub returns-then-room-place-clause-wrote : goal.returns-then-room-place-clause-wrote
+returns-then-room-place-clause-wrote c = c.skip.ensures (spelled c.args.x) (sym c.width.ensures.value)
