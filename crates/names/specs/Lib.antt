@@ -4,4 +4,5 @@ pub mod Walk
 pub mod NameLaws
 pub mod Steps
 pub mod Answer
+pub mod Stored
 pub mod Ways

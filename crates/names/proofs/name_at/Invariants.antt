@@ -7,6 +7,7 @@ use lib.ListN.{length}
 use Rattle.octets.specs.Loops.{Remains}
 use Rattle.names.specs.Walk.{end_of, name_at}
 use Rattle.names.specs.Answer.{limit_of, name_read}
+use Rattle.names.specs.Stored.{Zeros}
 use Rattle.names.specs.Ways.{read_from}
 use Rattle.names.proofs.name_at.Given as goal
 
@@ -14,6 +15,7 @@ abbrev pub invariant-loop-place : goal.invariant-loop-place
 invariant-loop-place l =
     (l.total ≤ 254) × (end_of l.s (limit_of l.bound) ≤ length l.s) × (length l.octets ≡ 255)
     × Remains (name_read (name_at l.s (limit_of l.initial.bound) l.at)) (read_from l.s l.octets l.bound l.low l.next l.total l.place)
+    × Zeros l.octets l.total
 
 abbrev pub decreases-loop-place : goal.decreases-loop-place
 decreases-loop-place l = l.low + (255 - l.total)
