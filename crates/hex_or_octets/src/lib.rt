@@ -92,6 +92,15 @@ impl<'a> Octets for &'a [u8] {
     }
 }
 
+// The number of octets that digits spell, two each; an odd one is left.
+#[tactic(auto, using(crate::specs::Digits::paired_half))]
+pub fn count(digits: &[u8]) -> usize
+    ensures value { result ≡ length (paired digits.now) }
+    ensures upper_bound { result ≤ length digits.now }
+{
+    digits.len() / 2
+}
+
 // Hexadecimal digits, two an octet, in capitals.
 #[derive(Clone, Copy)]
 pub struct HexDigits<'a> {
@@ -111,12 +120,11 @@ impl<'a> HexDigits<'a> {
 impl<'a> Octets for HexDigits<'a> {
     ghost octets = { λ hex. paired hex.digits.now };
 
-    #[tactic(auto, using(crate::specs::Digits::paired_half))]
     fn count(self) -> usize
         ensures value { result ≡ length (paired self.entry.digits.now) }
         ensures upper_bound { result ≤ length self.entry.digits.now }
     {
-        self.digits.len() / 2
+        count(self.digits)
     }
 
     #[tactic(auto, using(crate::specs::Digits::paired_half, crate::specs::Digits::digit_at, crate::specs::Digits::paired_at))]
