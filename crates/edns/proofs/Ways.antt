@@ -16,7 +16,7 @@ use Rattle.options.specs.Options.{EdnsOption}
 use Rattle.edns.specs.Edns.{prepend, divided, options_of, rising?}
 use Rattle.edns.specs.EdnsLaws.{divided_end}
 use Rattle.std.proofs.lemmas.List.{length-take-le}
-use Rattle.edns.specs.Element.{Divides, risen?, options_rise}
+use Rattle.edns.specs.Element.{Divides, Short, risen?, options_rise}
 
 -- ---- RDATA divided
 -- the first option
@@ -89,8 +89,8 @@ options_first l h =
     ∙ ap (prepend (first_option l)) (divided_bound (length l) (suc (length later)) later (omega arith) (omega arith))
 
 -- the first option as the code reads it: there is no room for it; there is
-pub first_none : (l : List ℕ) → length l < 4 + be16_at l 2 → 0 < length l → options_of l ≡ none
-first_none l h k = options_short l k h
+pub first_none : (l : List ℕ) → Short l → Short l × (0 < length l → options_of l ≡ none)
+first_none l h = (h, λ k. options_short l k h)
 
 pub first_some : (l : List ℕ) {code size : ℕ} {left value rest : List ℕ} → 4 ≤ length l → code ≡ be16_at l 0
     → code < 65536 → size ≡ be16_at l 2 → left ≡ drop 4 l → size ≤ length left → value ≡ take size left
@@ -100,6 +100,10 @@ first_some l {size = size} {left = left} {value = value} {rest = rest} h c k e f
     let first : length value ≡ size = ap length p ∙ length-take-le size left i in
     let after : length rest ≡ length left - size = ap length q ∙ length-drop size left in
     record {
+      room = omega arith;
+      read = c;
+      taken = rw (p, e, f) refl;
+      left = rw (q, e, f) (drop-drop (be16_at l 2) 4 l);
       word = k;
       whole = omega arith;
       options = rw (c, p, q, e, f, drop-drop (be16_at l 2) 4 l)

@@ -1,20 +1,29 @@
 -- What the code promises of a TYPE 41 record: whether it is an EDNS element, and the element's text, by the fields that
 -- decide them.
 -- Both are what edns_of says of the record.
-use Rattle.std.specs.Prelude.{◌≡◌, refl, Bool, true, false, ◌&&◌, ◌||◌, cond, List, [], ◌∷◌, ◌++◌, map, ℕ, ◌+◌, ◌/◌, ◌%◌, ◌<◌, eqb, length}
+use Rattle.std.specs.Prelude.{◌≡◌, refl, Bool, true, false, ◌&&◌, ◌||◌, cond, List, [], ◌∷◌, ◌++◌, map, ℕ, ◌+◌, ◌/◌, ◌%◌, ◌<◌, ◌≤◌, eqb, length, take, drop}
 use Rattle.std.proofs.Common.{sym, ◌∙◌, ap}
 use Rattle.std.proofs.Math.Bool.{and-false}
 use Rattle.std.proofs.Math.Option.{Option, none, some}
 use Rattle.octets.specs.Lists.{ascii, each, none?, key?, row_text, present?}
 use Rattle.octets.specs.Decimal.{decimal}
+use Rattle.octets.specs.Fields.{be16_at}
 use Rattle.records.specs.Message.{Record}
 use Rattle.options.specs.Options.{EdnsOption, member_of, member_text}
 use Rattle.edns.specs.Edns.{prepend, options_of, rising?, rcodes, flags, Edns, full_rcode, edns_of, edns_item, edns_text}
 use Rattle.edns.specs.EdnsLaws.{element_of, edns_shows}
 
 -- ---- the options
+-- there is no room in RDATA for its first option
+abbrev pub Short : List ℕ → Type 0
+Short rdata = length rdata < 4 + be16_at rdata 2
+
 -- RDATA is an option, of this code and value, and the RDATA after it
 pub record Divides (rdata : List ℕ) (code : ℕ) (value rest : List ℕ) : Type 0 where
+  pub room : 4 + be16_at rdata 2 ≤ length rdata
+  pub read : code ≡ be16_at rdata 0
+  pub taken : value ≡ take (be16_at rdata 2) (drop 4 rdata)
+  pub left : rest ≡ drop (4 + be16_at rdata 2) rdata
   pub word : code < 65536
   pub whole : length rdata ≡ 4 + length value + length rest
   pub options : options_of rdata ≡ prepend (record { code = code; value = value }) (options_of rest)

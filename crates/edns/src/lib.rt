@@ -6,7 +6,7 @@ ghost use Rattle.std.proofs.Math.Option.{none};
 ghost use Rattle.octets.specs.Lists.{key?};
 ghost use Rattle.edns.specs.Edns.{options_of, rcodes};
 ghost use Rattle.edns.specs.Table.{texts, held, Named};
-ghost use Rattle.edns.specs.Element.{Divides, options_rise, edns_fields, shows_edns};
+ghost use Rattle.edns.specs.Element.{Short, Divides, options_rise, edns_fields, shows_edns};
 
 use hex_or_octets::Octets;
 
@@ -63,7 +63,8 @@ pub struct FirstOption<O> {
 // The first option of RDATA, if there is room for it.
 #[tactic(auto, using(crate::proofs::Ways::first_none))]
 pub fn first_option<O: Octets>(rdata: O) -> Option<FirstOption<O>>
-    ensures { MatchOption result (0 < length (O.octets rdata) → options_of (O.octets rdata) ≡ none)
+    ensures { MatchOption result
+        (Short (O.octets rdata) × (0 < length (O.octets rdata) → options_of (O.octets rdata) ≡ none))
         (λ first. Divides (O.octets rdata) first.code (O.octets first.value) (O.octets first.rest)) }
 {
     if rdata.count() < 4 {
