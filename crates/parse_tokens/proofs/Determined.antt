@@ -1,11 +1,9 @@
 -- The promise of each public function determines its whole result: two results, with the buffers, that meet it for the
 -- same arguments are equal. Of hexadecimal digits that are read the octets are those of one list, not the references.
-use Rattle.std.specs.Prelude.{◌≡◌, refl, Bool, true, false, List, ℕ, ◌≤◌, T, length, drop, Result, Ok, Err, Option, Some, None, IfOk}
+use Rattle.std.specs.Prelude.{◌≡◌, refl, Bool, true, false, List, ℕ, ◌≤◌, T, ◌+◌, ◌-◌, length, take, drop, Result, Ok, Err, Option, Some, None}
 use Rattle.std.proofs.Common.{sym, ◌∙◌, ap, subst, arith, length-drop}
 use Rattle.octets.specs.Parsed.{Parsed, parsed, failed, parsed_value, parsed≢failed}
-use Rattle.octets.specs.Lists.{each, paired}
-use Rattle.octets.specs.Hexadecimal.{hex_octet}
-use Rattle.hex_or_octets.specs.Digits.{Hexes}
+use Rattle.octets.specs.Lists.{paired}
 use Rattle.hex_or_octets.specs.declared.HexDigits.{HexDigits}
 use Rattle.parse_tokens.specs.declared.Cursor.{Cursor}
 use Rattle.parse_tokens.specs.Cursor.{Reached, cursors, Keeps, Advanced, Passed, reads_bad, reads_got}
@@ -13,7 +11,7 @@ use Rattle.parse_tokens.specs.Step.{Held, Emits, Judged}
 use Rattle.parse_tokens.specs.Value.{ValueRead}
 use Rattle.parse_tokens.specs.Number.{NumberRead, TillRead}
 use Rattle.parse_tokens.specs.Signed.{SignedRead}
-use Rattle.parse_tokens.specs.Hex.{HexRead}
+use Rattle.parse_tokens.specs.Hex.{HexRead, DigitsFrom}
 use Rattle.parse_tokens.specs.Fields.{FieldPut}
 
 -- ---- the parts of a result
@@ -127,15 +125,14 @@ module _ {t : List ℕ} {c : Cursor} where
   pub signed_determined : {r s : Result (Cursor × Option ℕ) ℕ} → SignedRead t c r → SignedRead t c s → r ≡ s
   signed_determined = value_determined λ n v w d e. both_are d e
 
-  pub hex_determined : {r s : Result (Cursor × HexDigits) ℕ} → IfOk r (λ x. Hexes x.1.digits.now)
-      → IfOk s (λ x. Hexes x.1.digits.now) → HexRead t c r → HexRead t c s → digits_read r ≡ digits_read s
-  hex_determined x y q w = go x y (alike q w)
+  pub hex_determined : {r s : Result (Cursor × HexDigits) ℕ} → HexRead t c r → DigitsFrom t (c.at + 1) r
+      → HexRead t c s → DigitsFrom t (c.at + 1) s → digits_read r ≡ digits_read s
+  hex_determined q x w y = go x y (alike q w)
     where
-      go : {r s : Result (Cursor × HexDigits) ℕ} → IfOk r (λ x. Hexes x.1.digits.now)
-          → IfOk s (λ x. Hexes x.1.digits.now) → Alike {A = List ℕ} (λ h l. l ≡ paired h.digits.now) r s
-          → digits_read r ≡ digits_read s
+      go : {r s : Result (Cursor × HexDigits) ℕ} → DigitsFrom t (c.at + 1) r → DigitsFrom t (c.at + 1) s
+          → Alike {A = List ℕ} (λ h l. l ≡ paired h.digits.now) r s → digits_read r ≡ digits_read s
       go x y (went e l k m) =
-          let d = x.spelled ∙ ap (each hex_octet) (sym k ∙ m) ∙ sym y.spelled in
+          let d = x.1 ∙ ap (λ (o : Cursor). take (o.at - 1 - (c.at + 1)) (drop (c.at + 1) t)) e ∙ sym y.1 in
           λ i. Ok (e i, d i)
       go x y (stopped e) = ap (λ n. Err n) e
 

@@ -1,7 +1,7 @@
 -- Hexadecimal digits two by two, in quotes: how a reader goes through them.
-use Rattle.std.specs.Prelude.{◌≡◌, Bool, ℕ, ◌+◌, ◌-◌, ◌*◌, ◌/◌, ◌%◌, ◌≤◌, ◌<◌, leb, ltb, length, take, drop, get_or, Result, Ok, Err}
+use Rattle.std.specs.Prelude.{◌≡◌, Bool, ℕ, ◌+◌, ◌-◌, ◌*◌, ◌/◌, ◌%◌, ◌≤◌, ◌<◌, leb, ltb, length, take, drop, get_or, Result, Ok, Err, IsErrAnd}
 use Rattle.std.proofs.Math.Path.{refl}
-use Rattle.std.proofs.Common.{sym, ◌∙◌, ap, subst, arith, leb→le, ltb→lt, length-append, drop_of_length-le, take-add, drop-drop}
+use Rattle.std.proofs.Common.{sym, ◌∙◌, ap, subst, arith, leb→le, ltb→lt, length-append, length-drop, drop_of_length-le, take-add, drop-drop}
 use Rattle.std.proofs.Math.Bool.{true, false}
 use mathlib.Core.List.{List, [], ◌∷◌, ◌++◌, append-nil}
 use borrow.Author.Tests.{lt-ltb, le-ltb}
@@ -22,8 +22,8 @@ use Rattle.parse_tokens.specs.Cursor.{Safe, Keeps, keeps_then, Passed, Advanced,
 use Rattle.parse_tokens.specs.Cursor.{reads_stop, reads_parsed}
 use Rattle.parse_tokens.specs.Step.{found_lit, found_stays}
 use Rattle.parse_tokens.specs.Many.{run_of, Going, going_start, going_more, going_stop, many_once}
-use Rattle.parse_tokens.specs.Leaf.{found_stop, passed_took, passed_stop, stays_at, strip_at_once}
-use Rattle.parse_tokens.specs.Value.{ValueRead, value_stop}
+use Rattle.parse_tokens.specs.Leaf.{found_stop, passed_took, passed_stop, passed_place, stays_at, strip_at_once}
+use Rattle.parse_tokens.specs.Value.{ValueRead, value_stop, at_exit}
 
 -- octets and the quote after them were read; the same with the quote before them
 abbrev pub PairsRead : List ℕ → Cursor → Result (Cursor × HexDigits) ℕ → Type 0
@@ -31,6 +31,19 @@ PairsRead t c r = ValueRead hex_pairs.parse (λ h l. l ≡ paired h.digits.now) 
 
 abbrev pub HexRead : List ℕ → Cursor → Result (Cursor × HexDigits) ℕ → Type 0
 HexRead t c r = ValueRead hex.parse (λ h l. l ≡ paired h.digits.now) t (Ok c) r
+
+-- the whole pairs of digits from a place to another are those of octets
+pub record PairsBefore (t : List ℕ) (from n : ℕ) : Type 0 where
+  pub so_far : List ℕ
+  pub digits : take ((n - from) / 2 * 2) (drop from t) ≡ each hex_octet so_far
+  pub octets : Octets so_far
+  pub long : (n - from) / 2 ≡ length so_far
+
+-- which octets of the text the digits are, from a place to the quote before the reader; where it stopped, the whole
+-- pairs before that
+abbrev pub DigitsFrom : List ℕ → ℕ → Result (Cursor × HexDigits) ℕ → Type 0
+DigitsFrom t from (Ok x) = (from < x.0.at) × (x.1.digits.now ≡ take (x.0.at - 1 - from) (drop from t))
+DigitsFrom t from (Err n) = PairsBefore t from n
 
 -- ---- one digit
 -- x is the digit of n
@@ -194,6 +207,12 @@ module _ {t : List ℕ} {c : Cursor} {at : ℕ} (w : Pairs t c at) where
           moves = k.moves;
         }
 
+  -- the pairs before a place that is at most one octet on
+  pub pairs_before : (n : ℕ) → at ≤ n → n ≤ at + 1 → PairsBefore t c.at n
+  pairs_before n h k =
+      let e : (n - c.at) / 2 * 2 ≡ at - c.at = omega (arith, w.long) in
+      record { so_far = w.l; digits = rw e w.digits; octets = w.octets; long = omega (arith, w.long) }
+
   module _ (p : HexAt t at true) where
     first : HexValue (get_or t at 0)
     first = p.yes refl
@@ -233,6 +252,33 @@ module _ {t : List ℕ} {c : Cursor} {at : ℕ} (w : Pairs t c at) where
           within = omega (arith, room);
           long = rw length-append (omega (arith, w.long));
         }
+
+-- where there is no quote the reader stops at once
+no_quote_there : {t : List ℕ} {c : Cursor} {n : ℕ} → Safe t c → Passed (34 ∷ []) t (Ok c) (Err n) → n ≡ c.at
+no_quote_there {t} {c} {n} f q =
+    let e : drop c.at t ≡ drop n t = stays_at (strip_at_once 34 (drop c.at t)) (passed_stop q) in
+    omega (arith, ap length e, length-drop c.at t, length-drop n t, f.inside, q.keeps.moves.within.1)
+
+pub quote_missing : {t : List ℕ} {c : Cursor} {n from : ℕ} → Safe t c → Passed (34 ∷ []) t (Ok c) (Err n)
+    → c.at ≤ from → PairsBefore t from n
+unfolding each
+quote_missing {t} {c} {n} {from} f q h =
+    let e : (n - from) / 2 * 2 ≡ 0 = omega (arith, no_quote_there f q) in
+    record { so_far = []; digits = rw e refl; octets = tt; long = omega (arith, no_quote_there f q) }
+
+pub quote_after : {t : List ℕ} {c x : Cursor} {at n : ℕ} → Pairs t c at → Advanced c at x → Safe t x
+    → Passed (34 ∷ []) t (Ok x) (Err n) → PairsBefore t c.at n
+quote_after {n = n} w s f q = pairs_before w n (omega (arith, no_quote_there f q, s.at)) (omega (arith, no_quote_there f q, s.at))
+
+-- what a reader's `?` on the quote hands on
+pub digits_stop : {t : List ℕ} {c : Cursor} {n : ℕ} (r : Result (Cursor × HexDigits) ℕ) → Safe t c
+    → Passed (34 ∷ []) t (Ok c) (Err n) → IsErrAnd r (λ k. k ≡ n) → DigitsFrom t (c.at + 1) r
+digits_stop {t} {c} r f q e = at_exit (λ r. DigitsFrom t (c.at + 1) r) e (quote_missing f q (omega arith))
+
+-- the digits begin after the quote
+pub digits_opened : {t : List ℕ} {c o : Cursor} (r : Result (Cursor × HexDigits) ℕ) → Passed (34 ∷ []) t (Ok c) (Ok o)
+    → DigitsFrom t o.at r → DigitsFrom t (c.at + 1) r
+digits_opened {t} r q x = subst (λ n. DigitsFrom t n r) (passed_place q) x
 
 -- the quote before them
 module _ {t : List ℕ} {c : Cursor} where

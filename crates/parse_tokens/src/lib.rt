@@ -2,7 +2,7 @@
 // stop.
 #![tactic(auto)]
 
-ghost use Rattle.std.specs.Prelude.{◌≡◌, ◌*◌, ◌<◌, ◌≤◌};
+ghost use Rattle.std.specs.Prelude.{◌≡◌, ◌+◌, ◌*◌, ◌<◌, ◌≤◌};
 ghost use Rattle.std.specs.Option.{option_map};
 ghost use Rattle.octets.specs.Fields.{be32};
 ghost use Rattle.spelling.specs.Spelling.{plus, minus};
@@ -12,7 +12,7 @@ ghost use Rattle.parse_tokens.specs.Items.{comma_of};
 ghost use Rattle.parse_tokens.specs.Choice.{furthest};
 ghost use Rattle.parse_tokens.specs.Number.{NumberRead, TillRead, PositiveRead, DigitAt};
 ghost use Rattle.parse_tokens.specs.Signed.{ttl_bits, SignedRead};
-ghost use Rattle.parse_tokens.specs.Hex.{HexAt, PairsRead, HexRead};
+ghost use Rattle.parse_tokens.specs.Hex.{HexAt, PairsRead, HexRead, DigitsFrom};
 ghost use Rattle.parse_tokens.specs.Fields.{number_octets, FieldPut};
 
 use hex_or_octets::HexDigits;
@@ -207,7 +207,8 @@ fn hex_at(text: &[u8], at: usize) -> bool
 #[tactic(auto, using(crate::specs::Hex::pairs_steps))]
 fn pairs<'a>(text: &'a [u8], c: Cursor) -> Result<(Cursor, HexDigits<'a>), Stop>
     requires { Safe text.now c }
-    ensures { PairsRead text.now c result }
+    ensures read { PairsRead text.now c result }
+    ensures digits { DigitsFrom text.now c.at result }
 {
     let mut at = c.at;
     while hex_at(text, at) {
@@ -224,7 +225,8 @@ fn pairs<'a>(text: &'a [u8], c: Cursor) -> Result<(Cursor, HexDigits<'a>), Stop>
 #[tactic(auto, using(crate::specs::Hex::hex_opened, crate::specs::Hex::hex_stop))]
 pub fn hex<'a>(text: &'a [u8], c: Cursor) -> Result<(Cursor, HexDigits<'a>), Stop>
     requires { Safe text.now c }
-    ensures { HexRead text.now c result }
+    ensures read { HexRead text.now c result }
+    ensures digits { DigitsFrom text.now (c.at + 1) result }
 {
     let c = literal(text, c, b"\"")?;
     pairs(text, c)

@@ -4,8 +4,8 @@ use Rattle.to_wire.specs.Options.{other_hex_lem, other_hex_stop}
 use Rattle.to_wire.proofs.members.other_hex.Goals as goal
 
 pub returns-in_err-c : goal.returns-in_err-c
-returns-in_err-c c = rw (exit_is c.from_residual.ensures.1) (other_hex_stop c.args.n c.in_err-c.ensures)
+returns-in_err-c c = rw (exit_is c.from_residual.ensures.1) (other_hex_stop c.args.n c.in_err-c.ensures.read)
 
 pub returns : goal.returns
-returns c = other_hex_lem c.args.n c.in_ok-c.ensures c.reserve.ensures c.put_hex-end.ensures c.other_fits.ensures
+returns c = other_hex_lem c.args.n c.in_ok-c.ensures.read c.reserve.ensures c.put_hex-end.ensures c.other_fits.ensures
     c.demand-end.ensures c.put_option_head.ensures
