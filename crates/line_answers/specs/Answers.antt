@@ -1,5 +1,5 @@
 -- The answer of each line program to a line, in the words of docs/FORMAT.md.
-use Rattle.std.specs.Prelude.{cond, List, [], ◌∷◌, ◌++◌, ℕ, leb, ltb, length, Option, None, Some}
+use Rattle.std.specs.Prelude.{◌≡◌, refl, cond, List, [], ◌∷◌, ◌++◌, ℕ, leb, ltb, length, Option, None, Some}
 use Rattle.octets.specs.Lists.{ascii, each}
 use Rattle.octets.specs.Decimal.{decimal}
 use Rattle.octets.specs.Hexadecimal.{hex_octet}
@@ -62,6 +62,23 @@ wire_line = within_line 65536 wire_answer
 -- what it leaves in the message buffer: the message
 unfoldable pub wire_left : List ℕ → List ℕ → List ℕ
 wire_left = limited_left 65536 (λ line message. (to_wire line message).buffer)
+
+-- ---- as the programs have them: a limit, and the answer to a line that is not too long
+pub text_line_lem : text_line ≡ within_line 8192 text_answer
+unfolding text_line
+text_line_lem = refl
+
+pub text_left_lem : text_left ≡ limited_left 8192 (λ line buffer. hex_left (unhexed line) buffer)
+unfolding text_left
+text_left_lem = refl
+
+pub wire_line_lem : wire_line ≡ within_line 65536 wire_answer
+unfolding wire_line
+wire_line_lem = refl
+
+pub wire_left_lem : wire_left ≡ limited_left 65536 (λ line message. (to_wire line message).buffer)
+unfolding wire_left
+wire_left_lem = refl
 
 -- ---- either
 -- what is printed for a line: its answer, and 10 after it

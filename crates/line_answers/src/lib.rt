@@ -7,10 +7,12 @@ ghost use Rattle.octets.specs.Writes.{Writes};
 ghost use Rattle.hex_lines.specs.Hex.{unhexed, hex_left};
 ghost use Rattle.strict.specs.Reading.{to_wire};
 ghost use Rattle.line_answers.specs.Answers.{refusal_line, within_line, limited_left, text_answer, wire_answer, printed};
+ghost use Rattle.line_answers.specs.Answers.{text_line, text_left, wire_line, wire_left};
+ghost use Rattle.line_answers.specs.Answers.{text_line_lem, text_left_lem, wire_line_lem, wire_left_lem};
 
 use octets::{Writer, put, put_hex};
 
-// A line program: its answer to a line that is not too long.
+// A line program: its answer to a line.
 pub trait Program {
     // How long a line may be.
     ghost MOST: { ℕ };
@@ -20,10 +22,19 @@ pub trait Program {
     // How long the answer may be.
     ghost longest: { ℕ };
 
-    // The answer, and what it leaves in the message buffer.
+    // The answer to a line that is not too long, and what it leaves in the message buffer.
     ghost answer: { List ℕ → List ℕ };
 
     ghost left: { List ℕ → List ℕ → List ℕ };
+
+    // The answer to any line, and what it leaves there, in the words of docs/FORMAT.md.
+    ghost line_answer: { List ℕ → List ℕ };
+
+    ghost line_left: { List ℕ → List ℕ → List ℕ };
+
+    ghost same_answer: { line_answer ≡ within_line MOST answer };
+
+    ghost same_left: { line_left ≡ limited_left MOST left };
 
     fn put_answer(line: &[u8], message: &mut [u8; 4096], text: &mut [u8]) -> usize
         requires { (length line.now ≤ MOST) × (length text.old ≡ 65537) }
@@ -35,9 +46,11 @@ pub trait Program {
 }
 
 // Reads messages in hexadecimal, and writes the text of each.
+#[derive(Clone, Copy)]
 pub struct ToText;
 
 // Reads texts, and writes the message of each in hexadecimal.
+#[derive(Clone, Copy)]
 pub struct ToWire;
 
 impl Program for ToText {
@@ -52,6 +65,14 @@ impl Program for ToText {
     ghost answer = { text_answer };
 
     ghost left = { λ line message. hex_left (unhexed line) message };
+
+    ghost line_answer = { text_line };
+
+    ghost line_left = { text_left };
+
+    ghost same_answer = { text_line_lem };
+
+    ghost same_left = { text_left_lem };
 
     ghost limits = { Prim.search rules };
 
@@ -78,6 +99,14 @@ impl Program for ToWire {
     ghost answer = { wire_answer };
 
     ghost left = { λ line message. (to_wire line message).buffer };
+
+    ghost line_answer = { wire_line };
+
+    ghost line_left = { wire_left };
+
+    ghost same_answer = { wire_line_lem };
+
+    ghost same_left = { wire_left_lem };
 
     ghost limits = { Prim.search rules };
 

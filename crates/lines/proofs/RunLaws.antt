@@ -13,6 +13,8 @@ use Rattle.lines.specs.Reading.{so_far_pieces, kept_alike, printed_alike, kept_l
 use Rattle.lines.specs.Programs.{most_kept, answer_room}
 use Rattle.lines.specs.Runs.{PieceCall, Meets, Chained, input_of, output_of, Ended}
 use Rattle.lines.specs.Pieces.{taken_of}
+use Rattle.line_answers.specs.Answers.{text_line, wire_line}
+use Rattle.lines.proofs.Keeping.{text_kept, wire_kept}
 
 -- ---- what a call writes
 module _ (answer : List ℕ → List ℕ) (same : (s : List ℕ) → answer (take most_kept s) ≡ answer s)
@@ -73,3 +75,12 @@ module _ (answer : List ℕ → List ℕ) (same : (s : List ℕ) → answer (tak
       let z : output_of last ≡ printed_last answer (so_far [] (input_of cs)) =
       last_written line last e ∙ sym (q line) ∙ ap (printed_last answer) l ∙ q (so_far [] (input_of cs)) in
       rw (w, z) (sym (output_steps answer (input_of cs)))
+
+-- of each program
+pub right_texts : (cs last : List PieceCall) (line : List ℕ) → Chained text_line [] cs line → Ended text_line line last
+    → output_of cs ++ output_of last ≡ program_output text_line (input_of cs)
+right_texts = right_output text_line text_kept
+
+pub right_messages : (cs last : List PieceCall) (line : List ℕ) → Chained wire_line [] cs line
+    → Ended wire_line line last → output_of cs ++ output_of last ≡ program_output wire_line (input_of cs)
+right_messages = right_output wire_line wire_kept
