@@ -1,6 +1,8 @@
 -- The octets of a line, two digits a turn.
-use Rattle.std.specs.Prelude.{◌≡◌, refl, List, [], ◌∷◌, ◌++◌, ℕ, suc, ◌+◌, ◌-◌, ◌*◌, ◌≤◌, ◌<◌, length, get_or, take, drop}
-use Rattle.std.specs.Prelude.{Option, None, Some, MatchOption, IfSome}
+use Rattle.std.specs.Prelude.{◌≡◌, refl, true, false, ◌&&◌, List, [], ◌∷◌, ◌++◌, ℕ, suc, ◌+◌, ◌-◌, ◌*◌, ◌%◌, ◌≤◌, ◌<◌, length, get_or, take, drop}
+use Rattle.std.specs.Prelude.{Option, None, Some, is_some, IsSome}
+use Rattle.std.specs.List.{list_all}
+use Rattle.std.specs.Char.{is_ascii_hexdigit}
 use Rattle.std.proofs.Math.Seq.{take-append_seam}
 use Rattle.std.proofs.Common.{sym, ap, ◌∙◌, append_assoc, append-nil, arith, length-drop, take_all}
 use Rattle.octets.specs.Overlay.{Wrote, nothing, then, overlay_first}
@@ -37,47 +39,89 @@ one_octet : (octets : List ℕ) (v w : ℕ) (o : Option (List ℕ))
 one_octet octets v w None = refl
 one_octet octets v w (Some l) = ap Some (sym (append_assoc octets ((v * 16 + w) ∷ []) l))
 
--- ---- a turn
-module _ {line rest before after : List ℕ} {n : ℕ} (p : Spelling line rest before after n) where
-  module _ (h : 2 ≤ length rest) where
-    -- a digit that is none, first or second
-    pub first_none : None ≡ hex_value (get_or rest 0 0) → unhexed line ≡ None
-    first_none e = p.whole ∙ rw (two_more rest h, ← e)
+-- ---- whether a line has octets
+-- the test of std is whether an octet has a value
+hexdigit_is : (c : ℕ) → is_ascii_hexdigit c ≡ is_some (hex_value c)
+unfolding hex_value
+hexdigit_is c = grind arith
 
-    pub second_none : {v : ℕ} → Some v ≡ hex_value (get_or rest 0 0) → None ≡ hex_value (get_or rest 1 0)
-        → unhexed line ≡ None
-    second_none d e = p.whole ∙ rw (two_more rest h, ← d, ← e)
+-- the octet of two digits has octets after it or not
+is_some_then : (v w : Option ℕ) (o : Option (List ℕ))
+    → is_some (octet_then v w o) ≡ (is_some v && (is_some w && is_some o))
+is_some_then None w o = refl
+is_some_then (Some v) None o = refl
+is_some_then (Some v) (Some w) None = refl
+is_some_then (Some v) (Some w) (Some o) = refl
+
+-- an even number of octets, each a digit
+pub digits_spell : (l : List ℕ) → length l % 2 ≡ 0
+    → list_all is_ascii_hexdigit l ≡ is_some (unhexed l)
+unfolding unhexed
+digits_spell [] h = refl
+digits_spell (c ∷ []) h = absurd (omega arith)
+digits_spell (c ∷ d ∷ l) h =
+    let e : length l % 2 ≡ 0 = omega arith in
+    rw (is_some_then (hex_value c) (hex_value d) (unhexed l), hexdigit_is c, hexdigit_is d, digits_spell l e)
+
+-- an odd number has none
+pub odd_none : (l : List ℕ) → (length l % 2 ≡ 0 → ⊥) → is_some (unhexed l) ≡ false
+unfolding unhexed
+odd_none [] h = absurd (h refl)
+odd_none (c ∷ []) h = refl
+odd_none (c ∷ d ∷ l) h = go (hex_value c) (hex_value d) (unhexed l) (odd_none l λ e. h (omega arith))
+  where
+    go : (v w : Option ℕ) (o : Option (List ℕ)) → is_some o ≡ false → is_some (octet_then v w o) ≡ false
+    go None w o e = refl
+    go (Some v) None o e = refl
+    go (Some v) (Some w) None e = refl
+    go (Some v) (Some w) (Some o) e = cc
+
+-- ---- a turn
+module _ {line rest before after : List ℕ} {n : ℕ} (some : is_some (unhexed line) ≡ true)
+    (p : Spelling line rest before after n) where
+  -- the rest has octets too
+  rest_some : is_some (unhexed rest) ≡ true
+  rest_some = go (unhexed rest) (rw p.whole at some)
+    where
+      go : (o : Option (List ℕ)) → is_some (octets_then p.octets o) ≡ true → is_some o ≡ true
+      go None e = e
+      go (Some l) e = refl
+
+  module _ (h : 2 ≤ length rest) where
+    -- two digits come first
+    pub two_digits : IsSome (hex_value (get_or rest 0 0)) × IsSome (hex_value (get_or rest 1 0))
+    two_digits = go (hex_value (get_or rest 0 0)) (hex_value (get_or rest 1 0)) (unhexed (drop 2 rest))
+        (rw (two_more rest h) at rest_some)
+      where
+        go : (v w : Option ℕ) (o : Option (List ℕ)) → is_some (octet_then v w o) ≡ true → IsSome v × IsSome w
+        go None w o e = cc
+        go (Some v) None o e = cc
+        go (Some v) (Some w) o e = (refl, refl)
 
     -- one octet
-    pub spelling_more : {v w : ℕ} {after' : List ℕ} {to : ℕ} → Some v ≡ hex_value (get_or rest 0 0)
-        → Some w ≡ hex_value (get_or rest 1 0) → Wrote after n ((v * 16 + w) ∷ []) after' to
+    pub spelling_more : {v w : ℕ} {after' : List ℕ} {to : ℕ} → hex_value (get_or rest 0 0) ≡ Some v
+        → hex_value (get_or rest 1 0) ≡ Some w → Wrote after n ((v * 16 + w) ∷ []) after' to
         → Spelling line (take (length rest - 2) (drop 2 rest)) before after' to
     spelling_more {v} {w} d e q =
         let z : take (length rest - 2) (drop 2 rest) ≡ drop 2 rest =
         take_all _ (drop 2 rest) (omega (arith, length-drop 2 rest)) in
         record {
           octets = p.octets ++ (v * 16 + w) ∷ [];
-          whole = p.whole ∙ rw (z, two_more rest h, ← d, ← e) (one_octet p.octets v w (unhexed (drop 2 rest)));
+          whole = p.whole ∙ rw (z, two_more rest h, d, e) (one_octet p.octets v w (unhexed (drop 2 rest)));
           wrote = then p.wrote q;
         }
 
   -- the end
-  pub spelled_all : length rest ≡ 0 → Spells line before after n
+  pub spelled_all : length rest < 2 → Spells line before after n
   unfolding unhexed
-  spelled_all h = go rest h p.whole
+  spelled_all h = go rest h rest_some p.whole
     where
-      go : (l : List ℕ) → length l ≡ 0 → unhexed line ≡ octets_then p.octets (unhexed l) → Spells line before after n
-      go [] h e = record { octets = p.octets; spelled = e ∙ ap Some (append-nil p.octets); wrote = p.wrote }
-      go (c ∷ l) h e = absurd (omega arith)
-
-  pub odd_one : length rest < 2 → (length rest ≡ 0 → ⊥) → unhexed line ≡ None
-  unfolding unhexed
-  odd_one h k = p.whole ∙ go rest h k
-    where
-      go : (l : List ℕ) → length l < 2 → (length l ≡ 0 → ⊥) → octets_then p.octets (unhexed l) ≡ None
-      go [] h k = absurd (k refl)
-      go (c ∷ []) h k = refl
-      go (c ∷ d ∷ l) h k = absurd (omega arith)
+      go : (l : List ℕ) → length l < 2 → is_some (unhexed l) ≡ true
+          → unhexed line ≡ octets_then p.octets (unhexed l)
+          → Spells line before after n
+      go [] h k e = record { octets = p.octets; spelled = e ∙ ap Some (append-nil p.octets); wrote = p.wrote }
+      go (c ∷ []) h k e = cc
+      go (c ∷ d ∷ l) h k e = absurd (omega arith)
 
 -- ---- the ways to the answer
 -- two digits an octet
@@ -97,33 +141,18 @@ digits_of (c ∷ d ∷ l) {octets} e =
     go (Some v) None o m q e = cc
     go None w o m q e = cc
 
--- the first run wrote nothing
-none_written : (m b : List ℕ) → length m ≡ 0 → m ++ b ≡ b
-none_written [] b h = refl
-none_written (x ∷ m) b h = absurd (omega arith)
-
 -- the octets of a line that has some, and their number
-module _ (line before after m : List ℕ) (none : length m ≡ 0) (h : length line ≤ 2 * length before) (r : Option ℕ)
-    (p : MatchOption r (unhexed line ≡ None) (λ n. Spells line (m ++ before) after n)) where
-  pub unhexed_by : {b b' : List ℕ} {n : ℕ} → Spells line b b' n → Unhexed line before r after
-  unhexed_by found = go r (rw (none_written m before none) at p)
-    where
-      go : (r : Option ℕ) → MatchOption r (unhexed line ≡ None) (λ n. Spells line before after n)
-          → Unhexed line before r after
-      go None q = let e : ◌≡◌ {A = Option (List ℕ)} (Some found.octets) None = sym found.spelled ∙ q in cc
-      go (Some n) q =
-          let e = q.spelled in
-          let room : length q.octets ≤ length before = omega (arith, digits_of line e) in
-          let k : n ≡ length q.octets = omega (arith, q.wrote.place) in
-          record { answers = rw e (ap Some k); leaves = rw e (q.wrote.text ∙ overlay_first before q.octets room) }
+module _ {line before after : List ℕ} {n : ℕ} (h : length line ≤ 2 * length before)
+    (found : Spells line before after n) where
+  pub spelled_within : n ≤ length before
+  spelled_within = omega (arith, found.wrote.place, digits_of line found.spelled)
 
-  pub within_by : IfSome r (λ n. n ≤ length before)
-  within_by = go r p
-    where
-      go : (r : Option ℕ) → MatchOption r (unhexed line ≡ None) (λ n. Spells line (m ++ before) after n)
-          → IfSome r (λ n. n ≤ length before)
-      go None q = tt
-      go (Some n) q = omega (arith, q.wrote.place, digits_of line q.spelled)
+  pub spelled_some : Unhexed line before (Some n) after
+  spelled_some =
+      let e = found.spelled in
+      let room : length found.octets ≤ length before = omega (arith, digits_of line e) in
+      let k : n ≡ length found.octets = omega (arith, found.wrote.place) in
+      record { answers = rw e (ap Some k); leaves = rw e (found.wrote.text ∙ overlay_first before found.octets room) }
 
 -- ---- what follows of the answer
 module _ {line before after : List ℕ} where

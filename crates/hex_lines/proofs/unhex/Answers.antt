@@ -1,11 +1,9 @@
--- The first run finds that the line has octets, and the second writes them.
-use Rattle.std.proofs.Common.{rules}
-use Rattle.hex_lines.proofs.Steps.{unhexed_by, within_by}
+-- A line of digits has its octets written.
+use Rattle.hex_lines.proofs.Steps.{spelled_some, spelled_within}
 use Rattle.hex_lines.proofs.unhex.Goals as goal
 
-pub returns-clause-unhexed : goal.returns-clause-unhexed
-returns-clause-unhexed c =
-    unhexed_by _ _ _ _ (search rules) c.requires _ c.put_octets-2.ensures c.in_ok-put_octets.ensures
+pub returns-then-is_hex-clause-unhexed : goal.returns-then-is_hex-clause-unhexed
+returns-then-is_hex-clause-unhexed c = spelled_some c.requires c.put_octets.ensures
 
-pub returns-clause-octets_within : goal.returns-clause-octets_within
-returns-clause-octets_within c = within_by _ _ _ _ (search rules) c.requires _ c.put_octets-2.ensures
+pub returns-then-is_hex-clause-octets_within : goal.returns-then-is_hex-clause-octets_within
+returns-then-is_hex-clause-octets_within c = spelled_within c.requires c.put_octets.ensures
